@@ -1,0 +1,30 @@
+-- The laws of the definitions, which functions with an empty body ensure.
+use Rattle.std.specs.Prelude.{◌≡◌, ◌<◌, ◌^◌, ℕ, true, false, List, [], ◌∷◌, ◌++◌, map, ◌↔◌}
+use Rattle.std.specs.List.{Contains, AllPairs}
+use Rattle.std.specs.List.Sorted.{IsStrictlyIncreasing}
+use Rattle.std.specs.declared.cmp.Ordering.TheVariants.{Less}
+use Rattle.col_set.specs.declared.target.Target.{Target}
+use Rattle.col_set.specs.declared.target.Target.TheVariants.{Col, RowId}
+use Rattle.col_set.specs.ColSet.{IsSubset, report_cmp, upto, all_sets}
+use Rattle.col_set.specs.Target.{has_target}
+use Rattle.col_set.specs.Evidence.{IsLeast, least, replaced, minimal_of}
+
+-- The list of all column sets of n columns has each of them once, in report order.
+pub record ListsAllSets (n : ℕ) : Type 0 where
+  pub every : (x : ℕ) → x < 2 ^ n → Contains (all_sets n) x
+  pub only : (x : ℕ) → Contains (all_sets n) x → x < 2 ^ n
+  pub sorted : AllPairs (λ x y. report_cmp x y ≡ Less) (all_sets n)
+
+-- The subsets are an order.
+pub record SubsetsOrdered : Type 0 where
+  pub itself : (x : ℕ) → IsSubset x x
+  pub trans : (x y z : ℕ) → IsSubset x y → IsSubset y z → IsSubset x z
+  pub antisymm : (x y : ℕ) → IsSubset x y → IsSubset y x → x ≡ y
+
+-- The least sets are those that are not refuted, in which each proper subset is.
+abbrev pub LeastMeans : Type 0
+LeastMeans = (n : ℕ) (ws : List ℕ) (t : Target) (x : ℕ) → Contains (least n ws t) x ↔ IsLeast n ws t x
+
+-- With a further agree set z that lacks t, each candidate inside z gives way to its extensions, and non-minimal sets are dropped.
+abbrev pub LeastAfterOneMore : Type 0
+LeastAfterOneMore = (n : ℕ) (ws : List ℕ) (t : Target) (z : ℕ) → has_target z t ≡ false → least n (ws ++ z ∷ []) t ≡ minimal_of n (replaced n t z (least n ws t))

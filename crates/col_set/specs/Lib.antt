@@ -1,0 +1,10 @@
+pub mod ColSet
+pub mod Target
+pub mod Minimal
+pub mod Evidence
+pub mod Laws
+pub mod Members
+pub mod Columns
+pub mod Lists
+pub mod Subsets
+pub mod AllSets
