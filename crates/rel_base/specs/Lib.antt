@@ -1,0 +1,4 @@
+pub mod Cells
+pub mod Relation
+pub mod Covers
+pub mod Why

@@ -1,0 +1,23 @@
+//! The shared base: cells, rows, relations, limits, batches, snapshots and jobs, and what they mean.
+//!
+//! Column sets and targets come from the crate `col_set` and are passed on here.
+#![tactic(auto)]
+
+mod cell;
+mod dependency;
+mod limits;
+mod name;
+mod nulls;
+mod relation;
+mod row;
+mod why;
+
+pub use cell::Cell;
+pub use col_set::{ColSet, Target};
+pub use dependency::{Covers, Fd, Table};
+pub use limits::Limits;
+pub use name::Name;
+pub use nulls::Nulls;
+pub use relation::Relation;
+pub use row::Row;
+pub use why::Why;
