@@ -3,21 +3,31 @@
 //! Column sets and targets come from the crate `col_set` and are passed on here.
 #![tactic(auto)]
 
+mod batch;
 mod cell;
 mod dependency;
+mod job;
 mod limits;
 mod name;
 mod nulls;
 mod relation;
 mod row;
+mod row_no;
+mod snapshot;
+mod steps;
 mod why;
 
+pub use batch::{Batch, Op};
 pub use cell::Cell;
 pub use col_set::{ColSet, Target};
 pub use dependency::{Covers, Fd, Table};
+pub use job::Job;
 pub use limits::Limits;
 pub use name::Name;
 pub use nulls::Nulls;
 pub use relation::Relation;
 pub use row::Row;
+pub use row_no::RowNo;
+pub use snapshot::{Codes, Snapshot};
+pub use steps::Steps;
 pub use why::Why;
