@@ -1,6 +1,14 @@
 pub mod Cells
 pub mod Relation
+pub mod RowState
+pub mod Agreement
+pub mod Validity
+pub mod Minimality
 pub mod Covers
-pub mod Why
+pub mod Batches
 pub mod CodeTable
+pub mod Shows
+pub mod Inclusion
+pub mod Projection
 pub mod JobParts
+pub mod Why
