@@ -1,1 +1,7 @@
 pub mod Fields
+pub mod Agree
+pub mod Valid
+pub mod States
+pub mod Minima
+pub mod Changes
+pub mod Shown

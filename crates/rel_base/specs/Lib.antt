@@ -12,3 +12,4 @@ pub mod Inclusion
 pub mod Projection
 pub mod JobParts
 pub mod Why
+pub mod Laws
