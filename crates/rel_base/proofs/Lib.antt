@@ -5,3 +5,4 @@ pub mod States
 pub mod Minima
 pub mod Changes
 pub mod Shown
+pub mod Examples

@@ -13,3 +13,4 @@ pub mod Projection
 pub mod JobParts
 pub mod Why
 pub mod Laws
+pub mod Worked

@@ -7,6 +7,7 @@ mod batch;
 mod cell;
 mod dependency;
 mod job;
+pub mod laws;
 mod limits;
 mod name;
 mod nulls;
@@ -15,6 +16,8 @@ mod row;
 mod row_no;
 mod snapshot;
 mod steps;
+#[cfg(test)]
+mod tests;
 mod why;
 
 pub use batch::{Batch, Op};

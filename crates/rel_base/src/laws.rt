@@ -1,0 +1,38 @@
+// Laws of the definitions in specs/. Each function does nothing, and its contract is the law.
+ghost use Rattle.rel_base.specs.RowState.{RowState, IsRowState};
+ghost use Rattle.rel_base.specs.Laws.{TestsMean, MoreColumnsKeep, KeysDetermine, CoversAreLeast, BatchesFollow, InsertsAndDeletes, SnapshotsShow};
+
+/// The tests of a dependency, of one among the rows below a number, of a minimal one and of a minimal key say what the facts say.
+pub fn tests_say_what_the_facts_say()
+    ensures { (r : RowState) → IsRowState r → TestsMean r }
+{}
+
+/// More columns on the left keep a dependency.
+pub fn more_columns_keep_a_dependency()
+    ensures { MoreColumnsKeep }
+{}
+
+/// A key determines every column.
+pub fn a_key_determines_every_column()
+    ensures { KeysDetermine }
+{}
+
+/// The covers are what the agree sets of all pairs of live rows leave.
+pub fn covers_are_least_sets()
+    ensures { CoversAreLeast }
+{}
+
+/// A batch keeps the numbers of rows: none is used twice, and no row that ended is live again.
+pub fn batches_keep_numbers()
+    ensures { BatchesFollow }
+{}
+
+/// Inserts can only make dependencies fail, and deletes can only make them hold.
+pub fn inserts_break_and_deletes_mend()
+    ensures { InsertsAndDeletes }
+{}
+
+/// A dependency holds in a snapshot's codes exactly where it holds in the row state that the snapshot shows.
+pub fn snapshots_show_dependencies()
+    ensures { SnapshotsShow }
+{}
