@@ -6,3 +6,4 @@ pub mod Minima
 pub mod Changes
 pub mod Shown
 pub mod Examples
+pub mod Parts

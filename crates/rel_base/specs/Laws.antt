@@ -1,13 +1,13 @@
 -- The laws of the definitions, which functions with an empty body ensure.
-use Rattle.std.specs.Prelude.{◌≡◌, ◌<◌, ◌≤◌, ◌+◌, ◌^◌, ◌↔◌, ℕ, Bool, true, List, [], ◌∷◌, ◌++◌, length, Result, Ok}
-use Rattle.std.specs.List.{All, Contains, flat_map}
+use Rattle.std.specs.Prelude.{◌≡◌, ◌≢◌, ◌<◌, ◌≤◌, ◌+◌, ◌^◌, ◌↔◌, ℕ, Bool, true, List, [], ◌∷◌, ◌++◌, length, Result, Ok}
+use Rattle.std.specs.List.{All, AllPairs, Contains, flat_map}
 use Rattle.col_set.specs.declared.target.Target.{Target}
 use Rattle.col_set.specs.declared.target.Target.TheVariants.{Col, RowId}
 use Rattle.col_set.specs.ColSet.{Columns, IsSubset, upto}
 use Rattle.col_set.specs.Evidence.{least}
 use Rattle.rel_base.specs.declared.batch.Op.{Op}
 use Rattle.rel_base.specs.declared.batch.Op.TheVariants.{Insert, Delete, Update}
-use Rattle.rel_base.specs.Cells.{Row}
+use Rattle.rel_base.specs.Cells.{Cell, Row}
 use Rattle.rel_base.specs.CodeTable.{CodeTable}
 use Rattle.rel_base.specs.RowState.{RowState, IsRowState, width, next, row}
 use Rattle.rel_base.specs.Validity.{agree_sets, holds, Holds, holds_below, HoldsBelow, unique}
@@ -15,6 +15,8 @@ use Rattle.rel_base.specs.Minimality.{min_fd, MinFd, min_key, MinKey}
 use Rattle.rel_base.specs.Covers.{CoverLists, fds_to, covers}
 use Rattle.rel_base.specs.Batches.{applied, after_from}
 use Rattle.rel_base.specs.Shows.{Shows, holds_in}
+use Rattle.rel_base.specs.Inclusion.{included, Included}
+use Rattle.rel_base.specs.Projection.{part, projection}
 
 -- ---- validity
 -- The tests say what the facts say.
@@ -65,6 +67,16 @@ BatchesFollow = (k : ℕ) (r s : RowState) (ops : List Op) → IsRowState r → 
 pub record InsertsAndDeletes : Type 0 where
   pub insert : (r s : RowState) (new : Row) (x : Columns) (t : Target) → IsRowState r → applied r (Insert new) ≡ Ok s → holds s x t ≡ true → holds r x t ≡ true
   pub delete : (r s : RowState) (number : ℕ) (x : Columns) (t : Target) → IsRowState r → applied r (Delete number) ≡ Ok s → holds r x t ≡ true → holds s x t ≡ true
+
+-- ---- inclusions and projections
+-- The test of an inclusion says what the fact says.
+abbrev pub InclusionsMean : Type 0
+InclusionsMean = (columns : List (List Cell)) (c d : ℕ) → c < length columns → d < length columns → (included columns c d ≡ true) ↔ Included columns c d
+
+-- A projection has the part of each live row and nothing else, each once.
+pub record ProjectionMeans (r : RowState) (s : Columns) : Type 0 where
+  pub parts : (p : Row) → Contains (projection r s) p ↔ ((number : ℕ) × Contains r.live number × (part s (row r number) ≡ p))
+  pub once : AllPairs (λ p q. p ≢ q) (projection r s)
 
 -- ---- snapshots
 -- A dependency holds in the codes of a snapshot exactly where it holds in the row state that it shows.

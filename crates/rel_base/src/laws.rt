@@ -1,6 +1,7 @@
 // Laws of the definitions in specs/. Each function does nothing, and its contract is the law.
+ghost use Rattle.col_set.specs.ColSet.{Columns};
 ghost use Rattle.rel_base.specs.RowState.{RowState, IsRowState};
-ghost use Rattle.rel_base.specs.Laws.{TestsMean, MoreColumnsKeep, KeysDetermine, CoversAreLeast, BatchesFollow, InsertsAndDeletes, SnapshotsShow};
+ghost use Rattle.rel_base.specs.Laws.{TestsMean, MoreColumnsKeep, KeysDetermine, CoversAreLeast, BatchesFollow, InsertsAndDeletes, InclusionsMean, ProjectionMeans, SnapshotsShow};
 
 /// The tests of a dependency, of one among the rows below a number, of a minimal one and of a minimal key say what the facts say.
 pub fn tests_say_what_the_facts_say()
@@ -35,4 +36,14 @@ pub fn inserts_break_and_deletes_mend()
 /// A dependency holds in a snapshot's codes exactly where it holds in the row state that the snapshot shows.
 pub fn snapshots_show_dependencies()
     ensures { SnapshotsShow }
+{}
+
+/// The test of an inclusion says what the fact says.
+pub fn inclusions_say_what_the_fact_says()
+    ensures { InclusionsMean }
+{}
+
+/// A projection has the parts of the live rows, each once.
+pub fn projections_have_each_part_once()
+    ensures { (r : RowState) (s : Columns) → ProjectionMeans r s }
 {}
