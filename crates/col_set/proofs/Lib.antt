@@ -5,3 +5,4 @@ pub mod Specialise
 pub mod Places
 pub mod More
 pub mod EachColumn
+pub mod Fewer

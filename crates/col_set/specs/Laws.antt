@@ -1,11 +1,11 @@
 -- The laws of the definitions, which functions with an empty body ensure.
-use Rattle.std.specs.Prelude.{◌≡◌, ◌<◌, ◌^◌, ℕ, true, false, List, [], ◌∷◌, ◌++◌, map, ◌↔◌}
+use Rattle.std.specs.Prelude.{◌≡◌, ◌<◌, ◌^◌, ℕ, ◌⊎◌, true, false, List, [], ◌∷◌, ◌++◌, map, ◌↔◌}
 use Rattle.std.specs.List.{Contains, AllPairs}
 use Rattle.std.specs.List.Sorted.{IsStrictlyIncreasing}
 use Rattle.std.specs.declared.cmp.Ordering.TheVariants.{Less}
 use Rattle.col_set.specs.declared.target.Target.{Target}
 use Rattle.col_set.specs.declared.target.Target.TheVariants.{Col, RowId}
-use Rattle.col_set.specs.ColSet.{IsSubset, report_cmp, upto, all_sets}
+use Rattle.col_set.specs.ColSet.{IsSubset, empty, report_cmp, all_sets}
 use Rattle.col_set.specs.Target.{has_target}
 use Rattle.col_set.specs.Evidence.{IsLeast, least, replaced, minimal_of}
 
@@ -28,3 +28,22 @@ LeastMeans = (n : ℕ) (ws : List ℕ) (t : Target) (x : ℕ) → Contains (leas
 -- With a further agree set z that lacks t, each candidate inside z gives way to its extensions, and non-minimal sets are dropped.
 abbrev pub LeastAfterOneMore : Type 0
 LeastAfterOneMore = (n : ℕ) (ws : List ℕ) (t : Target) (z : ℕ) → has_target z t ≡ false → least n (ws ++ z ∷ []) t ≡ minimal_of n (replaced n t z (least n ws t))
+
+-- What is least depends on which agree sets there are, and not on their order or number.
+abbrev pub LeastOfTheSame : Type 0
+LeastOfTheSame = (n : ℕ) (vs ws : List ℕ) (t : Target) → ((w : ℕ) → Contains vs w ↔ Contains ws w) → least n vs t ≡ least n ws t
+
+-- x lies inside a withdrawn agree set that lacks t
+pub record WithdrawnInside (gone : List ℕ) (t : Target) (x : ℕ) : Type 0 where
+  pub set : ℕ
+  pub withdrawn : Contains gone set
+  pub lacks : has_target set t ≡ false
+  pub inside : IsSubset x set
+
+-- Where agree sets are withdrawn, what is least of the rest is least of all, or lies inside a withdrawn set that lacks t.
+abbrev pub LeastAfterFewer : Type 0
+LeastAfterFewer = (n : ℕ) (rest gone : List ℕ) (t : Target) (x : ℕ) → Contains (least n rest t) x → Contains (least n (rest ++ gone) t) x ⊎ WithdrawnInside gone t x
+
+-- With no agree set the empty set is the one candidate.
+abbrev pub LeastOfNone : Type 0
+LeastOfNone = (n : ℕ) (t : Target) → least n [] t ≡ empty ∷ []

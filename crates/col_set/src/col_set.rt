@@ -7,8 +7,11 @@ use crate::Target;
 use std::cmp::Ordering;
 use std::marker::Model;
 
-/// A set of columns, each below 128.
-#[derive(Clone, Copy, PartialEq, Eq)]
+/// A set of columns, counted from 0 and each below 128.
+///
+/// Contracts see the number whose bit k says whether it has column k. It is copied, and no call takes memory or grows with the
+/// number of columns; `iter` takes a step a column that it has.
+#[derive(Clone, Copy, Debug, PartialEq, Eq, Hash)]
 pub struct ColSet {
     bits: u128,
 }
@@ -57,12 +60,14 @@ impl PartialOrd for ColSet {
 }
 
 impl ColSet {
+    /// No columns.
     pub fn empty() -> Self
         ensures { result ≡ cols.empty }
     {
         ColSet { bits: 0 }
     }
 
+    /// The columns 0 to below n.
     #[tactic(auto, unfolding(crate::specs::ColSet::all))]
     pub fn all(n: u8) -> Self
         requires { n ≤ 128 }
@@ -75,6 +80,7 @@ impl ColSet {
         }
     }
 
+    /// Whether it has the column.
     #[tactic(auto, unfolding(crate::specs::ColSet::has))]
     pub fn has(self, column: u8) -> bool
         requires { column < 128 }
@@ -95,6 +101,7 @@ impl ColSet {
         }
     }
 
+    /// It and this column.
     pub fn with(self, column: u8) -> Self
         requires { column < 128 }
         ensures { result ≡ cols.with self column }
@@ -104,6 +111,7 @@ impl ColSet {
         }
     }
 
+    /// It less this column.
     pub fn without(self, column: u8) -> Self
         requires { column < 128 }
         ensures { result ≡ cols.without self column }
@@ -113,6 +121,7 @@ impl ColSet {
         }
     }
 
+    /// The columns of either.
     #[tactic(auto, unfolding(crate::specs::ColSet::union))]
     pub fn union(self, other: Self) -> Self
         ensures { result ≡ cols.union self other }
@@ -122,6 +131,7 @@ impl ColSet {
         }
     }
 
+    /// The columns of both.
     #[tactic(auto, unfolding(crate::specs::ColSet::inter))]
     pub fn inter(self, other: Self) -> Self
         ensures { result ≡ cols.inter self other }
@@ -131,6 +141,7 @@ impl ColSet {
         }
     }
 
+    /// Its columns that the other lacks.
     pub fn minus(self, other: Self) -> Self
         ensures { result ≡ cols.minus self other }
     {
@@ -139,6 +150,7 @@ impl ColSet {
         }
     }
 
+    /// Whether the other has all its columns.
     #[tactic(auto, unfolding(crate::specs::ColSet::subset))]
     pub fn subset_of(self, other: Self) -> bool
         ensures { result ≡ cols.subset self other }
@@ -146,6 +158,7 @@ impl ColSet {
         self.bits & other.bits == self.bits
     }
 
+    /// How many columns it has.
     pub fn len(self) -> u32
         ensures value { result ≡ cols.size self }
         ensures bound { result ≤ 128 }
@@ -153,6 +166,7 @@ impl ColSet {
         self.bits.count_ones()
     }
 
+    /// Its least column.
     pub fn first(self) -> Option<u8>
         ensures value { result ≡ cols.first self }
         ensures bound { IfSome result (λ column. column < 128) }
@@ -164,6 +178,14 @@ impl ColSet {
         }
     }
 
+    /// The columns, ascending.
+    pub fn iter(self) -> ColumnIter
+        ensures { cols.columns result.rest ≡ cols.columns self }
+    {
+        ColumnIter { rest: self }
+    }
+
+    /// Report order: fewer columns first, then the ascending lists of columns compared from the left.
     pub fn cmp_report(self, other: Self) -> Ordering
         ensures { result ≡ cols.report_cmp self other }
     {
@@ -181,5 +203,42 @@ impl ColSet {
         } else {
             Ordering::Greater
         }
+    }
+}
+
+/// The columns of a set, ascending.
+#[derive(Clone, Copy, Debug)]
+pub struct ColumnIter {
+    rest: ColSet,
+}
+
+impl Iterator for ColumnIter {
+    type Item = u8;
+
+    ghost use Rattle.std.specs.Iterator.{YieldsFirst, item_count};
+    ghost use Rattle.col_set.specs.ColSet.{columns};
+
+    ghost next_gives = { YieldsFirst (λ s. columns s.rest) };
+
+    ghost remaining = { item_count (λ s. columns s.rest) };
+
+    fn next(&mut self) -> Option<u8> {
+        let column = self.rest.first()?;
+        self.rest = self.rest.without(column);
+        Some(column)
+    }
+}
+
+impl IntoIterator for ColSet {
+    type Item = u8;
+
+    type IntoIter = ColumnIter;
+
+    ghost use Rattle.col_set.specs.ColSet.{columns};
+
+    ghost into_iter_gives = { λ set it. columns it.rest ≡ columns set };
+
+    fn into_iter(self) -> ColumnIter {
+        self.iter()
     }
 }

@@ -1,9 +1,11 @@
-//! Column sets and their report order, and what a dependency points to.
+//! Column sets and their report order, targets of dependencies, and what a list of agree sets leaves of the candidates.
 #![tactic(auto)]
 
 mod col_set;
 pub mod laws;
 mod target;
+#[cfg(test)]
+mod tests;
 
-pub use col_set::ColSet;
+pub use col_set::{ColSet, ColumnIter};
 pub use target::Target;
