@@ -1,0 +1,3 @@
+pub mod LeadingMarks
+pub mod Steps
+pub mod FirstRefused

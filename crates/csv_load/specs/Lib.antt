@@ -1,0 +1,5 @@
+pub mod Records
+pub mod Refusal
+pub mod Unread
+pub mod Reading
+pub mod Laws

@@ -1,0 +1,13 @@
+//! Files of comma-separated values: their records, and the relation that they hold or the rule that refuses them.
+#![tactic(auto)]
+
+pub mod laws;
+mod load;
+mod marks;
+mod record_reader;
+mod refusal;
+#[cfg(test)]
+mod tests;
+
+pub use load::{Reading, read_relation, records};
+pub use record_reader::RecordReader;

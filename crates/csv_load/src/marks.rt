@@ -1,0 +1,17 @@
+// Byte order marks.
+ghost use Rattle.std.specs.Prelude.{◌≡◌};
+ghost use Rattle.csv_load.specs.Records.{without_marks};
+
+/// U+FEFF in UTF-8.
+const MARK: [u8; 3] = [0xEF, 0xBB, 0xBF];
+
+/// The bytes after all byte order marks at their start. The crate `csv` would take off one alone.
+pub(crate) fn after_marks(bytes: &[u8]) -> &[u8]
+    ensures { result.now ≡ without_marks bytes.now }
+{
+    let mut rest = bytes;
+    while let Some(after) = rest.strip_prefix(&MARK) {
+        rest = after;
+    }
+    rest
+}

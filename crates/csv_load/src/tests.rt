@@ -1,0 +1,157 @@
+// Where an allocation fails, a call is made once more, so that these tests also pass where any one fails.
+use crate::{Reading, RecordReader, read_relation, records};
+use csv::ByteRecord;
+use rel_base::{Limits, Row};
+use std::alloc::{AllocError, Global};
+use std::test::Fail;
+
+const CITIES: &[u8] = b"id,city,zip\n1,Berlin,10115\n2,Berlin,10115\n3,Potsdam,14467\n";
+
+// Adds the cells of a row with bars between them, and a slash.
+fn show_row(out: &mut Vec<u8>, row: &Row) -> Result<(), AllocError> {
+    for place in 0..row.len() {
+        if place > 0 {
+            out.push(b'|')?;
+        }
+        out.extend_from_slice(row.cell(place))?;
+    }
+    out.push(b'/')?;
+    Ok(())
+}
+
+// The names and rows of a file, or the record and the cause of its refusal.
+fn shown_once(alloc: Global, bytes: &[u8], limits: &Limits) -> Result<Vec<u8>, AllocError> {
+    let mut out = Vec::new(alloc);
+    match read_relation(alloc, bytes, limits) {
+        Reading::Read(relation) => {
+            show_row(&mut out, relation.names())?;
+            for row in relation.rows() {
+                show_row(&mut out, row)?;
+            }
+        }
+        Reading::Refused { rec, why } => {
+            let text = format!(in alloc; "{rec} {why:?}")?;
+            out.extend_from_slice(text.as_bytes())?;
+        }
+        Reading::NoMemory => return Err(AllocError),
+    }
+    Ok(out)
+}
+
+fn shown(alloc: Global, bytes: &[u8], limits: &Limits) -> Result<Vec<u8>, AllocError> {
+    shown_once(alloc, bytes, limits).or_else(|_| shown_once(alloc, bytes, limits))
+}
+
+// All records of a text.
+fn listed(alloc: Global, bytes: &[u8]) -> Result<Vec<u8>, AllocError> {
+    let mut out = Vec::new(alloc);
+    for row in &records(alloc, bytes)? {
+        show_row(&mut out, row)?;
+    }
+    Ok(out)
+}
+
+// The same, one record after another.
+fn walked(alloc: Global, bytes: &[u8]) -> Result<Vec<u8>, AllocError> {
+    let mut out = Vec::new(alloc);
+    let mut reader = RecordReader::new(alloc, bytes);
+    let mut fields = ByteRecord::new(alloc);
+    while reader.next(&mut fields)? {
+        show_row(&mut out, &Row::of(fields.clone()?))?;
+    }
+    // The end stays the end.
+    if reader.next(&mut fields)? {
+        out.clear();
+    }
+    Ok(out)
+}
+
+// These bytes, and then one byte so many times.
+fn with_tail_once(
+    alloc: Global,
+    start: &[u8],
+    byte: u8,
+    count: usize,
+) -> Result<Vec<u8>, AllocError> {
+    let mut text = Vec::from_slice(alloc, start)?;
+    for _ in 0..count {
+        text.push(byte)?;
+    }
+    Ok(text)
+}
+
+fn with_tail(alloc: Global, start: &[u8], byte: u8, count: usize) -> Result<Vec<u8>, AllocError> {
+    with_tail_once(alloc, start, byte, count).or_else(|_| with_tail_once(alloc, start, byte, count))
+}
+
+#[test]
+fn records_of_a_text(rt: HostRuntime) -> Result<(), Fail> {
+    let text = b"a,,b\n\n\"\"\n".as_slice();
+    let out = listed(rt.alloc(), text).or_else(|_| listed(rt.alloc(), text))?;
+    assert_eq!(rt; out.as_slice(), b"a||b//".as_slice());
+    let out = walked(rt.alloc(), text).or_else(|_| walked(rt.alloc(), text))?;
+    assert_eq!(rt; out.as_slice(), b"a||b//".as_slice());
+    Ok(())
+}
+
+#[test]
+fn relations_and_refusals(rt: HostRuntime) -> Result<(), Fail> {
+    let standard = Limits::standard();
+    let whole = b"id|city|zip/1|Berlin|10115/2|Berlin|10115/3|Potsdam|14467/".as_slice();
+    let cases: [(&[u8], Limits, &[u8]); 14] = [
+        (CITIES, standard, whole),
+        (b"\xEF\xBB\xBFa,b\r\n\r\n1,\"x,y\"", standard, b"a|b/1|x,y/"),
+        (
+            b"\xEF\xBB\xBF\xEF\xBB\xBFa,b\r\n\r\n1,\"x,y\"",
+            standard,
+            b"a|b/1|x,y/",
+        ),
+        (b"a,b\n1,\"x,", standard, b"a|b/1|x,/"),
+        (b"a,a,\n", standard, b"a|a|/"),
+        (b"", standard, b"0 NoHeader"),
+        (b"\xEF\xBB\xBF\n\n", standard, b"0 NoHeader"),
+        (b"a,b\n1,x\n2\n", standard, b"3 Fields"),
+        (CITIES, Limits::smaller(128, 1_000_000, 5, 1_000), b"2 Cell"),
+        (CITIES, Limits::smaller(128, 2, 65_536, 1_000), b"4 Rows"),
+        (CITIES, Limits::smaller(3, 3, 7, 1), whole),
+        (b"a,b,c\n1\n", Limits::smaller(2, 9, 9, 9), b"1 Columns"),
+        (b"a,b\n11\n", Limits::smaller(9, 9, 1, 9), b"2 Fields"),
+        (b"a\n1\n22\n", Limits::smaller(9, 1, 1, 9), b"3 Cell"),
+    ];
+    for (bytes, limits, wanted) in cases {
+        assert_eq!(rt; shown(rt.alloc(), bytes, &limits)?.as_slice(), wanted);
+    }
+    Ok(())
+}
+
+#[test]
+fn cells_at_the_standard_limit(rt: HostRuntime) -> Result<(), Fail> {
+    let limits = Limits::standard();
+    let cases: [(&[u8], usize, &[u8]); 4] = [
+        (b"a\n", 65_537, b"2 Cell"),
+        (b"", 65_537, b"1 Cell"),
+        (b"a,", 65_537, b"1 Cell"),
+        (b"a\n,", 65_537, b"2 Fields"),
+    ];
+    for (start, count, wanted) in cases {
+        let text = with_tail(rt.alloc(), start, b'x', count)?;
+        let out = shown(rt.alloc(), text.as_slice(), &limits)?;
+        assert_eq!(rt; out.as_slice(), wanted);
+    }
+    let text = with_tail(rt.alloc(), b"a\n", b'x', 65_536)?;
+    let out = shown(rt.alloc(), text.as_slice(), &limits)?;
+    assert_eq!(rt; out.len(), 65_539);
+    Ok(())
+}
+
+#[test]
+fn headers_at_the_standard_limit(rt: HostRuntime) -> Result<(), Fail> {
+    let limits = Limits::standard();
+    let text = with_tail(rt.alloc(), b"", b',', 127)?;
+    let out = shown(rt.alloc(), text.as_slice(), &limits)?;
+    assert_eq!(rt; out.len(), 128);
+    let text = with_tail(rt.alloc(), b"", b',', 128)?;
+    let out = shown(rt.alloc(), text.as_slice(), &limits)?;
+    assert_eq!(rt; out.as_slice(), b"1 Columns".as_slice());
+    Ok(())
+}

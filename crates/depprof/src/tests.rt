@@ -1,0 +1,88 @@
+use crate::WordsFault;
+use crate::file_shelf::FileShelf;
+use crate::streams::{StandardIn, StandardOut};
+use ports::{Closing, Creating, Loading, OpenGate, Reading, Shelf, Sink, Source, Storing, SureSink, Writing};
+use ports::{load_file, store_file};
+use profile_cli::run;
+use rel_base::{Limits, Name};
+use std::io;
+use std::test::Fail;
+use std::{env, fs};
+
+// A path in the system's folder for such files, which no other run of the tests uses.
+fn own_path(rt: &HostRuntime) -> Result<String, Fail> {
+    let folder = env::temp_dir(rt)?;
+    let folder = folder.as_path().to_str().ok_or("a folder whose name is no text")?;
+    Ok(format!(in rt.alloc(); "{folder}/depprof-test-{}", std::process::id(rt.process()))?)
+}
+
+#[test]
+fn files_are_stored_and_loaded(rt: HostRuntime) -> Result<(), Fail> {
+    let alloc = rt.alloc();
+    let path = own_path(&rt)?;
+    let mut shelf = FileShelf::new(&rt);
+    let stored = store_file(&mut shelf, Name::of(path.clone()?), b"id\n1\n");
+    assert!(rt; stored == Storing::Stored);
+    match load_file(alloc, &mut shelf, Name::of(path.clone()?), 5) {
+        Loading::Loaded(bytes) => assert!(rt; bytes.as_slice() == b"id\n1\n".as_slice()),
+        _ => assert!(rt; false, "the file is there"),
+    }
+    match load_file(alloc, &mut shelf, Name::of(path.clone()?), 4) {
+        Loading::TooLong => {}
+        _ => assert!(rt; false, "one byte above the limit"),
+    }
+    fs::remove_file(&rt, path.as_str())?;
+    match load_file(alloc, &mut shelf, Name::of(path), 5) {
+        Loading::Failed => {}
+        _ => assert!(rt; false, "the file is gone"),
+    }
+    Ok(())
+}
+
+#[test]
+fn an_absent_file_is_a_read_fault(rt: HostRuntime) -> Result<(), Fail> {
+    let alloc = rt.alloc();
+    let mut words = Vec::new(alloc);
+    words.push(String::from_str(alloc, "depprof")?)?;
+    words.push(String::from_str(alloc, "profile")?)?;
+    words.push(String::from_str(alloc, "no-such-folder/absent.csv")?)?;
+    let mut shelf = FileShelf::new(&rt);
+    let mut input = StandardIn::new(&rt);
+    let mut out = SureSink::with_room(alloc, 100)?;
+    let outcome = run(
+        &rt, alloc, words, &mut shelf, &mut input, &mut out, &OpenGate, Limits::standard(),
+    );
+    assert!(rt; outcome.status() == 4);
+    assert!(rt; out.bytes() == b"fault,read,no-such-folder/absent.csv\n".as_slice());
+    Ok(())
+}
+
+#[test]
+fn standard_output_takes_bytes(rt: HostRuntime) {
+    let mut out = StandardOut::new(&rt);
+    match out.write(b"a line of the test\n") {
+        Writing::Took(count) => assert!(rt; count > 0),
+        Writing::Failed => assert!(rt; false, "standard output is open"),
+    }
+}
+
+#[test]
+fn standard_input_comes_to_its_end(rt: HostRuntime) {
+    let mut input = StandardIn::new(&rt);
+    let mut buffer = [0u8; 16];
+    for _ in 0..1000 {
+        match input.read(&mut buffer) {
+            Reading::Got(count) => assert!(rt; count <= 16),
+            Reading::End => return,
+            Reading::Failed => assert!(rt; false, "standard input is open"),
+        }
+    }
+}
+
+#[test]
+fn words_that_cannot_be_gathered_have_a_status(rt: HostRuntime) {
+    let memory = WordsFault::from(io::Error::from(io::ErrorKind::OutOfMemory));
+    let text = WordsFault::from(io::Error::from(io::ErrorKind::InvalidData));
+    assert!(rt; memory == WordsFault::NoMemory && memory.status() == 6);
+    assert!(rt; text == WordsFault::NotText && text.status() == 2);
+}

@@ -1,0 +1,5 @@
+pub mod Moving
+pub mod Contents
+pub mod Shelves
+pub mod Places
+pub mod Opened

@@ -1,0 +1,54 @@
+-- What the answers of the traits' calls mean.
+use Rattle.std.specs.Prelude.{◌≡◌, ℕ, ◌<◌, ◌≤◌, Bool, true, false, List, length, take, Option}
+use Rattle.std.specs.Option.{option_map}
+use Rattle.ports.specs.declared.source.Reading.{Reading}
+use Rattle.ports.specs.declared.source.Reading.TheVariants.{Got, End, Failed as ReadFailed}
+use Rattle.ports.specs.declared.sink.Writing.{Writing}
+use Rattle.ports.specs.declared.sink.Writing.TheVariants.{Took, Failed as WriteFailed}
+use Rattle.ports.specs.declared.shelf.Opening.{Opening}
+use Rattle.ports.specs.declared.shelf.Opening.TheVariants.{Opened, Failed as OpenFailed}
+use Rattle.ports.specs.declared.shelf.Creating.{Creating}
+use Rattle.ports.specs.declared.shelf.Creating.TheVariants.{Created, Failed as CreateFailed}
+use Rattle.ports.specs.declared.shelf.Closing.{Closing}
+use Rattle.ports.specs.declared.shelf.Closing.TheVariants.{Closed, Failed as CloseFailed}
+use Rattle.ports.specs.Bytes.{Moves, Gains, IsUsedUp}
+use Rattle.ports.specs.Files.{Files, with_more}
+
+-- which answers say that the call failed
+
+abbrev pub read_failed : Reading → Bool
+read_failed (Got count) = false
+read_failed End = false
+read_failed ReadFailed = true
+
+abbrev pub write_failed : Writing → Bool
+write_failed (Took count) = false
+write_failed WriteFailed = true
+
+abbrev pub open_failed : Opening → Bool
+open_failed Opened = false
+open_failed OpenFailed = true
+
+abbrev pub create_failed : Creating → Bool
+create_failed Created = false
+create_failed CreateFailed = true
+
+abbrev pub close_failed : Closing → Bool
+close_failed Closed = false
+close_failed CloseFailed = true
+
+-- A read moves the first bytes that were left to the front of the buffer, at least one. It moves none where none were left or it failed.
+abbrev pub ReadMoves : Reading → List ℕ → Option (List ℕ) → Option (List ℕ) → Type 0
+ReadMoves (Got count) buffer before now = (0 < count) × (count ≤ length buffer) × Moves before now (take count buffer)
+ReadMoves End buffer before now = IsUsedUp before × (now ≡ before)
+ReadMoves ReadFailed buffer before now = now ≡ before
+
+-- A write appends the first bytes of the piece, at least one. It appends none where it failed.
+abbrev pub WriteAppends : Writing → List ℕ → Option (List ℕ) → Option (List ℕ) → Type 0
+WriteAppends (Took count) piece before now = (0 < count) × (count ≤ length piece) × Gains before now (take count piece)
+WriteAppends WriteFailed piece before now = now ≡ before
+
+-- the same of a file on a shelf
+abbrev pub WriteAppendsTo : Writing → List ℕ → List ℕ → Option Files → Option Files → Type 0
+WriteAppendsTo (Took count) name piece before now = (0 < count) × (count ≤ length piece) × (now ≡ option_map (with_more name (take count piece)) before)
+WriteAppendsTo WriteFailed name piece before now = now ≡ before

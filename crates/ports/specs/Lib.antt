@@ -1,0 +1,11 @@
+pub mod Faults
+pub mod Bytes
+pub mod Files
+pub mod Answers
+pub mod Whole
+pub mod Memory
+pub mod Lists
+pub mod Shelves
+pub mod SureShelf
+pub mod Kinds
+pub mod MemShelf

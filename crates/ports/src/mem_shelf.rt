@@ -1,0 +1,327 @@
+// A shelf of which listed calls fail.
+ghost use Rattle.std.specs.Prelude.{◌≡◌, ◌<◌, ◌&&◌, ◌||◌, ◌==◌, ◌-◌, [], ℕ, List, Option, None, Some, length, min, not, false, take, replicate, IsTrue, IfOk, is_none, if◌then◌else◌, vec_len, option_copied, unwrap_or};
+ghost use Rattle.std.specs.Option.{option_map};
+ghost use Rattle.ports.specs.Faults.{Rose, Counts, CountsAt, SameFaults};
+ghost use Rattle.ports.specs.Files.{Files, Access, Nothing, ForReading, ForWriting, is_reading, is_writing, name_of, left_of, bytes_of, from_start, with_file};
+ghost use Rattle.ports.specs.Answers.{open_failed, create_failed, close_failed, read_failed, write_failed, ReadMoves, WriteAppendsTo};
+ghost use Rattle.ports.specs.Memory.{read_answer, write_answer};
+ghost use Rattle.ports.specs.Kinds.{is_due, after_begin};
+ghost use Rattle.std.specs.List.{All};
+ghost use Rattle.ports.specs.Lists.{look_up};
+ghost use Rattle.ports.specs.Shelves.{IsNewShelf, SameRooms};
+
+use crate::files::{place_for, place_of};
+use crate::kinds::ShelfCalls;
+use crate::pieces::{Buffer, copy_from, reading_of, writing_of};
+use crate::{Closing, Creating, Kind, Opening, Reading, Shelf, Text, Writing};
+use rel_base::Name;
+use std::alloc::{AllocError, Global};
+use std::marker::Model;
+use std::mem;
+
+// What is open: nothing, or the file at a place.
+#[derive(Clone, Copy)]
+enum Open {
+    Nothing,
+    Reading(usize),
+    Writing(usize),
+}
+
+impl Open {
+    ghost use Rattle.ports.specs.MemShelf.{is_written};
+
+    // Whether the file at this place is being written.
+    fn is_written(self, place: usize) -> bool
+        ensures { result ≡ is_written self place }
+    {
+        match self {
+            Open::Nothing | Open::Reading(_) => false,
+            Open::Writing(written) => written == place,
+        }
+    }
+}
+
+// The name that a counted call worked on: one that was handed over, or that of the file at a place.
+#[derive(Drop)]
+enum Last {
+    NoName,
+    Named(Name),
+    At(usize),
+}
+
+// How many calls failed, and the name that the last of them worked on.
+#[derive(Drop)]
+struct Faults {
+    count: u64,
+    last: Last,
+}
+
+impl Faults {
+    fn none() -> Faults
+        ensures count { result.count ≡ 0 }
+        ensures last { result.last ≡ Last.NoName }
+    {
+        Faults {
+            count: 0,
+            last: Last::NoName,
+        }
+    }
+
+    fn rise(&mut self, last: Last)
+        ensures count { Rose self.old.count self.new.count }
+        ensures last { self.new.last ≡ last }
+    {
+        self.count = self.count.saturating_add(1);
+        self.last = last;
+    }
+
+    // What the close of the file at a place answers, which is to fail or not.
+    fn close(&mut self, fails: bool, place: usize) -> Closing
+        ensures answer { close_failed result ≡ fails }
+        ensures count { Counts fails self.old.count self.new.count }
+        ensures last { self.new.last ≡ (if fails then Last.At place else self.old.last) }
+    {
+        if !fails {
+            return Closing::Closed;
+        }
+        self.rise(Last::At(place));
+        Closing::Failed
+    }
+}
+
+/// A shelf in memory of which listed calls fail, and an open of a name that is not there.
+///
+/// It is made with buffers for the files to come: each create uses up one, and fails without one. Nothing else fails but a write for which no room is left.
+/// Contracts see the files as a list, of which the first of a name counts.
+#[derive(Drop)]
+pub struct MemShelf {
+    alloc: Global,
+    files: Vec<(Name, Text)>,
+    open: Open,
+    // How many bytes were read of the file that is open for reading.
+    at: usize,
+    // What was written to the file that is open for writing.
+    buffer: Buffer,
+    blanks: Vec<Buffer>,
+    room: usize,
+    largest: usize,
+    calls: ShelfCalls,
+    reads: Faults,
+    writes: Faults,
+}
+
+impl Model for MemShelf {
+    ghost use Rattle.ports.specs.Shelves.{MemFiles};
+
+    ghost Value = { MemFiles };
+
+    ghost use Rattle.ports.specs.MemShelf.{seen, IsInside};
+
+    ghost view = { seen };
+
+    ghost invariant = { IsInside };
+}
+
+impl MemShelf {
+    /// A shelf with these files, `blanks` buffers of `room` bytes each for files to come, and the calls that fail: a kind, and a number
+    /// among the calls of that kind, counted from 1. A read or write moves at most `largest` bytes.
+    pub fn with(
+        alloc: Global,
+        files: Vec<(Name, Text)>,
+        blanks: usize,
+        room: usize,
+        fails: Vec<(Kind, u64)>,
+        largest: usize,
+    ) -> Result<MemShelf, AllocError>
+        requires { 0 < largest }
+        ensures { IfOk result (IsNewShelf files.items blanks room fails.items largest) }
+    {
+        let mut files = files;
+        files.reserve(blanks)?;
+        Ok(MemShelf {
+            alloc,
+            files,
+            open: Open::Nothing,
+            at: 0,
+            buffer: Buffer::empty(alloc),
+            blanks: blank_buffers(alloc, blanks, room)?,
+            room,
+            largest,
+            calls: ShelfCalls::of(fails),
+            reads: Faults::none(),
+            writes: Faults::none(),
+        })
+    }
+
+    /// The bytes of the first file of this name.
+    pub fn file(&self, name: &Name) -> Option<&[u8]>
+        ensures { option_copied result ≡ look_up self.now.files name.now }
+    {
+        let place = place_of(&self.files, name)?;
+        if self.open.is_written(place) {
+            Some(self.buffer.bytes())
+        } else {
+            Some(self.files[place].1.bytes())
+        }
+    }
+
+    /// How many files there are.
+    pub fn len(&self) -> usize
+        ensures { result ≡ length self.now.files }
+    {
+        self.files.len()
+    }
+}
+
+// So many buffers of this room.
+fn blank_buffers(alloc: Global, count: usize, room: usize) -> Result<Vec<Buffer>, AllocError>
+    ensures count { IfOk result (λ buffers. vec_len buffers ≡ count) }
+    ensures blank { IfOk result (λ buffers. All (λ buffer. buffer ≡ record { held = []; room = room }) buffers.items) }
+{
+    let mut buffers = Vec::with_capacity(alloc, count)?;
+    for _ in 0..count {
+        buffers.push(Buffer::with_room(alloc, room)?)?;
+    }
+    Ok(buffers)
+}
+
+impl Shelf for MemShelf {
+    ghost content = { λ s. Some (look_up s.files) };
+
+    ghost opened = { λ s. s.opened };
+
+    ghost read_faults = { λ s. s.read_faults };
+
+    ghost read_last = { λ s. s.read_last };
+
+    ghost write_faults = { λ s. s.write_faults };
+
+    ghost write_last = { λ s. s.write_last };
+
+    fn open(&mut self, name: Name) -> Opening
+        requires { self.old.opened ≡ Nothing }
+        ensures opened { self.new.opened ≡ (if open_failed result then Nothing else from_start name (Some (look_up self.old.files))) }
+        ensures content { Some (look_up self.new.files) ≡ Some (look_up self.old.files) }
+        ensures reads { CountsAt (open_failed result) name (λ shelf. shelf.read_faults) (λ shelf. shelf.read_last) self.old self.new }
+        ensures writes { SameFaults (λ shelf. shelf.write_faults) (λ shelf. shelf.write_last) self.old self.new }
+        ensures fails { open_failed result ≡ (is_due Kind.Open self.old.course || is_none (look_up self.old.files name)) }
+        ensures course { self.new.course ≡ after_begin Kind.Open self.old.course }
+        ensures rooms { SameRooms self.old self.new }
+        ensures blanks { self.new.blanks ≡ self.old.blanks }
+    {
+        let listed = self.calls.begin(Kind::Open);
+        match place_of(&self.files, &name) {
+            Some(place) if !listed => {
+                self.open = Open::Reading(place);
+                self.at = 0;
+                Opening::Opened
+            }
+            _ => {
+                self.reads.rise(Last::Named(name));
+                Opening::Failed
+            }
+        }
+    }
+
+    fn read(&mut self, buffer: &mut [u8]) -> Reading
+        requires some_room { 0 < length buffer.old }
+        requires open { IsTrue (is_reading self.old.opened) }
+        ensures moved { ReadMoves result buffer.new (left_of self.old.opened) (left_of self.new.opened) }
+        ensures opened { self.new.opened ≡ ForReading (name_of self.old.opened) (left_of self.new.opened) }
+        ensures content { Some (look_up self.new.files) ≡ Some (look_up self.old.files) }
+        ensures reads { CountsAt (read_failed result) (name_of self.old.opened) (λ shelf. shelf.read_faults) (λ shelf. shelf.read_last) self.old self.new }
+        ensures writes { SameFaults (λ shelf. shelf.write_faults) (λ shelf. shelf.write_last) self.old self.new }
+        ensures answer { result ≡ read_answer (is_due Kind.Read self.old.course) (min (length (unwrap_or (left_of self.old.opened) [])) (min (length buffer.old) self.old.largest)) }
+        ensures course { self.new.course ≡ after_begin Kind.Read self.old.course }
+        ensures rooms { SameRooms self.old self.new }
+        ensures blanks { self.new.blanks ≡ self.old.blanks }
+    {
+        let Open::Reading(place) = self.open else {
+            unreachable!()
+        };
+        if self.calls.begin(Kind::Read) {
+            self.reads.rise(Last::At(place));
+            return Reading::Failed;
+        }
+        let most = buffer.len().min(self.largest);
+        let count = copy_from(self.files[place].1.bytes(), self.at, &mut buffer[..most]);
+        self.at += count;
+        reading_of(count)
+    }
+
+    fn create(&mut self, name: Name) -> Creating
+        requires { self.old.opened ≡ Nothing }
+        ensures opened { self.new.opened ≡ (if create_failed result then Nothing else ForWriting name) }
+        ensures content { Some (look_up self.new.files) ≡ (if create_failed result then Some (look_up self.old.files) else option_map (with_file name []) (Some (look_up self.old.files))) }
+        ensures writes { CountsAt (create_failed result) name (λ shelf. shelf.write_faults) (λ shelf. shelf.write_last) self.old self.new }
+        ensures reads { SameFaults (λ shelf. shelf.read_faults) (λ shelf. shelf.read_last) self.old self.new }
+        ensures fails { create_failed result ≡ (is_due Kind.Create self.old.course || (self.old.blanks == 0)) }
+        ensures course { self.new.course ≡ after_begin Kind.Create self.old.course }
+        ensures rooms { SameRooms self.old self.new }
+        ensures blanks { self.new.blanks ≡ (if create_failed result then self.old.blanks else self.old.blanks - 1) }
+    {
+        if self.calls.begin(Kind::Create) || self.blanks.is_empty() {
+            self.writes.rise(Last::Named(name));
+            return Creating::Failed;
+        }
+        self.buffer = self.blanks.pop().unwrap();
+        self.open = Open::Writing(place_for(self.alloc, &mut self.files, name));
+        Creating::Created
+    }
+
+    fn write(&mut self, piece: &[u8]) -> Writing
+        requires some_bytes { 0 < length piece.now }
+        requires created { IsTrue (is_writing self.old.opened) }
+        ensures appended { WriteAppendsTo result (name_of self.old.opened) piece.now (Some (look_up self.old.files)) (Some (look_up self.new.files)) }
+        ensures opened { self.new.opened ≡ self.old.opened }
+        ensures writes { CountsAt (write_failed result) (name_of self.old.opened) (λ shelf. shelf.write_faults) (λ shelf. shelf.write_last) self.old self.new }
+        ensures reads { SameFaults (λ shelf. shelf.read_faults) (λ shelf. shelf.read_last) self.old self.new }
+        ensures answer { result ≡ write_answer (is_due Kind.Write self.old.course) (min (min (length piece.now) self.old.largest) (self.old.room - length (bytes_of (look_up self.old.files) (name_of self.old.opened)))) }
+        ensures course { self.new.course ≡ after_begin Kind.Write self.old.course }
+        ensures rooms { SameRooms self.old self.new }
+        ensures blanks { self.new.blanks ≡ self.old.blanks }
+    {
+        let Open::Writing(place) = self.open else {
+            unreachable!()
+        };
+        if self.calls.begin(Kind::Write) {
+            self.writes.rise(Last::At(place));
+            return Writing::Failed;
+        }
+        let most = piece.len().min(self.largest);
+        match self.buffer.append_first(&piece[..most]) {
+            0 => {
+                self.writes.rise(Last::At(place));
+                Writing::Failed
+            }
+            count => Writing::Took(count),
+        }
+    }
+
+    fn close(&mut self) -> Closing
+        ensures opened { self.new.opened ≡ Nothing }
+        ensures content { Some (look_up self.new.files) ≡ Some (look_up self.old.files) }
+        ensures idle { self.old.opened ≡ Nothing → result ≡ Closing.Closed }
+        ensures reads { CountsAt (close_failed result && is_reading self.old.opened) (name_of self.old.opened) (λ shelf. shelf.read_faults) (λ shelf. shelf.read_last) self.old self.new }
+        ensures writes { CountsAt (close_failed result && is_writing self.old.opened) (name_of self.old.opened) (λ shelf. shelf.write_faults) (λ shelf. shelf.write_last) self.old self.new }
+        ensures fails { close_failed result ≡ (is_due Kind.Close self.old.course && (is_reading self.old.opened || is_writing self.old.opened)) }
+        ensures course { self.new.course ≡ after_begin Kind.Close self.old.course }
+        ensures rooms { SameRooms self.old self.new }
+        ensures blanks { self.new.blanks ≡ self.old.blanks }
+    {
+        let listed = self.calls.begin(Kind::Close);
+        match self.open {
+            Open::Nothing => Closing::Closed,
+            Open::Reading(place) => {
+                self.open = Open::Nothing;
+                self.reads.close(listed, place)
+            }
+            Open::Writing(place) => {
+                let written = mem::replace(&mut self.buffer, Buffer::empty(self.alloc));
+                self.files[place].1 = Text::of(written.into_bytes());
+                self.open = Open::Nothing;
+                self.writes.close(listed, place)
+            }
+        }
+    }
+}

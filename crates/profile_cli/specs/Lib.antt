@@ -1,0 +1,6 @@
+pub mod Usage
+pub mod Request
+pub mod Command
+pub mod Outcomes
+pub mod Output
+pub mod FilesRead

@@ -1,0 +1,8 @@
+-- What a command asks for.
+use Rattle.std.specs.Prelude.{ℕ, List}
+use Rattle.rel_base.specs.declared.nulls.Nulls.{Nulls}
+
+-- the reports of these files, in this order, with NULL read so
+pub record Request : Type 0 where
+  pub nulls : Nulls
+  pub files : List (List ℕ)

@@ -1,0 +1,15 @@
+//! The top call: words, files and input to the text that a run writes.
+#![tactic(auto)]
+
+mod command;
+mod outcome;
+mod reading;
+mod reports;
+#[cfg(test)]
+mod tests;
+mod top_call;
+mod usage;
+
+pub use outcome::Outcome;
+pub use top_call::run;
+pub use usage::usage_line;

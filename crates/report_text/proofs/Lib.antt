@@ -1,0 +1,4 @@
+pub mod LineText
+pub mod ColumnsText
+pub mod Numbered
+pub mod Marks

@@ -1,0 +1,6 @@
+pub mod Line
+pub mod Field
+pub mod Report
+pub mod Inclusions
+pub mod Tables
+pub mod Outcome

@@ -1,0 +1,155 @@
+// Lines under construction.
+ghost use Rattle.std.specs.Prelude.{◌≡◌, ◌++◌, ◌∷◌, ◌<◌, ◌-◌, ◌^◌, ℕ, List, [], length, map, IfOk, OnOk, OnErr};
+ghost use Rattle.report_text.specs.Field.{field_bytes};
+ghost use Rattle.report_text.specs.Line.{line, text_in, IsAtLine, HasFields};
+
+use crate::field::{Field, write_columns};
+use csv::{Writer, WriterBuilder};
+use itoa::Buffer;
+use rel_base::Row;
+use std::alloc::{AllocError, Global};
+use std::marker::Model;
+
+/// Lines of a text, added one after another. Contracts see the text so far.
+///
+/// Each call that adds lines takes time that grows with their text alone. Where memory is refused
+/// the text is lost: there are no lines then, and more can be added.
+#[derive(Drop)]
+pub struct Lines {
+    writer: Writer<Vec<u8>>,
+    // The text of the last column set, whose memory is used again.
+    columns: Vec<u8>,
+    alloc: Global,
+}
+
+impl Model for Lines {
+    ghost use Rattle.std.specs.Prelude.{List, ℕ};
+    ghost use Rattle.report_text.specs.Line.{text_in, IsAtLine};
+
+    ghost Value = { List ℕ };
+
+    ghost view = { λ l. text_in l.writer };
+
+    ghost invariant = { λ l. IsAtLine l.writer };
+}
+
+impl Lines {
+    /// No lines yet, which takes no memory.
+    pub fn new(alloc: Global) -> Lines
+        ensures { result ≡ [] }
+    {
+        let writer = WriterBuilder::new()
+            .flexible(true)
+            .from_writer(Vec::new(alloc));
+        Lines {
+            writer,
+            columns: Vec::new(alloc),
+            alloc,
+        }
+    }
+
+    /// The text. Where memory is refused it is lost.
+    pub fn into_text(self) -> Result<Vec<u8>, AllocError>
+        ensures { IfOk result (λ text. text.items ≡ self) }
+    {
+        match self.writer.into_inner() {
+            Ok(text) => Ok(text),
+            Err(_) => Err(AllocError),
+        }
+    }
+
+    // What new memory is asked of.
+    pub(crate) fn allocator(&self) -> Global {
+        self.alloc
+    }
+
+    // Forgets all lines.
+    pub(crate) fn clear(&mut self)
+        ensures { self.new ≡ [] }
+    {
+        *self = Lines::new(self.alloc);
+    }
+
+    // Adds a line of these fields.
+    pub(crate) fn push(&mut self, fields: &[Field<'_>]) -> Result<(), AllocError>
+        ensures ok { OnOk result (self.new ≡ self.old ++ line (map field_bytes fields.now)) }
+        ensures err { OnErr result (self.new ≡ []) }
+    {
+        if write_line(&mut self.writer, &mut self.columns, fields).is_err() {
+            *self = Lines::new(self.alloc);
+            return Err(AllocError);
+        }
+        Ok(())
+    }
+
+    // Adds a line of the cells of a row.
+    pub(crate) fn push_row(&mut self, row: &Row) -> Result<(), AllocError>
+        ensures ok { OnOk result (self.new ≡ self.old ++ line row.now) }
+        ensures err { OnErr result (self.new ≡ []) }
+    {
+        if write_row(&mut self.writer, row).is_err() {
+            *self = Lines::new(self.alloc);
+            return Err(AllocError);
+        }
+        Ok(())
+    }
+}
+
+fn write_line(
+    writer: &mut Writer<Vec<u8>>,
+    columns: &mut Vec<u8>,
+    fields: &[Field<'_>],
+) -> Result<(), AllocError>
+    requires { IsAtLine writer.old }
+    ensures at_line { OnOk result (IsAtLine writer.new) }
+    ensures text { OnOk result (text_in writer.new ≡ text_in writer.old ++ line (map field_bytes fields.now)) }
+{
+    for field in fields {
+        write_field(writer, columns, field)?;
+    }
+    end_line(writer)
+}
+
+fn write_row(writer: &mut Writer<Vec<u8>>, row: &Row) -> Result<(), AllocError>
+    requires { IsAtLine writer.old }
+    ensures at_line { OnOk result (IsAtLine writer.new) }
+    ensures text { OnOk result (text_in writer.new ≡ text_in writer.old ++ line row.now) }
+{
+    for place in 0..row.len() {
+        write_bytes(writer, row.cell(place))?;
+    }
+    end_line(writer)
+}
+
+fn write_field(
+    writer: &mut Writer<Vec<u8>>,
+    columns: &mut Vec<u8>,
+    field: &Field<'_>,
+) -> Result<(), AllocError>
+    ensures { OnOk result ((text : List ℕ) (fields : List (List ℕ)) → length fields < 2 ^ 64 - 1
+        → HasFields text fields writer.old → HasFields text (fields ++ field_bytes field.now ∷ []) writer.new) }
+{
+    match field {
+        Field::Bytes(bytes) => write_bytes(writer, bytes),
+        Field::Number(number) => write_bytes(writer, Buffer::new().format(*number).as_bytes()),
+        Field::Columns(set) => {
+            write_columns(columns, *set)?;
+            write_bytes(writer, columns.as_slice())
+        }
+    }
+}
+
+// A writer into a vector fails only where the vector is refused memory.
+fn write_bytes(writer: &mut Writer<Vec<u8>>, bytes: &[u8]) -> Result<(), AllocError>
+    ensures { OnOk result ((text : List ℕ) (fields : List (List ℕ)) → length fields < 2 ^ 64 - 1
+        → HasFields text fields writer.old → HasFields text (fields ++ bytes.now ∷ []) writer.new) }
+{
+    writer.write_field(bytes).map_err(|_| AllocError)
+}
+
+fn end_line(writer: &mut Writer<Vec<u8>>) -> Result<(), AllocError>
+    ensures at_line { OnOk result ((text : List ℕ) (fields : List (List ℕ)) → HasFields text fields writer.old → IsAtLine writer.new) }
+    ensures text { OnOk result ((text : List ℕ) (fields : List (List ℕ)) → HasFields text fields writer.old → text_in writer.new ≡ text ++ line fields) }
+{
+    writer.end_record().map_err(|_| AllocError)
+}

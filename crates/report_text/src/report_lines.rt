@@ -1,0 +1,88 @@
+// The report of a relation.
+ghost use Rattle.std.specs.Prelude.{◌≡◌, ◌++◌, [], IfOk, OnOk, OnErr};
+ghost use Rattle.std.specs.List.{enumerate_from, flat_map};
+ghost use Rattle.report_text.specs.Report.{report_text, column_line, key_line, fd_line};
+
+use crate::Lines;
+use crate::field::Field;
+use rel_base::{ColSet, Covers, Fd, Name, Row};
+use std::alloc::{AllocError, Global};
+
+/// The report of a relation: its name, the number of its live rows, its columns, its minimal keys
+/// and its minimal dependencies.
+pub fn report(
+    alloc: Global,
+    name: &Name,
+    names: &Row,
+    rows: u64,
+    covers: &Covers,
+) -> Result<Vec<u8>, AllocError>
+    ensures { IfOk result (λ text. text.items ≡ report_text name.now names.now rows covers.now) }
+{
+    let mut lines = Lines::new(alloc);
+    lines.push_report(name, names, rows, covers)?;
+    lines.into_text()
+}
+
+impl Lines {
+    /// Adds what `report` gives.
+    #[tactic(auto, unfolding(crate::specs::Report::report_text))]
+    pub fn push_report(
+        &mut self,
+        name: &Name,
+        names: &Row,
+        rows: u64,
+        covers: &Covers,
+    ) -> Result<(), AllocError>
+        ensures ok { OnOk result (self.new ≡ self.old ++ report_text name.now names.now rows covers.now) }
+        ensures err { OnErr result (self.new ≡ []) }
+    {
+        self.push(&[
+            Field::Bytes(b"relation"),
+            Field::Bytes(name.bytes()),
+            Field::Number(names.len() as u64),
+            Field::Number(rows),
+        ])?;
+        self.push_columns(names)?;
+        self.push_keys(covers.keys())?;
+        self.push_fds(covers.fds())
+    }
+
+    fn push_columns(&mut self, names: &Row) -> Result<(), AllocError>
+        ensures ok { OnOk result (self.new ≡ self.old ++ flat_map column_line (enumerate_from 1 names.now)) }
+        ensures err { OnErr result (self.new ≡ []) }
+    {
+        for place in 0..names.len() {
+            self.push(&[
+                Field::Bytes(b"column"),
+                Field::Number(place as u64 + 1),
+                Field::Bytes(names.cell(place)),
+            ])?;
+        }
+        Ok(())
+    }
+
+    fn push_keys(&mut self, keys: &[ColSet]) -> Result<(), AllocError>
+        ensures ok { OnOk result (self.new ≡ self.old ++ flat_map key_line keys.now) }
+        ensures err { OnErr result (self.new ≡ []) }
+    {
+        for key in keys {
+            self.push(&[Field::Bytes(b"key"), Field::Columns(*key)])?;
+        }
+        Ok(())
+    }
+
+    fn push_fds(&mut self, fds: &[Fd]) -> Result<(), AllocError>
+        ensures ok { OnOk result (self.new ≡ self.old ++ flat_map fd_line fds.now) }
+        ensures err { OnErr result (self.new ≡ []) }
+    {
+        for fd in fds {
+            self.push(&[
+                Field::Bytes(b"fd"),
+                Field::Columns(fd.left),
+                Field::Number(u64::from(fd.right) + 1),
+            ])?;
+        }
+        Ok(())
+    }
+}
