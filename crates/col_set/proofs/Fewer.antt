@@ -1,8 +1,8 @@
 -- What fewer agree sets leave.
-use Rattle.std.proofs.Common.{inl, inr, ◌≡◌, ◌⊎◌, ℕ, Bool, true, false, not, ◌&&◌, refl, sym, ap, ◌∙◌, List, ◌++◌}
-use Rattle.std.proofs.lemmas.Bool.{true≢false, and_parts, and_from, not-true, false_from_ne_true}
+use Rattle.std.proofs.Common.{inl, inr, ◌≡◌, ◌⊎◌, ℕ, Bool, true, false, not, ◌&&◌, refl, sym, ◌∙◌, List, ◌++◌}
+use Rattle.std.proofs.lemmas.Bool.{true≢false, and_parts, not-true, false_from_ne_true}
 use Rattle.col_set.specs.declared.target.Target.{Target}
-use Rattle.col_set.specs.ColSet.{IsSubset, subset}
+use Rattle.col_set.specs.ColSet.{subset}
 use Rattle.col_set.specs.Target.{has_target}
 use Rattle.col_set.specs.Evidence.{IsLeast, refuted, least}
 use Rattle.col_set.specs.Lists.{Listed, Listed-append_left, Listed-append_cases, list_any_at, list_any_which}

@@ -1,10 +1,9 @@
 -- What `least` lists, and that below each set that stands there is a least one.
-use Rattle.std.proofs.Common.{map, ◌≡◌, ℕ, ◌^◌, ◌<◌, Bool, true, false, not, ◌&&◌, ◌||◌, refl, sym, ap, ◌∙◌, List, [], ◌∷◌}
-use Rattle.std.specs.List.{filter, list_all, list_any}
+use Rattle.std.proofs.Common.{◌≡◌, ℕ, ◌^◌, ◌<◌, true, false, not, ◌&&◌, refl, sym, ◌∙◌, List}
 use Rattle.std.proofs.lemmas.Bool.{and_parts, and_from, true≢false, not-true, not_from_false, false_from_ne_true}
 use Rattle.col_set.specs.declared.target.Target.{Target}
 use Rattle.col_set.specs.declared.target.Target.TheVariants.{Col, RowId}
-use Rattle.col_set.specs.ColSet.{subset, upto, all_sets}
+use Rattle.col_set.specs.ColSet.{subset, all_sets}
 use Rattle.col_set.specs.Target.{has_target}
 use Rattle.col_set.specs.Minimal.{is_minimal}
 use Rattle.col_set.specs.Evidence.{refuted, least}

@@ -1,5 +1,5 @@
 -- The fault that closing leaves behind.
-use Rattle.std.specs.Prelude.{◌≡◌, Option, List, ℕ, Some, None}
+use Rattle.std.specs.Prelude.{◌≡◌, Option, List, ℕ, Some}
 use Rattle.depprof.specs.declared.file_shelf.Held.{Held}
 use Rattle.depprof.specs.declared.file_shelf.Fault.{Fault}
 use Rattle.depprof.specs.declared.file_shelf.Fault.TheVariants.{Nowhere, Read, Write}

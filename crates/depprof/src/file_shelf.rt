@@ -4,10 +4,9 @@ ghost use Rattle.depprof.specs.Faults.{StandsAt};
 
 use ports::{Closing, Creating, Opening, Reading, Shelf, Writing};
 use rel_base::Name;
-use std::fs;
 use std::io::{Read, Write};
-use std::mem;
 use std::rt::Files;
+use std::{fs, mem};
 
 /// What is open, under its name, and whether a call on it failed.
 #[derive(Drop)]
@@ -155,7 +154,11 @@ fn fault_of<F: Drop>(held: Held<F>) -> Fault
         Held::Nothing => Fault::Nowhere,
         Held::ForReading { name, file, failed } => {
             drop(file);
-            if failed { Fault::Read(name) } else { Fault::Nowhere }
+            if failed {
+                Fault::Read(name)
+            } else {
+                Fault::Nowhere
+            }
         }
         Held::ForWriting { name, file, failed } => {
             drop(file);

@@ -11,10 +11,9 @@ use ports::OpenGate;
 use profile_cli::run;
 use rel_base::Limits;
 use std::alloc::{AllocError, Global};
-use std::env;
-use std::rt::Env;
-use std::io;
 use std::process::ExitCode;
+use std::rt::Env;
+use std::{env, io};
 use streams::{StandardIn, StandardOut};
 
 /// How the program ends where its words can't be gathered.

@@ -1,18 +1,22 @@
 use crate::WordsFault;
 use crate::file_shelf::FileShelf;
 use crate::streams::{StandardIn, StandardOut};
-use ports::{Closing, Creating, Loading, OpenGate, Reading, Shelf, Sink, Source, Storing, SureSink, Writing};
-use ports::{load_file, store_file};
+use ports::{
+    Closing, Creating, Loading, OpenGate, Reading, Shelf, Sink, Source, Storing, SureSink, Writing,
+    load_file, store_file,
+};
 use profile_cli::run;
 use rel_base::{Limits, Name};
-use std::io;
 use std::test::Fail;
-use std::{env, fs};
+use std::{env, fs, io};
 
 // A path in the system's folder for such files, which no other run of the tests uses.
 fn own_path(rt: &HostRuntime) -> Result<String, Fail> {
     let folder = env::temp_dir(rt)?;
-    let folder = folder.as_path().to_str().ok_or("a folder whose name is no text")?;
+    let folder = folder
+        .as_path()
+        .to_str()
+        .ok_or("a folder whose name is no text")?;
     Ok(format!(in rt.alloc(); "{folder}/depprof-test-{}", std::process::id(rt.process()))?)
 }
 
@@ -50,7 +54,14 @@ fn an_absent_file_is_a_read_fault(rt: HostRuntime) -> Result<(), Fail> {
     let mut input = StandardIn::new(&rt);
     let mut out = SureSink::with_room(alloc, 100)?;
     let outcome = run(
-        &rt, alloc, words, &mut shelf, &mut input, &mut out, &OpenGate, Limits::standard(),
+        &rt,
+        alloc,
+        words,
+        &mut shelf,
+        &mut input,
+        &mut out,
+        &OpenGate,
+        Limits::standard(),
     );
     assert!(rt; outcome.status() == 4);
     assert!(rt; out.bytes() == b"fault,read,no-such-folder/absent.csv\n".as_slice());

@@ -1,5 +1,5 @@
 -- One more column, one more row, and the pairs of a relation's rows by their numbers.
-use Rattle.std.proofs.Common.{inl, inr, ◌≡◌, ◌⊎◌, ℕ, zero, suc, ◌+◌, ◌-◌, ◌<◌, ◌≤◌, Bool, true, false, eqb, refl, sym, ap, ap₂, ◌∙◌, subst, arith, List, [], ◌∷◌, ◌++◌, length, get_or, drop, map, append_assoc, append-nil, Result, Ok, Err}
+use Rattle.std.proofs.Common.{inl, inr, ◌≡◌, ◌⊎◌, ℕ, zero, suc, ◌+◌, ◌-◌, true, false, eqb, refl, sym, ap, ap₂, ◌∙◌, subst, arith, List, [], ◌∷◌, ◌++◌, length, get_or, map, append_assoc, append-nil, Result, Ok, Err}
 use Rattle.std.specs.List.{All, range_with_len, flat_map}
 use Rattle.std.proofs.lemmas.Bool.{or_cases, or_left, or_right, cases_eq, eqb-true, eq-eqb, true≢false}
 use Rattle.std.proofs.lemmas.List.{map-append, length-append}
@@ -11,9 +11,9 @@ use Rattle.col_set.specs.Members.{has-with, same_set}
 use Rattle.rel_base.specs.declared.nulls.Nulls.{Nulls}
 use Rattle.rel_base.specs.Cells.{Row, cell}
 use Rattle.rel_base.specs.Relation.{Content}
-use Rattle.rel_base.specs.RowState.{RowState, opened, row, width}
+use Rattle.rel_base.specs.RowState.{opened, row}
 use Rattle.rel_base.specs.Agreement.{agrees, agree}
-use Rattle.rel_base.specs.Validity.{agree_of, agree_sets, pairs}
+use Rattle.rel_base.specs.Validity.{agree_sets, pairs}
 use Rattle.std.specs.Prelude.{IfOk}
 use Rattle.rel_base.specs.Covers.{CoverLists, covers}
 use Rattle.rel_base.specs.Laws.{least_covers}

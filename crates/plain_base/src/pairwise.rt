@@ -34,7 +34,11 @@ pub fn agree(nulls: Nulls, columns: u8, one: &Row, other: &Row) -> ColSet
 {
     let mut set = ColSet::empty();
     for column in 0..columns {
-        if cells_agree(nulls, one.cell(column as usize), other.cell(column as usize)) {
+        if cells_agree(
+            nulls,
+            one.cell(column as usize),
+            other.cell(column as usize),
+        ) {
             set = set.with(column);
         }
     }
@@ -106,11 +110,7 @@ fn least_fds(alloc: Global, columns: u8, agree_sets: &[ColSet]) -> Result<Vec<Fd
 /// The keys and dependencies that these agree sets of so many columns leave: for each target those column sets that no agree
 /// set refutes, and of which no part is such a set.
 #[tactic(auto, unfolding(rel_base::specs::Laws::least_covers))]
-pub fn least_covers(
-    alloc: Global,
-    columns: u8,
-    agree_sets: &[ColSet],
-) -> Result<Covers, AllocError>
+pub fn least_covers(alloc: Global, columns: u8, agree_sets: &[ColSet]) -> Result<Covers, AllocError>
     requires { columns ≤ 128 }
     ensures { IfOk result (λ found. found ≡ laws.least_covers columns agree_sets.now) }
 {

@@ -1,24 +1,24 @@
 -- What operations and batches do to a row state.
-use Rattle.std.proofs.Common.{inl, inr, ◌≡◌, ◌≢◌, ◌⊎◌, ℕ, zero, suc, ◌+◌, ◌-◌, ◌<◌, ◌≤◌, ltb, Bool, true, false, cond, not, refl, sym, ap, ◌∙◌, subst, arith, List, [], ◌∷◌, ◌++◌, length, get_or, Result, Ok, Err}
+use Rattle.std.proofs.Common.{inl, inr, ◌≡◌, ◌⊎◌, ℕ, suc, ◌+◌, ◌-◌, ◌<◌, Bool, true, false, cond, not, refl, sym, ap, ◌∙◌, subst, arith, List, [], ◌∷◌, ◌++◌, length, get_or, Result, Ok, Err}
 use Rattle.std.specs.Prelude.{nat_eq}
-use Rattle.std.specs.List.{All, Contains, filter}
-use Rattle.std.proofs.lemmas.Bool.{true≢false, ltb-false}
+use Rattle.std.specs.List.{All, Contains}
+use Rattle.std.proofs.lemmas.Bool.{ltb-false}
 use Rattle.std.proofs.lemmas.List.{length-append, get_or_append_left}
 use Rattle.col_set.specs.declared.target.Target.{Target}
-use Rattle.col_set.specs.Lists.{Listed, Listed-append_left, Listed-append_right, Listed-append_cases, Listed-filter_parts}
-use Rattle.col_set.proofs.Places.{Climbs, Contains-listed, Listed-contained}
+use Rattle.col_set.specs.Lists.{Listed, Listed-append_left, Listed-append_cases, Listed-filter_parts}
+use Rattle.col_set.proofs.Places.{Contains-listed, Listed-contained}
 use Rattle.rel_base.specs.declared.batch.Op.{Op}
 use Rattle.rel_base.specs.declared.batch.Op.TheVariants.{Insert, Delete, Update}
 use Rattle.rel_base.specs.declared.why.Why.{Why}
 use Rattle.rel_base.specs.declared.why.Why.TheVariants.{Rows, Missing}
 use Rattle.rel_base.specs.Cells.{Row}
 use Rattle.rel_base.specs.Agreement.{agree}
-use Rattle.rel_base.specs.RowState.{RowState, IsRowState, width, next, row}
+use Rattle.rel_base.specs.RowState.{RowState, IsRowState, width, next}
 use Rattle.rel_base.specs.Validity.{agree_of, agree_sets, holds}
 use Rattle.rel_base.specs.Batches.{is_live, is_full, inserted, deleted, applied, go_on, after_from}
 use Rattle.rel_base.specs.Laws.{IsAsWide, Follows}
 use Rattle.rel_base.proofs.States.{All-listed, All-from, increasing-Climbs, Climbs-append, live_climbs, live_positive, live_numbered}
-use Rattle.rel_base.proofs.Valid.{Climbs-filter, Listed-agree_sets, AgreeOf, AgreeOf-agree_sets, determined-fewer}
+use Rattle.rel_base.proofs.Valid.{Climbs-filter, Listed-agree_sets, AgreeOf-agree_sets, determined-fewer}
 
 -- ---- which way a test went
 module _ {X E : Type 0} where

@@ -1,22 +1,19 @@
 -- The definitions at work on small relations, by computing.
-use Rattle.std.proofs.Common.{◌≡◌, ℕ, List, [], ◌∷◌, ◌++◌, refl, Ok, Err, Result}
-use Rattle.std.specs.Prelude.{map}
-use Rattle.col_set.specs.ColSet.{has, with, subset, columns, set_of, all, combinations, all_sets}
+use Rattle.std.proofs.Common.{◌≡◌, [], ◌∷◌, ◌++◌, refl, Ok, Err}
+use Rattle.col_set.specs.ColSet.{has, with, subset, columns, set_of, combinations, all_sets}
 use Rattle.col_set.specs.Target.{has_target}
 use Rattle.col_set.specs.Minimal.{proper_subset, is_minimal}
-use Rattle.col_set.specs.declared.target.Target.TheVariants.{Col, RowId}
 use Rattle.rel_base.specs.declared.nulls.Nulls.TheVariants.{Equal, Distinct}
 use Rattle.rel_base.specs.declared.why.Why.TheVariants.{Rows, Missing}
-use Rattle.rel_base.specs.RowState.{RowState}
 use Rattle.rel_base.specs.Agreement.{agree}
 use Rattle.rel_base.specs.Validity.{pairs, agree_sets, holds}
 use Rattle.rel_base.specs.Minimality.{min_fd, min_key}
 use Rattle.rel_base.specs.Covers.{covers}
 use Rattle.rel_base.specs.Batches.{after}
 use Rattle.rel_base.specs.Shows.{code_agree, live_numbers, code_agree_sets}
-use Rattle.rel_base.specs.Inclusion.{column_cells, all_columns, included, inclusions}
+use Rattle.rel_base.specs.Inclusion.{all_columns, included, inclusions}
 use Rattle.rel_base.specs.Projection.{part, distinct, projected, projection}
-use Rattle.rel_base.specs.Worked.{one, null, two, letters, letter_codes, blanks, parity, exchange, misses, repeats}
+use Rattle.rel_base.specs.Worked.{one, two, letters, letter_codes, blanks, parity, exchange, misses, repeats}
 
 evidence : agree_sets letters ≡ 1 ∷ 0 ∷ 0 ∷ []
 unfolding letters agree_sets pairs agree set_of with

@@ -1,19 +1,18 @@
 -- What the tests of minimal dependencies and keys mean, and that covers are the least sets of the agree sets of the live rows.
-use Rattle.std.proofs.Common.{◌≡◌, ℕ, ◌^◌, ◌<◌, Bool, true, false, not, ◌&&◌, refl, sym, ap, ◌∙◌, List, map}
+use Rattle.std.proofs.Common.{◌≡◌, ℕ, ◌^◌, ◌<◌, Bool, true, not, ◌&&◌, ap}
 use Rattle.std.specs.List.{filter, flat_map}
 use Rattle.std.proofs.lemmas.Bool.{and_parts, and_from, not-true, not_from_false}
-use Rattle.col_set.specs.declared.target.Target.{Target}
 use Rattle.col_set.specs.declared.target.Target.TheVariants.{Col, RowId}
 use Rattle.col_set.specs.ColSet.{has, upto, all_sets}
 use Rattle.col_set.specs.Target.{has_target}
 use Rattle.col_set.specs.Minimal.{is_minimal}
-use Rattle.col_set.specs.Evidence.{refuted, least}
+use Rattle.col_set.specs.Evidence.{least}
 use Rattle.col_set.proofs.Minimal.{IsMinimal-from_test, test_from_IsMinimal}
 use Rattle.col_set.proofs.Places.{Climbs}
 use Rattle.rel_base.specs.RowState.{RowState, width}
-use Rattle.rel_base.specs.Validity.{agree_sets, holds, Holds, unique}
+use Rattle.rel_base.specs.Validity.{agree_sets, holds, unique}
 use Rattle.rel_base.specs.Minimality.{min_fd, MinFd, min_key, MinKey}
-use Rattle.rel_base.specs.Covers.{CoverLists, fds_to, covers}
+use Rattle.rel_base.specs.Covers.{fds_to, covers}
 use Rattle.rel_base.specs.Laws.{least_covers}
 use Rattle.rel_base.proofs.Valid.{Holds-tested, holds-true, holds-refuted}
 

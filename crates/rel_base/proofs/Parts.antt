@@ -1,7 +1,7 @@
 -- What the test of an inclusion means, and what a projection has.
-use Rattle.std.proofs.Common.{inl, inr, ◌≡◌, ◌≢◌, ◌⊎◌, ℕ, zero, suc, ◌<◌, eqb, Bool, true, false, cond, not, ◌&&◌, ◌||◌, refl, sym, ap, ap₂, ◌∙◌, subst, arith, List, [], ◌∷◌, length, map, get_or}
-use Rattle.std.specs.List.{Contains, AllPairs, filter, list_all, list_any}
-use Rattle.std.proofs.lemmas.Bool.{and_parts, and_from, or_cases, or_left, or_right, not-true, not_from_false, true≢false, false≢true, cases_Bool, eqb-false, ne_eqb}
+use Rattle.std.proofs.Common.{inl, inr, ◌≡◌, ◌≢◌, ◌⊎◌, ℕ, zero, suc, ◌<◌, eqb, Bool, true, false, cond, not, ◌||◌, refl, sym, ap, ap₂, ◌∙◌, subst, arith, List, [], ◌∷◌, length, map, get_or}
+use Rattle.std.specs.List.{Contains, AllPairs, filter, list_any}
+use Rattle.std.proofs.lemmas.Bool.{and_parts, and_from, or_cases, or_left, or_right, not-true, true≢false, false≢true, eqb-false, ne_eqb}
 use Rattle.col_set.specs.Lists.{Listed, Listed-filter, Listed-filter_parts, Listed-map, Listed-map_which, list_all_at, list_all_from, list_any_at, list_any_which}
 use Rattle.col_set.specs.ColSet.{Columns}
 use Rattle.col_set.proofs.Places.{Contains-listed, Listed-contained, Listed-get_or}

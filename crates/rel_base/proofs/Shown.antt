@@ -1,18 +1,17 @@
 -- A snapshot that shows a row state has its live numbers and agree sets.
-use Rattle.std.proofs.Common.{inl, inr, ◌≡◌, ◌≢◌, ◌⊎◌, ℕ, zero, suc, ◌+◌, ◌-◌, ◌<◌, ◌≤◌, eqb, Bool, true, refl, sym, ap, ap₂, ◌∙◌, subst, arith, List, [], ◌∷◌, length, map}
-use Rattle.std.specs.List.{filter, range_with_len, Contains}
-use Rattle.std.specs.Ordering.{nat_cmp}
+use Rattle.std.proofs.Common.{inl, inr, ◌≡◌, ◌≢◌, ◌⊎◌, ℕ, zero, suc, ◌+◌, ◌-◌, ◌<◌, ◌≤◌, eqb, refl, sym, ap, ap₂, ◌∙◌, subst, arith, List, [], ◌∷◌, length, map}
+use Rattle.std.specs.List.{range_with_len, Contains}
 use Rattle.std.proofs.lemmas.Bool.{eqb-true, eq-eqb, cases_eq}
 use Rattle.std.proofs.lemmas.Cmp.{nat_cmp_total}
 use Rattle.col_set.specs.declared.target.Target.{Target}
-use Rattle.col_set.specs.ColSet.{has, set_of, upto}
+use Rattle.col_set.specs.ColSet.{upto}
 use Rattle.col_set.specs.Lists.{Listed, Listed-filter, Listed-filter_parts}
 use Rattle.col_set.specs.Subsets.{same_test}
 use Rattle.col_set.specs.Members.{same_set}
 use Rattle.col_set.specs.AllSets.{Ascends, Ascends-range, Ascends_within, set_of-has, has-set_of, Listed-upto, Listed-upto_within}
 use Rattle.col_set.proofs.Places.{Climbs, Contains-listed, Listed-contained, same_rising}
 use Rattle.rel_base.specs.CodeTable.{CodeTable, code_at, live_at}
-use Rattle.rel_base.specs.RowState.{RowState, IsRowState, width, next, row}
+use Rattle.rel_base.specs.RowState.{RowState, IsRowState, width, row}
 use Rattle.rel_base.specs.Validity.{agree_of, agree_sets, pairs, determined, holds}
 use Rattle.rel_base.specs.Shows.{Shows, code_agree, live_numbers, code_agree_sets, holds_in}
 use Rattle.rel_base.proofs.Agree.{agree-parts, PairOf, PairOf-pairs}

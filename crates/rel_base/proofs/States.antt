@@ -1,11 +1,11 @@
 -- Lists of row numbers that ascend, and what a row state has of them.
-use Rattle.std.proofs.Common.{inl, inr, ◌≡◌, ◌⊎◌, ℕ, zero, suc, ◌+◌, ◌-◌, ◌<◌, ◌≤◌, refl, sym, ap, ◌∙◌, subst, arith, List, [], ◌∷◌, ◌++◌, length, get_or, Ordering, Less}
-use Rattle.std.specs.List.{All, Contains}
+use Rattle.std.proofs.Common.{inl, inr, ◌≡◌, ◌⊎◌, ℕ, zero, suc, ◌+◌, ◌<◌, refl, sym, subst, arith, List, [], ◌∷◌, ◌++◌, get_or}
+use Rattle.std.specs.List.{All}
 use Rattle.std.specs.List.Sorted.{IsStrictlyIncreasing}
 use Rattle.std.specs.Ordering.{nat_cmp}
 use Rattle.col_set.specs.Lists.{Listed, Rises, Listed-append_cases}
 use Rattle.col_set.specs.Columns.{nat_cmp-lt}
-use Rattle.col_set.proofs.Places.{Climbs, Climbs-increasing, Listed-contained, Contains-listed, Listed-get_or}
+use Rattle.col_set.proofs.Places.{Climbs, Climbs-increasing, Contains-listed, Listed-get_or}
 use Rattle.rel_base.specs.RowState.{RowState, IsRowState, next}
 
 module _ {X : Type 0} where

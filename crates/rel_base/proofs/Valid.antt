@@ -1,10 +1,10 @@
 -- What the test of a dependency means, and what it has to do with refuted sets.
-use Rattle.std.proofs.Common.{inl, inr, ◌≡◌, ◌≢◌, ℕ, ◌<◌, ltb, Bool, true, false, not, ◌&&◌, ◌||◌, refl, sym, ap, ◌∙◌, subst, arith, List, [], ◌∷◌, map, cond}
-use Rattle.std.specs.List.{filter, list_all, list_any, Contains}
-use Rattle.std.proofs.lemmas.Bool.{false≢true, true≢false, and_parts, and_from, cases_Bool, ltb-true, lt-ltb}
+use Rattle.std.proofs.Common.{inl, inr, ◌≡◌, ◌≢◌, ℕ, ◌<◌, ltb, Bool, true, false, not, ◌&&◌, ◌||◌, refl, ap, ◌∙◌, subst, arith, List, [], ◌∷◌, cond}
+use Rattle.std.specs.List.{filter, Contains}
+use Rattle.std.proofs.lemmas.Bool.{false≢true, ltb-true, lt-ltb}
 use Rattle.col_set.specs.declared.target.Target.{Target}
-use Rattle.col_set.specs.declared.target.Target.TheVariants.{Col, RowId}
-use Rattle.col_set.specs.ColSet.{IsSubset, has, subset}
+use Rattle.col_set.specs.declared.target.Target.TheVariants.{RowId}
+use Rattle.col_set.specs.ColSet.{IsSubset, subset}
 use Rattle.col_set.specs.Target.{has_target}
 use Rattle.col_set.specs.Evidence.{refuted}
 use Rattle.col_set.specs.Lists.{Listed, Listed-map, Listed-map_which, Listed-filter, Listed-filter_parts, list_all_at, list_all_from}

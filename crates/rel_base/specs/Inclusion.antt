@@ -1,5 +1,5 @@
 -- Unary inclusion dependencies.
-use Rattle.std.specs.Prelude.{◌≡◌, ◌≢◌, ◌<◌, ℕ, Bool, not, ◌&&◌, ◌||◌, ◌==◌, List, [], length, map, slice_index_or}
+use Rattle.std.specs.Prelude.{◌≢◌, ◌<◌, ℕ, Bool, not, ◌&&◌, ◌||◌, ◌==◌, List, [], length, map, slice_index_or}
 use Rattle.std.specs.List.{filter, flat_map, list_all, list_any, Contains}
 use Rattle.col_set.specs.ColSet.{upto}
 use Rattle.rel_base.specs.Cells.{Cell, cell}

@@ -1,5 +1,5 @@
 -- Projections: the distinct parts of rows on some columns.
-use Rattle.std.specs.Prelude.{ℕ, Bool, not, List, [], ◌∷◌, map}
+use Rattle.std.specs.Prelude.{Bool, not, List, [], ◌∷◌, map}
 use Rattle.std.specs.List.{filter}
 use Rattle.std.specs.Cmp.Lexicographic.{pointwise}
 use Rattle.col_set.specs.ColSet.{Columns, all, columns}

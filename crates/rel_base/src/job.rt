@@ -30,13 +30,7 @@ impl Model for Job {
 
 impl Job {
     /// The job of these parts, which takes no memory.
-    pub fn of(
-        target: Target,
-        left: ColSet,
-        from: RowNo,
-        to: RowNo,
-        snapshot: Arc<Snapshot>,
-    ) -> Job
+    pub fn of(target: Target, left: ColSet, from: RowNo, to: RowNo, snapshot: Arc<Snapshot>) -> Job
         ensures target { result.target ≡ target }
         ensures left { result.left ≡ left }
         ensures from { result.from ≡ from }

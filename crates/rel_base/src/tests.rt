@@ -3,7 +3,9 @@ ghost use Rattle.rel_base.specs.declared.nulls.Nulls.TheVariants.{Equal, Distinc
 ghost use Rattle.rel_base.specs.Covers.{covers};
 ghost use Rattle.rel_base.specs.Worked.{letters, blanks};
 
-use crate::{Cell, Codes, Covers, Fd, Job, Limits, Name, Nulls, Relation, Row, RowNo, Snapshot, Why};
+use crate::{
+    Cell, Codes, Covers, Fd, Job, Limits, Name, Nulls, Relation, Row, RowNo, Snapshot, Why,
+};
 use col_set::{ColSet, Target};
 use std::sync::Arc;
 use std::test::Fail;
@@ -56,7 +58,11 @@ fn a_row_packs_its_cells(rt: HostRuntime) -> Result<(), Fail> {
     let cells: [&[u8]; 3] = [b"1", b"", b"Berlin"];
     let row = Row::copied(alloc, &cells)?;
     assert_eq!(rt; row.len(), 3);
-    assert!(rt; row.cell(0) == b"1".as_slice() && row.cell(1).is_empty() && row.cell(2) == b"Berlin".as_slice());
+    assert!(rt;
+        row.cell(0) == b"1".as_slice()
+            && row.cell(1).is_empty()
+            && row.cell(2) == b"Berlin".as_slice()
+    );
     let again = row.clone()?;
     assert!(rt; again.len() == 3);
     assert!(rt; again.cell(2) == b"Berlin".as_slice());
@@ -118,7 +124,10 @@ fn limits_and_relations_keep_what_they_are_given(rt: HostRuntime) -> Result<(), 
 #[test]
 fn a_job_is_made_again(rt: HostRuntime) -> Result<(), Fail> {
     let alloc = rt.alloc();
-    let codes = vec![in alloc; Codes::of(vec![in alloc; 0u32, 0, 1]?), Codes::of(vec![in alloc; 0u32, 1, 2]?)]?;
+    let codes = vec![in alloc;
+        Codes::of(vec![in alloc; 0u32, 0, 1]?),
+        Codes::of(vec![in alloc; 0u32, 1, 2]?),
+    ]?;
     let live = vec![in alloc; true, false, true]?;
     assert!(rt; codes.len() == 2 && live.len() == 3);
     assert!(rt; codes[0].as_slice().len() == 3 && codes[1].as_slice().len() == 3);
@@ -137,6 +146,8 @@ fn a_job_is_made_again(rt: HostRuntime) -> Result<(), Fail> {
     assert!(rt; again.target() == job.target() && again.left() == job.left());
     assert!(rt; again.from() == job.from() && again.to() == job.to());
     assert!(rt; again.snapshot().columns() == 2);
-    assert!(rt; again.snapshot().code(RowNo::first(), 1) != job.snapshot().code(RowNo::first(), 1) + 1);
+    assert!(rt;
+        again.snapshot().code(RowNo::first(), 1) != job.snapshot().code(RowNo::first(), 1) + 1
+    );
     Ok(())
 }

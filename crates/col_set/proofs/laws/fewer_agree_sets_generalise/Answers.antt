@@ -1,6 +1,5 @@
-use Rattle.std.proofs.Common.{inl, inr, ◌⊎◌, ◌++◌, List, ℕ}
+use Rattle.std.proofs.Common.{inl, inr, ◌⊎◌, ◌++◌}
 use Rattle.std.specs.List.{Contains}
-use Rattle.col_set.specs.declared.target.Target.{Target}
 use Rattle.col_set.specs.Evidence.{least}
 use Rattle.col_set.specs.Laws.{WithdrawnInside}
 use Rattle.col_set.proofs.Places.{Contains-listed, Listed-contained}

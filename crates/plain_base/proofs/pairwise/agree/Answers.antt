@@ -1,6 +1,6 @@
-use Rattle.std.proofs.Common.{◌≡◌, ◌∙◌, ℕ, List, Bool, true, false, sym, ap, ap₂}
+use Rattle.std.proofs.Common.{◌≡◌, ◌∙◌, ℕ, sym, ap, ap₂}
 use Rattle.col_set.specs.ColSet.{with}
-use Rattle.rel_base.specs.Cells.{Cell, cell}
+use Rattle.rel_base.specs.Cells.{cell}
 use Rattle.rel_base.specs.Agreement.{agrees}
 use Rattle.plain_base.proofs.Pairs.{agree_none, agree_more, agree_same}
 use Rattle.plain_base.proofs.pairwise.agree.Goals as goal
@@ -12,7 +12,7 @@ loop-column-init c = c.empty-set.ensures ∙ agree_none c.args.nulls c.args.one.
 pub loop-column-preserved : goal.loop-column-preserved
 loop-column-preserved c =
     let cells : agrees c.args.nulls c.cell.result.now c.cell-in-loop-column.result.now ≡ agrees c.args.nulls (cell c.args.one.now c.loop-column.column) (cell c.args.other.now c.loop-column.column)
-        = ap₂ (agrees c.args.nulls) c.cell.ensures c.cell-in-loop-column.ensures in
+    = ap₂ (agrees c.args.nulls) c.cell.ensures c.cell-in-loop-column.ensures in
     elim c.if-cells_agree.branch [
       | then-cells_agree w ↦
           w.set-is ∙ w.with-set.ensures ∙ ap (λ (x : ℕ). with x c.loop-column.column) c.loop-column.invariant

@@ -1,5 +1,4 @@
-use Rattle.std.proofs.Common.{◌≡◌, ◌∙◌, ◌++◌, ◌∷◌, ℕ, List, sym, map, length}
-use Rattle.std.specs.List.{All}
+use Rattle.std.proofs.Common.{◌≡◌, ◌∷◌, map, length}
 use Rattle.rel_base.specs.Cells.{Row}
 use Rattle.rel_base.specs.Agreement.{agree}
 use Rattle.rel_base.specs.Validity.{pairs}

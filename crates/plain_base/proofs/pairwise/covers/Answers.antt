@@ -1,4 +1,4 @@
-use Rattle.std.proofs.Common.{◌∙◌, ap, length, List}
+use Rattle.std.proofs.Common.{◌∙◌, ap, length}
 use Rattle.rel_base.specs.Cells.{Row}
 use Rattle.plain_base.proofs.Pairs.{covers_found}
 use Rattle.plain_base.proofs.pairwise.covers.Goals as goal

@@ -1,7 +1,6 @@
-use Rattle.std.proofs.Common.{◌≡◌, ◌∙◌, ◌++◌, ℕ, List, sym, ap, ap₂}
-use Rattle.std.specs.List.{flat_map}
+use Rattle.std.proofs.Common.{◌∙◌, ◌++◌, List, sym, ap₂}
 use Rattle.col_set.specs.declared.target.Target.TheVariants.{Col}
-use Rattle.col_set.specs.ColSet.{Columns, upto}
+use Rattle.col_set.specs.ColSet.{Columns}
 use Rattle.col_set.specs.Evidence.{least}
 use Rattle.rel_base.specs.declared.dependency.Fd.{Fd}
 use Rattle.rel_base.specs.Covers.{fds_to}

@@ -1,6 +1,5 @@
-use Rattle.std.proofs.Common.{◌≡◌, ℕ, List, [], ◌∷◌, refl, sym, ap, ap₂, ◌∙◌}
-use Rattle.col_set.specs.ColSet.{with, without, all, Columns}
-use Rattle.rel_base.specs.declared.dependency.Fd.{Fd}
+use Rattle.std.proofs.Common.{◌≡◌, ℕ, [], ◌∷◌, refl, sym, ap, ◌∙◌}
+use Rattle.col_set.specs.ColSet.{with}
 use Rattle.rel_base.specs.Covers.{CoverLists}
 use Rattle.rel_base.proofs.Examples.{covers-letters}
 use Rattle.rel_base.proofs.tests.letters_key.Goals as goal

@@ -1,4 +1,4 @@
-use Rattle.std.proofs.Common.{◌≡◌, ◌<◌, ◌∙◌, ℕ, List, ◌∷◌, length, Option, sym, ap, subst, arith, refl}
+use Rattle.std.proofs.Common.{◌≡◌, ◌∙◌, ℕ, ◌∷◌, length, Option, sym, ap, subst, arith}
 use Rattle.std.specs.Iterator.{YieldsFirst}
 use Rattle.col_set.specs.declared.col_set.ColumnIter.{ColumnIter}
 use Rattle.col_set.specs.ColSet.{columns}

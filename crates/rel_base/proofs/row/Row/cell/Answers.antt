@@ -1,4 +1,4 @@
-use Rattle.std.proofs.Common.{◌∙◌, ◌<◌, ◌≡◌, sym, subst, length, ℕ, List, get_or, []}
+use Rattle.std.proofs.Common.{◌<◌, ◌≡◌, sym, subst, length, ℕ, List, get_or, []}
 use Rattle.csv.specs.Records.{fields_of}
 use Rattle.rel_base.proofs.Fields.{field-there, field-now}
 use Rattle.rel_base.proofs.row.Row.cell.Goals as goal
