@@ -9,7 +9,7 @@ use Rattle.rel_base.specs.Agreement.{agree}
 use Rattle.rel_base.specs.Validity.{pairs, agree_sets, holds}
 use Rattle.rel_base.specs.Minimality.{min_fd, min_key}
 use Rattle.rel_base.specs.Covers.{covers}
-use Rattle.rel_base.specs.Batches.{after}
+use Rattle.rel_base.specs.Batches.{after, insert_count, delete_count}
 use Rattle.rel_base.specs.Shows.{code_agree, live_numbers, code_agree_sets}
 use Rattle.rel_base.specs.Inclusion.{all_columns, included, inclusions}
 use Rattle.rel_base.specs.Projection.{part, distinct, projected, projection}
@@ -72,3 +72,12 @@ parts-letters = refl
 included-blanks : inclusions (all_columns (blanks Equal ∷ [])) ≡ (0, 1) ∷ []
 unfolding blanks inclusions included
 included-blanks = refl
+
+-- an update counts as an insert and as a delete
+brought : insert_count (repeats ++ exchange) ≡ 2
+unfolding repeats exchange
+brought = refl
+
+ended : delete_count (repeats ++ exchange) ≡ 2
+unfolding repeats exchange
+ended = refl

@@ -1,5 +1,5 @@
 -- What a batch does to a row state (DynFD's batches, Schirmer and others, 2019, with updates as one operation).
-use Rattle.std.specs.Prelude.{if◌then◌else◌, ℕ, ◌+◌, nat_lt, nat_eq, Bool, not, List, [], ◌∷◌, ◌++◌, Result, Ok, Err}
+use Rattle.std.specs.Prelude.{if◌then◌else◌, ℕ, ◌+◌, nat_lt, nat_eq, Bool, not, List, [], ◌∷◌, ◌++◌, Result, Ok, Err, true, false, count_by}
 use Rattle.std.specs.List.{filter, list_any}
 use Rattle.rel_base.specs.declared.batch.Op.{Op}
 use Rattle.rel_base.specs.declared.batch.Op.TheVariants.{Insert, Delete, Update}
@@ -49,3 +49,21 @@ after r ops = after_from 1 r ops
 abbrev pub kept_or_after : RowState → Result RowState (ℕ × Why) → RowState
 kept_or_after r (Ok s) = s
 kept_or_after r (Err e) = r
+
+-- whether an operation brings a row, and whether it ends one: an update does both
+abbrev pub is_insert : Op → Bool
+is_insert (Insert row) = true
+is_insert (Delete number) = false
+is_insert (Update number row) = true
+
+abbrev pub is_delete : Op → Bool
+is_delete (Insert row) = false
+is_delete (Delete number) = true
+is_delete (Update number row) = true
+
+-- how many operations of a batch bring a row, and how many end one
+abbrev pub insert_count : List Op → ℕ
+insert_count ops = count_by is_insert ops
+
+abbrev pub delete_count : List Op → ℕ
+delete_count ops = count_by is_delete ops

@@ -14,7 +14,7 @@ use Rattle.rel_base.specs.Validity.{agree_sets, holds, Holds, holds_below, Holds
 use Rattle.rel_base.specs.Minimality.{min_fd, MinFd, min_key, MinKey}
 use Rattle.rel_base.specs.Covers.{CoverLists, fds_to, covers}
 use Rattle.rel_base.specs.Batches.{applied, after_from}
-use Rattle.rel_base.specs.Shows.{Shows, holds_in}
+use Rattle.rel_base.specs.Shows.{holds_in, HoldsIn, holds_in_below, HoldsInBelow}
 use Rattle.rel_base.specs.Inclusion.{included, Included}
 use Rattle.rel_base.specs.Projection.{part, projection}
 
@@ -79,6 +79,12 @@ pub record ProjectionMeans (r : RowState) (s : Columns) : Type 0 where
   pub once : AllPairs (λ p q. p ≢ q) (projection r s)
 
 -- ---- snapshots
--- A dependency holds in the codes of a snapshot exactly where it holds in the row state that it shows.
-abbrev pub SnapshotsShow : Type 0
-SnapshotsShow = (s : CodeTable) (r : RowState) (x : Columns) (t : Target) → IsRowState r → Shows s r → holds_in s x t ≡ holds r x t
+-- A dependency holds in the codes of a snapshot, and among its rows below a number, exactly where it holds so in the row state that it shows.
+pub record SnapshotsShow (s : CodeTable) (r : RowState) : Type 0 where
+  pub all : (x : Columns) (t : Target) → holds_in s x t ≡ holds r x t
+  pub among : (b : ℕ) (x : Columns) (t : Target) → holds_in_below b s x t ≡ holds_below b r x t
+
+-- The tests of a dependency in a snapshot say what the facts say.
+pub record SnapshotTestsMean (s : CodeTable) : Type 0 where
+  pub dependency : (x : Columns) (t : Target) → (holds_in s x t ≡ true) ↔ HoldsIn s x t
+  pub among : (b : ℕ) (x : Columns) (t : Target) → (holds_in_below b s x t ≡ true) ↔ HoldsInBelow b s x t

@@ -1,7 +1,9 @@
 // Laws of the definitions in specs/. Each function does nothing, and its contract is the law.
 ghost use Rattle.col_set.specs.ColSet.{Columns};
+ghost use Rattle.rel_base.specs.CodeTable.{CodeTable};
 ghost use Rattle.rel_base.specs.RowState.{RowState, IsRowState};
-ghost use Rattle.rel_base.specs.Laws.{TestsMean, MoreColumnsKeep, KeysDetermine, CoversAreLeast, BatchesFollow, InsertsAndDeletes, InclusionsMean, ProjectionMeans, SnapshotsShow};
+ghost use Rattle.rel_base.specs.Shows.{Shows};
+ghost use Rattle.rel_base.specs.Laws.{TestsMean, MoreColumnsKeep, KeysDetermine, CoversAreLeast, BatchesFollow, InsertsAndDeletes, InclusionsMean, ProjectionMeans, SnapshotsShow, SnapshotTestsMean};
 
 /// The tests of a dependency, of one among the rows below a number, of a minimal one and of a minimal key say what the facts say.
 pub fn tests_say_what_the_facts_say()
@@ -35,7 +37,12 @@ pub fn inserts_break_and_deletes_mend()
 
 /// A dependency holds in a snapshot's codes exactly where it holds in the row state that the snapshot shows.
 pub fn snapshots_show_dependencies()
-    ensures { SnapshotsShow }
+    ensures { (s : CodeTable) (r : RowState) → IsRowState r → Shows s r → SnapshotsShow s r }
+{}
+
+/// The tests of a dependency in a snapshot say what the facts say.
+pub fn snapshot_tests_say_what_the_facts_say()
+    ensures { (s : CodeTable) → SnapshotTestsMean s }
 {}
 
 /// The test of an inclusion says what the fact says.
