@@ -1,3 +1,4 @@
+pub mod Counting
 pub mod Moving
 pub mod Contents
 pub mod Shelves

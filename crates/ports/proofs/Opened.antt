@@ -1,9 +1,8 @@
 -- What a shelf of which calls may fail shows of the file that is open.
-use Rattle.std.proofs.Common.{◌≡◌, ◌==◌, ◌∙◌, refl, sym, ap, subst, ℕ, ◌+◌, ◌<◌, ◌≤◌, arith, List, [], ◌∷◌, ◌++◌, length, get_or, drop, Option, None, Some, unwrap_or, Bool, true, false, cond}
+use Rattle.std.proofs.Common.{◌≡◌, ◌==◌, ◌∙◌, refl, sym, ap, subst, ℕ, ◌<◌, arith, List, [], ◌++◌, length, None, Some, unwrap_or, Bool, true, false, cond}
 use Rattle.std.proofs.Math.ListN.{set, length-set}
 use Rattle.std.proofs.lemmas.Bool.{false≢true, eqb-true, eq-eqb}
-use Rattle.std.specs.Option.{option_map}
-use Rattle.ports.specs.Files.{Files, Access, Nothing as NothingOpen, ForReading, bytes_of, from_start, with_file, with_more}
+use Rattle.ports.specs.Files.{Nothing as NothingOpen, ForReading, bytes_of, from_start, with_file, with_more}
 use Rattle.ports.specs.Lists.{File, look_up, IsPlaceOf, file_at, KeepsNames}
 use Rattle.ports.specs.Memory.{Room}
 use Rattle.ports.specs.MemShelf.{told, opened_of, is_written, IsOpen, IsNamed}

@@ -1,11 +1,12 @@
 -- What calls on an open file leave.
-use Rattle.std.proofs.Common.{◌≡◌, ◌∙◌, ap, sym, inr, ℕ, ◌+◌, List, [], length, take, take_all, le_refl, drop, Option, subst}
+use Rattle.std.proofs.Common.{◌≡◌, ◌∙◌, ap, sym, inr, ℕ, ◌+◌, List, [], length, take, take_all, le_refl, drop, Option}
 use Rattle.std.specs.Option.{option_map}
-use Rattle.ports.specs.declared.storing.Storing.{Storing}
-use Rattle.ports.specs.declared.storing.Storing.TheVariants.{Stored, Failed}
+use Rattle.ports.specs.declared.whole_files.Storing.{Storing}
+use Rattle.ports.specs.declared.whole_files.Storing.TheVariants.{Stored, Failed}
 use Rattle.ports.specs.Faults.{SameFaults}
 use Rattle.ports.specs.Files.{Files, Access, ForReading, ForWriting, name_of, left_of, with_file, with_more}
 use Rattle.ports.specs.Whole.{AppendsTo, Stores}
+use Rattle.ports.proofs.Counting.{SameFaults-trans}
 use Rattle.ports.proofs.Contents.{more-more, more-of_created}
 
 module _ {S : Type 0} (opened : S → Access) (content : S → Option Files) (read_faults : S → ℕ) (read_last : S → Option (List ℕ)) (write_faults : S → ℕ) (write_last : S → Option (List ℕ)) where
@@ -22,9 +23,6 @@ module _ {S : Type 0} (opened : S → Access) (content : S → Option Files) (re
     pub content_is : content new ≡ option_map (with_more (name_of (opened old)) (take done bytes)) (content old)
     pub reads : SameFaults read_faults read_last old new
     pub writes : SameFaults write_faults write_last old new
-
-  pub SameFaults-trans : (faults : S → ℕ) (last : S → Option (List ℕ)) (a b c : S) → SameFaults faults last a b → SameFaults faults last b c → SameFaults faults last a c
-  SameFaults-trans faults last a b c first second = record { count = second.count ∙ first.count; name_is = second.name_is ∙ first.name_is }
 
   pub ReadsOn-more : (a b c : S) → ReadsOn a b → opened c ≡ ForReading (name_of (opened b)) (left_of (opened c)) → content c ≡ content b
       → SameFaults read_faults read_last b c → SameFaults write_faults write_last b c → ReadsOn a c

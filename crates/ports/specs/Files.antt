@@ -1,5 +1,5 @@
 -- The files of a shelf: what each name holds.
-use Rattle.std.specs.Prelude.{◌≡◌, ◌≢◌, ℕ, Bool, true, false, List, [], ◌∷◌, ◌++◌, Option, None, Some, nat_eq, unwrap_or, if◌then◌else◌}
+use Rattle.std.specs.Prelude.{◌≡◌, ◌≢◌, ℕ, Bool, true, false, List, [], ◌++◌, Option, None, Some, nat_eq, unwrap_or, if◌then◌else◌}
 use Rattle.std.specs.Option.{option_map}
 use Rattle.std.specs.Cmp.Lexicographic.{pointwise}
 
@@ -22,7 +22,7 @@ with_more name piece files = λ other. if pointwise nat_eq other name then optio
 -- what stays the same where one file changes: each other name holds what it held, as far as it is told
 abbrev pub OthersKept : List ℕ → Option Files → Option Files → Type 0
 OthersKept name None now = now ≡ None
-OthersKept name (Some before) None = Some before ≡ None
+OthersKept name (Some before) None = ⊥
 OthersKept name (Some before) (Some now) = (other : List ℕ) → other ≢ name → now other ≡ before other
 
 -- what is open on a shelf: nothing, a file for reading with what is left of it where that is told, or a file that was created

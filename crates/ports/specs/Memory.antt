@@ -1,5 +1,5 @@
 -- What the versions in memory are seen as, and what they answer.
-use Rattle.std.specs.Prelude.{◌≡◌, ℕ, zero, suc, ◌+◌, ◌-◌, ◌==◌, Bool, true, false, List, length, min}
+use Rattle.std.specs.Prelude.{ℕ, zero, suc, ◌+◌, ◌-◌, ◌==◌, Bool, true, false, List, length, min}
 use Rattle.std.specs.List.{list_any}
 use Rattle.ports.specs.declared.source.Reading.{Reading}
 use Rattle.ports.specs.declared.source.Reading.TheVariants.{Got, End, Failed as ReadFailed}

@@ -3,10 +3,10 @@ use Rattle.std.specs.Prelude.{◌≡◌, ◌⊎◌, ℕ, ◌+◌, ◌<◌, ◌�
 use Rattle.std.specs.Option.{option_map}
 use Rattle.ports.specs.declared.loading.Loading.{Loading}
 use Rattle.ports.specs.declared.loading.Loading.TheVariants.{Loaded, TooLong, Failed as LoadFailed, NoMemory}
-use Rattle.ports.specs.declared.storing.Putting.{Putting}
-use Rattle.ports.specs.declared.storing.Putting.TheVariants.{Put, Failed as PutFailed}
-use Rattle.ports.specs.declared.storing.Storing.{Storing}
-use Rattle.ports.specs.declared.storing.Storing.TheVariants.{Stored, Failed as StoreFailed}
+use Rattle.ports.specs.declared.putting.Putting.{Putting}
+use Rattle.ports.specs.declared.putting.Putting.TheVariants.{Put, Failed as PutFailed}
+use Rattle.ports.specs.declared.whole_files.Storing.{Storing}
+use Rattle.ports.specs.declared.whole_files.Storing.TheVariants.{Stored, Failed as StoreFailed}
 use Rattle.ports.specs.Bytes.{Moves, Gains, IsUsedUp}
 use Rattle.ports.specs.Files.{Files, with_file, with_more}
 

@@ -57,6 +57,8 @@ struct Faults {
 }
 
 impl Faults {
+    ghost use Rattle.ports.specs.MemShelf.{IsNamed, name_of_last};
+
     fn none() -> Faults
         ensures count { result.count ≡ 0 }
         ensures last { result.last ≡ Last.NoName }
@@ -73,6 +75,17 @@ impl Faults {
     {
         self.count = self.count.saturating_add(1);
         self.last = last;
+    }
+
+    fn last_name<'a>(&'a self, files: &'a [(Name, Text)]) -> Option<&'a [u8]>
+        requires { IsNamed files.now self.now.last }
+        ensures { option_copied result ≡ name_of_last files.now self.now.last }
+    {
+        match &self.last {
+            Last::NoName => None,
+            Last::Named(name) => Some(name.bytes()),
+            Last::At(place) => Some(files[*place].0.bytes()),
+        }
     }
 
     // What the close of the file at a place answers, which is to fail or not.
@@ -170,6 +183,34 @@ impl MemShelf {
         ensures { result ≡ length self.now.files }
     {
         self.files.len()
+    }
+
+    /// How often an open, a read, or a close of what was opened failed.
+    pub fn read_faults(&self) -> u64
+        ensures { result ≡ self.now.read_faults }
+    {
+        self.reads.count
+    }
+
+    /// The name that the last of these calls worked on.
+    pub fn read_last(&self) -> Option<&[u8]>
+        ensures { option_copied result ≡ self.now.read_last }
+    {
+        self.reads.last_name(&self.files)
+    }
+
+    /// How often a create, a write, or a close of what was created failed.
+    pub fn write_faults(&self) -> u64
+        ensures { result ≡ self.now.write_faults }
+    {
+        self.writes.count
+    }
+
+    /// The name that the last of these calls worked on.
+    pub fn write_last(&self) -> Option<&[u8]>
+        ensures { option_copied result ≡ self.now.write_last }
+    {
+        self.writes.last_name(&self.files)
     }
 }
 

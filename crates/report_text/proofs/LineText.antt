@@ -7,7 +7,7 @@ use Rattle.csv.specs.Writing.{row_text, next_sep, tail_text, field_text, fields_
 use Rattle.csv.specs.declared.writer.QuoteStyle.TheVariants as style
 use Rattle.csv.specs.declared.writer.Writer.{Writer}
 use Rattle.csv.proofs.WriteFacts.{row-more, blank-more}
-use Rattle.report_text.specs.Line.{line, line_writer, text_in, IsAtLine, HasFields}
+use Rattle.report_text.specs.Line.{line, line_writer, text_in, AddsField, EndsLine, IsAtLine, HasFields}
 
 -- ---- a writer for records of any number of fields writes them as the default writer does
 escaped-flexible : (field : List ℕ) → escaped line_writer field ≡ escaped default_writer field
@@ -63,7 +63,7 @@ pub writes_field : {T E D : Type 0} (old new : Writer (Vec ℕ)) (field : List �
     → OnOk inner (writer_setup new ≡ writer_setup old) → OnOk inner (fields_written new ≡ min (fields_written old + 1) (2 ^ 64 - 1))
     → OnOk inner (has_written old ≡ false → (writer_setup old).style ≢ style.NonNumeric → has_written new ≡ not (length (field_text (writer_setup old) field) == 0))
     → OnOk inner (has_written old ≡ true → has_written new ≡ true)
-    → OnOk outer ((text : List ℕ) (fields : List (List ℕ)) → length fields < 2 ^ 64 - 1 → HasFields text fields old → HasFields text (fields ++ field ∷ []) new)
+    → OnOk outer (AddsField old new field)
 writes_field old new field inner (Err d) e text same count wrote stays = tt
 writes_field old new field (Err d) (Ok v) e text same count wrote stays = cc e
 writes_field old new field (Ok u) (Ok v) e text same count wrote stays =
@@ -75,9 +75,12 @@ HasFields-line writer text after fields ends h =
     let tail : after ≡ text_in writer ++ tail_text line_writer (has_written writer) (length fields) = rw (h.setup, h.count) at ends in
     tail ∙ ap (λ t. t ++ tail_text line_writer (has_written writer) (length fields)) h.written ∙ append_assoc text _ _ ∙ ap (λ t. text ++ t) (rw (← h.blank) (row_text-flexible fields))
 
+-- the same for a record's end
 pub ends_line : {T E D : Type 0} (old new : Writer (Vec ℕ)) (inner : Result T E) (outer : Result T D) → is_ok outer ≡ is_ok inner
     → OnOk inner (text_in new ≡ text_in old ++ tail_text (writer_setup old) (has_written old) (fields_written old))
-    → OnOk outer ((text : List ℕ) (fields : List (List ℕ)) → HasFields text fields old → text_in new ≡ text ++ line fields)
-ends_line old new inner (Err d) e ends = tt
-ends_line old new (Err d) (Ok v) e ends = cc e
-ends_line old new (Ok u) (Ok v) e ends = λ text fields h. HasFields-line old text (text_in new) fields ends h
+    → OnOk inner (writer_setup new ≡ writer_setup old) → OnOk inner (fields_written new ≡ 0) → OnOk inner (has_written new ≡ false)
+    → OnOk outer (EndsLine old new)
+ends_line old new inner (Err d) e ends same none blank = tt
+ends_line old new (Err d) (Ok v) e ends same none blank = cc e
+ends_line old new (Ok u) (Ok v) e ends same none blank = λ text fields h.
+    (record { setup = same ∙ h.setup; fields = none; wrote = blank }, HasFields-line old text (text_in new) fields ends h)

@@ -12,7 +12,8 @@ use std::alloc::{AllocError, Global};
 
 /// Inclusions between columns, the dependent column first.
 ///
-/// A pair names two positions, counted from 0, among the columns of relations of these widths, one relation after another.
+/// A pair names two positions, counted from 0, among the columns of relations of these widths, one
+/// relation after another.
 pub fn inclusions(
     alloc: Global,
     widths: &[u8],
@@ -53,7 +54,8 @@ impl Lines {
     }
 }
 
-// What names each column of relations of these widths. Many lines name one column, so each is written once.
+// What names each column of relations of these widths. Many lines name one column, so each name is
+// made once.
 fn column_marks(alloc: Global, widths: &[u8]) -> Result<Row, AllocError>
     ensures { IfOk result (λ marks. marks ≡ column_marks widths.now) }
 {
@@ -73,7 +75,8 @@ fn push_relation_marks(
 ) -> Result<(), AllocError>
     requires { partial_of marks.old ≡ [] }
     ensures partial { OnOk result (partial_of marks.new ≡ []) }
-    ensures fields { OnOk result (fields_of marks.new ≡ fields_of marks.old ++ relation_marks (relation, width)) }
+    ensures fields { OnOk result
+        (fields_of marks.new ≡ fields_of marks.old ++ relation_marks (relation, width)) }
 {
     for column in 0..width {
         write_mark(mark, relation, column + 1)?;

@@ -1,7 +1,7 @@
 // Lines under construction.
-ghost use Rattle.std.specs.Prelude.{◌≡◌, ◌++◌, ◌∷◌, ◌<◌, ◌-◌, ◌^◌, ℕ, List, [], length, map, IfOk, OnOk, OnErr};
+ghost use Rattle.std.specs.Prelude.{◌≡◌, ◌++◌, [], map, IfOk, OnOk, OnErr};
 ghost use Rattle.report_text.specs.Field.{field_bytes};
-ghost use Rattle.report_text.specs.Line.{line, text_in, IsAtLine, HasFields};
+ghost use Rattle.report_text.specs.Line.{line, text_in, AddsField, EndsLine, IsAtLine};
 
 use crate::field::{Field, write_columns};
 use csv::{Writer, WriterBuilder};
@@ -12,8 +12,8 @@ use std::marker::Model;
 
 /// Lines of a text, added one after another. Contracts see the text so far.
 ///
-/// Each call that adds lines takes time that grows with their text alone. Where memory is refused
-/// the text is lost: there are no lines then, and more can be added.
+/// Adding lines copies none of the text so far. Where memory is refused the text is lost: there are
+/// no lines then, and more can be added.
 #[derive(Drop)]
 pub struct Lines {
     writer: Writer<Vec<u8>>,
@@ -102,7 +102,8 @@ fn write_line(
 ) -> Result<(), AllocError>
     requires { IsAtLine writer.old }
     ensures at_line { OnOk result (IsAtLine writer.new) }
-    ensures text { OnOk result (text_in writer.new ≡ text_in writer.old ++ line (map field_bytes fields.now)) }
+    ensures text { OnOk result
+        (text_in writer.new ≡ text_in writer.old ++ line (map field_bytes fields.now)) }
 {
     for field in fields {
         write_field(writer, columns, field)?;
@@ -126,8 +127,7 @@ fn write_field(
     columns: &mut Vec<u8>,
     field: &Field<'_>,
 ) -> Result<(), AllocError>
-    ensures { OnOk result ((text : List ℕ) (fields : List (List ℕ)) → length fields < 2 ^ 64 - 1
-        → HasFields text fields writer.old → HasFields text (fields ++ field_bytes field.now ∷ []) writer.new) }
+    ensures { OnOk result (AddsField writer.old writer.new (field_bytes field.now)) }
 {
     match field {
         Field::Bytes(bytes) => write_bytes(writer, bytes),
@@ -141,15 +141,13 @@ fn write_field(
 
 // A writer into a vector fails only where the vector is refused memory.
 fn write_bytes(writer: &mut Writer<Vec<u8>>, bytes: &[u8]) -> Result<(), AllocError>
-    ensures { OnOk result ((text : List ℕ) (fields : List (List ℕ)) → length fields < 2 ^ 64 - 1
-        → HasFields text fields writer.old → HasFields text (fields ++ bytes.now ∷ []) writer.new) }
+    ensures { OnOk result (AddsField writer.old writer.new bytes.now) }
 {
     writer.write_field(bytes).map_err(|_| AllocError)
 }
 
 fn end_line(writer: &mut Writer<Vec<u8>>) -> Result<(), AllocError>
-    ensures at_line { OnOk result ((text : List ℕ) (fields : List (List ℕ)) → HasFields text fields writer.old → IsAtLine writer.new) }
-    ensures text { OnOk result ((text : List ℕ) (fields : List (List ℕ)) → HasFields text fields writer.old → text_in writer.new ≡ text ++ line fields) }
+    ensures { OnOk result (EndsLine writer.old writer.new) }
 {
     writer.end_record().map_err(|_| AllocError)
 }

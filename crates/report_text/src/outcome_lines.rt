@@ -26,7 +26,8 @@ pub fn fault_line(alloc: Global, name: &Name) -> Result<Vec<u8>, AllocError>
     lines.into_text()
 }
 
-/// A batch was applied: its number, how many operations of each kind it had, and how many rows live after it.
+/// A batch was applied: its number, how many operations of each kind it had, and how many rows live
+/// after it.
 pub fn applied_line(
     alloc: Global,
     batch: u32,

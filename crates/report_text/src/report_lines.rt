@@ -8,8 +8,8 @@ use crate::field::Field;
 use rel_base::{ColSet, Covers, Fd, Name, Row};
 use std::alloc::{AllocError, Global};
 
-/// The report of a relation: its name, the number of its live rows, its columns, its minimal keys
-/// and its minimal dependencies.
+/// The report of a relation: its name, the number of its columns and of its live rows, the names of
+/// its columns, its minimal keys and its minimal dependencies, in the order of the covers.
 pub fn report(
     alloc: Global,
     name: &Name,
@@ -34,7 +34,8 @@ impl Lines {
         rows: u64,
         covers: &Covers,
     ) -> Result<(), AllocError>
-        ensures ok { OnOk result (self.new ≡ self.old ++ report_text name.now names.now rows covers.now) }
+        ensures ok { OnOk result
+            (self.new ≡ self.old ++ report_text name.now names.now rows covers.now) }
         ensures err { OnErr result (self.new ≡ []) }
     {
         self.push(&[
@@ -49,7 +50,8 @@ impl Lines {
     }
 
     fn push_columns(&mut self, names: &Row) -> Result<(), AllocError>
-        ensures ok { OnOk result (self.new ≡ self.old ++ flat_map column_line (enumerate_from 1 names.now)) }
+        ensures ok { OnOk result
+            (self.new ≡ self.old ++ flat_map column_line (enumerate_from 1 names.now)) }
         ensures err { OnErr result (self.new ≡ []) }
     {
         for place in 0..names.len() {

@@ -8,10 +8,11 @@ use crate::field::Field;
 use rel_base::{ColSet, Row, Table};
 use std::alloc::{AllocError, Global};
 
-/// The tables that a relation is split into, numbered from 1, each followed by its other minimal keys.
+/// The tables that a relation is split into, numbered from 1, each followed by its other minimal
+/// keys.
 ///
-/// An alternate is the number of its table and a key. One whose number is no table's is left out.
-/// Each table looks at all alternates.
+/// An alternate is the number of its table and a key; they may come in any order. One whose number
+/// is no table's is left out. All alternates are looked at once for each table.
 pub fn tables(
     alloc: Global,
     tables: &[Table],
@@ -61,7 +62,8 @@ impl Lines {
         number: u64,
         alternates: &[(u32, ColSet)],
     ) -> Result<(), AllocError>
-        ensures ok { OnOk result (self.new ≡ self.old ++ flat_map alternate_line (alternates_of alternates.now number)) }
+        ensures ok { OnOk result (self.new
+            ≡ self.old ++ flat_map alternate_line (alternates_of alternates.now number)) }
         ensures err { OnErr result (self.new ≡ []) }
     {
         for (table, key) in alternates {

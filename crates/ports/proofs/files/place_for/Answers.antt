@@ -1,6 +1,6 @@
-use Rattle.std.proofs.Common.{◌≡◌, ◌∙◌, ap, sym, subst, Some, None, List, ℕ, length, rules}
+use Rattle.std.proofs.Common.{◌≡◌, ◌∙◌, ap, Some, None, length, rules}
 use Rattle.std.specs.List.{position}
-use Rattle.ports.specs.Lists.{File, has_name, look_up, IsPlaceOf}
+use Rattle.ports.specs.Lists.{has_name}
 use Rattle.ports.proofs.Places.{IsPlaceOf-from_position, IsPlaceOf-push, with_file-push}
 use Rattle.ports.proofs.files.place_for.Goals as goal
 

@@ -1,4 +1,4 @@
-use Rattle.std.proofs.Common.{◌≡◌, ◌∙◌, Some, None, unwrap_or, [], ap, sym, rules}
+use Rattle.std.proofs.Common.{◌∙◌, Some, None, unwrap_or, [], ap, sym, rules}
 use Rattle.ports.proofs.Places.{IsPlaceOf-from_position, place-lt, look_up-at}
 use Rattle.ports.proofs.files.text_of.Goals as goal
 

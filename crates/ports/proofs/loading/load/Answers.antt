@@ -1,4 +1,4 @@
-use Rattle.std.proofs.Common.{◌≡◌, take, arith, rules, sym, ap, ◌∙◌}
+use Rattle.std.proofs.Common.{take, rules, ap, ◌∙◌}
 use Rattle.std.proofs.lemmas.List.{with_items_is, places}
 use Rattle.ports.proofs.Moving.{Moves-more}
 use Rattle.ports.proofs.loading.load.Goals as goal
@@ -7,9 +7,11 @@ pub loop-filled-preserved : goal.loop-filled-preserved
 loop-filled-preserved g c =
     let filled = c.loop-filled.invariant.0 in
     let read = c.in-Got.ensures in
-    rw (with_items_is c.make_room.new.buffer c.read_behind.new.buffer (search (rules, places)))
-    (record {
-      within = search (rules, places);
-      short = search (rules, places);
-      moved = Moves-more _ _ _ c.loop-filled.bytes.items _ _ _ (read.front ∙ ap (take c.loop-filled.filled) c.as_mut_slice.ensures.value ∙ c.make_room.ensures.front) filled.moved read.moved.2;
-    }, search rules)
+    rw (with_items_is c.make_room.new.buffer c.read_behind.new.buffer (search (rules, places))) (
+      record {
+        within = search (rules, places);
+        short = search (rules, places);
+        moved = Moves-more _ _ _ c.loop-filled.bytes.items _ _ _ (read.front ∙ ap (take c.loop-filled.filled) c.as_mut_slice.ensures.value ∙ c.make_room.ensures.front) filled.moved read.moved.2;
+      },
+      search rules,
+    )

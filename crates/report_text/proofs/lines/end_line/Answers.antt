@@ -1,5 +1,7 @@
 use Rattle.report_text.proofs.LineText.{ends_line}
 use Rattle.report_text.proofs.lines.end_line.Goals as goal
 
-pub returns-clause-text : goal.returns-clause-text
-returns-clause-text c = ends_line c.args.writer.now c.end_record.new.self _ _ c.map_err.ensures.variant c.end_record.ensures.bytes
+pub returns : goal.returns
+returns c =
+    let e = c.end_record.ensures in
+    ends_line c.args.writer.now c.end_record.new.self _ _ c.map_err.ensures.variant e.bytes e.same e.fields e.wrote

@@ -1,7 +1,7 @@
-use Rattle.std.proofs.Common.{◌≡◌, ◌<◌, ◌∙◌, ap, sym, Some, None, [], cond, rules}
+use Rattle.std.proofs.Common.{◌∙◌, ap, sym, Some, None, [], cond}
 use Rattle.std.specs.List.{position}
 use Rattle.std.proofs.lemmas.List.{get_or_read}
-use Rattle.ports.specs.Lists.{has_name, look_up, file_at}
+use Rattle.ports.specs.Lists.{has_name, file_at}
 use Rattle.ports.proofs.Places.{IsPlaceOf-from_position, place-lt}
 use Rattle.ports.proofs.Opened.{told-at, told-none}
 use Rattle.ports.proofs.mem_shelf.MemShelf.file.Goals as goal

@@ -1,4 +1,4 @@
-use Rattle.std.proofs.Common.{◌≡◌, ◌<◌, length, ◌∙◌, ap, sym, Some, rules, arith}
+use Rattle.std.proofs.Common.{rules}
 use Rattle.ports.proofs.Places.{place-lt}
 use Rattle.ports.proofs.Opened.{IsNamed-close, IsNamed-set}
 use Rattle.ports.proofs.mem_shelf.MemShelfShelf.close.Goals as goal

@@ -1,7 +1,7 @@
 use Rattle.std.proofs.Common.{◌≡◌, ◌∙◌, ap, sym, Some, [], arith}
 use Rattle.std.proofs.lemmas.List.Elements.{All-pop}
 use Rattle.ports.specs.Files.{ForWriting, with_file}
-use Rattle.ports.specs.Lists.{look_up, file_at}
+use Rattle.ports.specs.Lists.{look_up}
 use Rattle.ports.proofs.Places.{IsPlaceOf-named, name-at}
 use Rattle.ports.proofs.Opened.{IsNamed-more, told-idle, told-placed}
 use Rattle.ports.proofs.mem_shelf.MemShelfShelf.create.Goals as goal

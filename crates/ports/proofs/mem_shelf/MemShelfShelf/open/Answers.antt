@@ -1,4 +1,4 @@
-use Rattle.std.proofs.Common.{◌≡◌, ◌∙◌, ap, sym, refl, Some, None, [], rules, arith}
+use Rattle.std.proofs.Common.{◌∙◌, ap, sym, refl, Some, None, [], arith}
 use Rattle.std.specs.List.{position}
 use Rattle.std.proofs.Math.Bool.{or-true}
 use Rattle.ports.specs.Files.{from_start}
@@ -43,9 +43,9 @@ returns-in_default-clause-fails c =
     let idle = rw (← c.self.view_is) at c.requires in
     let same = ap (λ files. look_up files c.args.name) (told-idle s.files.items s.«open» s.at s.buffer.held idle) in
     elim c.in_default.branch [
-      in_default-via-in-Some+else-not-listed w ↦ let due = w.if-not-listed.ensures.due in rw (← c.self.view_is, ← due) refl
-    | in_default-via-in_default w ↦
-      let none = IsPlaceOf-from_position c.args.name s.files.items None (w.in_default.ensures ∙ ap (position (has_name c.args.name)) c.deref.ensures.value) in
-      let found = same ∙ none in
-      rw (← c.self.view_is, found, or-true) refl
+      | in_default-via-in-Some+else-not-listed w ↦ let due = w.if-not-listed.ensures.due in rw (← c.self.view_is, ← due) refl
+      | in_default-via-in_default w ↦
+          let none = IsPlaceOf-from_position c.args.name s.files.items None (w.in_default.ensures ∙ ap (position (has_name c.args.name)) c.deref.ensures.value) in
+          let found = same ∙ none in
+          rw (← c.self.view_is, found, or-true) refl
     ]

@@ -1,4 +1,4 @@
-use Rattle.std.proofs.Common.{◌≡◌, ◌<◌, ◌∙◌, ap, sym, length, min, drop, false, [], rules, arith}
+use Rattle.std.proofs.Common.{◌≡◌, ◌<◌, ◌∙◌, ap, length, min, drop, false, [], rules}
 use Rattle.std.proofs.lemmas.List.{get_or_read}
 use Rattle.ports.specs.Lists.{file_at}
 use Rattle.ports.specs.Memory.{read_answer}

@@ -1,4 +1,4 @@
-use Rattle.std.proofs.Common.{◌≡◌, ◌<◌, ◌≤◌, ◌∙◌, ap, sym, length, take, min, false, Some, rules, arith}
+use Rattle.std.proofs.Common.{◌≡◌, ◌<◌, ◌≤◌, ◌∙◌, ap, sym, length, take, min, false, Some, rules}
 use Rattle.std.proofs.lemmas.List.{take-take}
 use Rattle.ports.specs.Memory.{write_answer}
 use Rattle.ports.proofs.Moving.{write_answer-some}
@@ -20,7 +20,7 @@ invariant_of-self c =
     }
 
 pub invariant_of-self-in-0 : goal.invariant_of-self-in-0
-invariant_of-self-in-0 c = 
+invariant_of-self-in-0 c =
     let kept = c.self.invariant in
     let here = rw c.in-Writing.is at kept.opened in
     record {
@@ -36,9 +36,12 @@ pub returns-in_default-append_first-clause-appended :
     goal.returns-in_default-append_first-clause-appended
 returns-in_default-append_first-clause-appended c =
     let here = rw c.in-Writing.is at c.self.invariant.opened in
-    let short : c.append_first.result ≤ c.min-most.result = search rules in
-    (search rules, search rules, rw (← c.self.view_is, c.in-Writing.is, c.append_first.ensures.held, take-take)
-    (ap Some (told-more _ _ c.self.inside.buffer.held _ here.0)))
+    let short : c.append_first.result ≤ c.min-most.result = search rules in (
+      search rules,
+      search rules,
+      rw (← c.self.view_is, c.in-Writing.is, c.append_first.ensures.held, take-take)
+          (ap Some (told-more _ _ c.self.inside.buffer.held _ here.0)),
+    )
 
 pub returns-in-0-clause-answer : goal.returns-in-0-clause-answer
 returns-in-0-clause-answer c =

@@ -1,4 +1,4 @@
-use Rattle.std.proofs.Common.{◌≡◌, ◌∙◌, ap, length, min, drop, take, rules}
+use Rattle.std.proofs.Common.{◌∙◌, ap, rules}
 use Rattle.ports.specs.Files.{bytes_of}
 use Rattle.ports.specs.Lists.{look_up}
 use Rattle.ports.proofs.Moving.{ReadMoves-from}

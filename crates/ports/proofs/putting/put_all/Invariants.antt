@@ -1,6 +1,6 @@
 use Rattle.std.proofs.Common.{◌≡◌, ◌≤◌, ◌-◌, take, length}
 use Rattle.ports.specs.Bytes.{Gains}
-use Rattle.ports.proofs.storing.put_all.Given as goal
+use Rattle.ports.proofs.putting.put_all.Given as goal
 
 abbrev pub invariant-loop-done : goal.invariant-loop-done
 invariant-loop-done g l =

@@ -1,5 +1,5 @@
 use Rattle.ports.proofs.Shelves.{Stores-cut}
-use Rattle.ports.proofs.storing.store_file.Goals as goal
+use Rattle.ports.proofs.whole_files.store_file.Goals as goal
 
 pub returns-in-Failed-close-clause-stores : goal.returns-in-Failed-close-clause-stores
 returns-in-Failed-close-clause-stores g c =

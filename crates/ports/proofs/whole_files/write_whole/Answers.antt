@@ -2,15 +2,18 @@ use Rattle.std.proofs.Common.{rules}
 use Rattle.std.proofs.lemmas.List.{take_rest}
 use Rattle.ports.proofs.Contents.{more-nil}
 use Rattle.ports.proofs.Shelves.{WritesOn-more}
-use Rattle.ports.proofs.storing.write_whole.Goals as goal
+use Rattle.ports.proofs.whole_files.write_whole.Goals as goal
 
 pub loop-done-init : goal.loop-done-init
-loop-done-init g c = (search rules, record {
-  still = search rules;
-  content_is = more-nil _ _;
-  reads = search rules;
-  writes = search rules;
-})
+loop-done-init g c = (
+  search rules,
+  record {
+    still = search rules;
+    content_is = more-nil _ _;
+    reads = search rules;
+    writes = search rules;
+  },
+)
 
 pub loop-done-preserved : goal.loop-done-preserved
 loop-done-preserved g c =

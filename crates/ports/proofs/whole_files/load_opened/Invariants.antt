@@ -1,9 +1,8 @@
-use Rattle.std.proofs.Common.{◌≡◌, ◌+◌, ◌-◌}
-use Rattle.ports.specs.Faults.{SameFaults}
-use Rattle.ports.specs.Files.{ForReading, name_of, left_of}
+use Rattle.std.proofs.Common.{◌+◌, ◌-◌}
+use Rattle.ports.specs.Files.{left_of}
 use Rattle.ports.proofs.Moving.{Filling}
 use Rattle.ports.proofs.Shelves.{ReadsOn}
-use Rattle.ports.proofs.loading.load_opened.Given as goal
+use Rattle.ports.proofs.whole_files.load_opened.Given as goal
 
 abbrev pub invariant-loop-filled : goal.invariant-loop-filled
 invariant-loop-filled g l =

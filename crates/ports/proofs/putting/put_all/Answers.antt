@@ -1,7 +1,7 @@
 use Rattle.std.proofs.Common.{◌∙◌, rules}
 use Rattle.std.proofs.lemmas.List.{take_rest}
 use Rattle.ports.proofs.Moving.{Gains-more}
-use Rattle.ports.proofs.storing.put_all.Goals as goal
+use Rattle.ports.proofs.putting.put_all.Goals as goal
 
 pub loop-done-preserved : goal.loop-done-preserved
 loop-done-preserved g c =
