@@ -67,6 +67,13 @@ impl ColSet {
         ColSet { bits: 0 }
     }
 
+    /// The set that has column k exactly where bit k is 1, for one whose columns were found as bits.
+    pub fn of_bits(bits: u128) -> Self
+        ensures { result ≡ bits }
+    {
+        ColSet { bits }
+    }
+
     /// The columns 0 to below n.
     #[tactic(auto, unfolding(crate::specs::ColSet::all))]
     pub fn all(n: u8) -> Self

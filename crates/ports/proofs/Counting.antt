@@ -1,6 +1,6 @@
 -- Counts of faults over several calls.
-use Rattle.std.proofs.Common.{◌≡◌, ◌∙◌, ℕ, arith, List, Option}
-use Rattle.ports.specs.Faults.{Rose, RoseAt, SameFaults}
+use Rattle.std.proofs.Common.{◌∙◌, ℕ, arith, List, Option}
+use Rattle.ports.specs.Faults.{RoseAt, SameFaults}
 
 module _ {S : Type 0} (faults : S → ℕ) (last : S → Option (List ℕ)) where
   pub SameFaults-trans : (a b c : S) → SameFaults faults last a b → SameFaults faults last b c → SameFaults faults last a c

@@ -2,7 +2,7 @@
 use Rattle.std.proofs.Common.{◌≡◌, ◌==◌, ◌∙◌, refl, sym, ap, subst, ℕ, ◌<◌, arith, List, [], ◌++◌, length, None, Some, unwrap_or, Bool, true, false, cond}
 use Rattle.std.proofs.Math.ListN.{set, length-set}
 use Rattle.std.proofs.lemmas.Bool.{false≢true, eqb-true, eq-eqb}
-use Rattle.ports.specs.Files.{Nothing as NothingOpen, ForReading, bytes_of, from_start, with_file, with_more}
+use Rattle.ports.specs.Files.{Nothing as NothingOpen, ForReading, bytes_of, with_file, with_more}
 use Rattle.ports.specs.Lists.{File, look_up, IsPlaceOf, file_at, KeepsNames}
 use Rattle.ports.specs.Memory.{Room}
 use Rattle.ports.specs.MemShelf.{told, opened_of, is_written, IsOpen, IsNamed}
@@ -20,7 +20,7 @@ told-idle files (Reading place) at written h = refl
 told-idle files (Writing place) at written h = absurd (cc)
 
 -- a file that was found is read from its start
-pub from_start-at : (name : List ℕ) (files : List File) (place : ℕ) → IsPlaceOf name files place → ForReading (file_at files place).0 (Some (file_at files place).1) ≡ from_start name (Some (look_up files))
+pub from_start-at : (name : List ℕ) (files : List File) (place : ℕ) → IsPlaceOf name files place → ForReading (file_at files place).0 (Some (file_at files place).1) ≡ ForReading name (Some (bytes_of (look_up files) name))
 from_start-at name files place h =
     ap (λ n. ForReading n (Some (file_at files place).1)) (name-at name files place ([], []) h)
     ∙ ap (λ found. ForReading name (Some (unwrap_or found []))) (sym (look_up-at name files place ([], []) h))

@@ -1,5 +1,5 @@
 -- What the answers of the traits' calls mean.
-use Rattle.std.specs.Prelude.{◌≡◌, ℕ, ◌<◌, ◌≤◌, Bool, true, false, List, length, take, Option}
+use Rattle.std.specs.Prelude.{◌≡◌, ℕ, ◌<◌, ◌≤◌, Bool, true, false, ◌&&◌, List, [], length, take, Option}
 use Rattle.std.specs.Option.{option_map}
 use Rattle.ports.specs.declared.source.Reading.{Reading}
 use Rattle.ports.specs.declared.source.Reading.TheVariants.{Got, End, Failed as ReadFailed}
@@ -12,7 +12,7 @@ use Rattle.ports.specs.declared.shelf.Creating.TheVariants.{Created, Failed as C
 use Rattle.ports.specs.declared.shelf.Closing.{Closing}
 use Rattle.ports.specs.declared.shelf.Closing.TheVariants.{Closed, Failed as CloseFailed}
 use Rattle.ports.specs.Bytes.{Moves, Gains, IsUsedUp}
-use Rattle.ports.specs.Files.{Files, with_more}
+use Rattle.ports.specs.Files.{Files, bytes_of, with_file, with_more, Access, Nothing, ForReading, ForWriting, is_reading, is_writing}
 
 -- which answers say that the call failed
 
@@ -36,6 +36,29 @@ create_failed CreateFailed = true
 abbrev pub close_failed : Closing → Bool
 close_failed Closed = false
 close_failed CloseFailed = true
+
+-- where a failed close counts: at the reads of what was opened, at the writes of what was created
+
+abbrev pub close_failed_reading : Closing → Access → Bool
+close_failed_reading answer access = close_failed answer && is_reading access
+
+abbrev pub close_failed_writing : Closing → Access → Bool
+close_failed_writing answer access = close_failed answer && is_writing access
+
+-- what is open after an open: the file, to be read from its start
+abbrev pub after_open : Opening → List ℕ → Option Files → Access
+after_open Opened name content = ForReading name (option_map (λ files. bytes_of files name) content)
+after_open OpenFailed name content = Nothing
+
+-- what is open after a create
+abbrev pub after_create : Creating → List ℕ → Access
+after_create Created name = ForWriting name
+after_create CreateFailed name = Nothing
+
+-- a create leaves the name without bytes, and changes nothing where it failed
+abbrev pub CreateEmpties : Creating → List ℕ → Option Files → Option Files → Type 0
+CreateEmpties Created name before now = now ≡ option_map (with_file name []) before
+CreateEmpties CreateFailed name before now = now ≡ before
 
 -- A read moves the first bytes that were left to the front of the buffer, at least one. It moves none where none were left or it failed.
 abbrev pub ReadMoves : Reading → List ℕ → Option (List ℕ) → Option (List ℕ) → Type 0

@@ -41,6 +41,11 @@ is_writing Nothing = false
 is_writing (ForReading name left) = false
 is_writing (ForWriting name) = true
 
+abbrev pub is_some_open : Access → Bool
+is_some_open Nothing = false
+is_some_open (ForReading name left) = true
+is_some_open (ForWriting name) = true
+
 -- the name of the file that is open
 abbrev pub name_of : Access → List ℕ
 name_of Nothing = []
@@ -52,7 +57,3 @@ abbrev pub left_of : Access → Option (List ℕ)
 left_of Nothing = None
 left_of (ForReading name left) = left
 left_of (ForWriting name) = None
-
--- a file that was opened is read from its start
-abbrev pub from_start : List ℕ → Option Files → Access
-from_start name content = ForReading name (option_map (λ files. bytes_of files name) content)

@@ -1,9 +1,9 @@
 -- How a shelf of which calls may fail shows its fields.
-use Rattle.std.specs.Prelude.{◌≡◌, ◌==◌, Bool, false, ◌+◌, ◌<◌, ◌≤◌, ℕ, List, [], length, drop, slice_set, Option, None, Some, ⊤, vec_len, vec_capacity}
+use Rattle.std.specs.Prelude.{◌≡◌, ◌==◌, Bool, false, ◌+◌, ◌<◌, ◌≤◌, ℕ, List, length, drop, slice_set, Option, None, Some, ⊤, vec_len, vec_capacity}
 use Rattle.std.specs.List.{All}
 use Rattle.ports.specs.Files.{Access, Nothing as NothingOpen, ForReading, ForWriting}
 use Rattle.ports.specs.Lists.{File, IsPlaceOf, file_at}
-use Rattle.ports.specs.Memory.{Room}
+use Rattle.ports.specs.Memory.{Room, empty_room}
 use Rattle.ports.specs.Shelves.{MemFiles}
 use Rattle.ports.specs.declared.mem_shelf.Open.{Open}
 use Rattle.ports.specs.declared.mem_shelf.Open.TheVariants.{Nothing, Reading, Writing}
@@ -65,6 +65,6 @@ pub record IsInside (s : Inside) : Type 0 where
   pub opened : IsOpen s.files.items s.«open» s.at s.buffer s.room
   pub read_last : IsNamed s.files.items s.reads.last
   pub write_last : IsNamed s.files.items s.writes.last
-  pub blank : All (λ buffer. buffer ≡ record { held = []; room = s.room }) s.blanks.items
+  pub blank : All (λ buffer. buffer ≡ empty_room s.room) s.blanks.items
   pub spare : vec_len s.files + vec_len s.blanks ≤ vec_capacity s.files
   pub largest : 0 < s.largest

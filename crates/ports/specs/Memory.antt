@@ -1,5 +1,5 @@
 -- What the versions in memory are seen as, and what they answer.
-use Rattle.std.specs.Prelude.{ℕ, zero, suc, ◌+◌, ◌-◌, ◌==◌, Bool, true, false, List, length, min}
+use Rattle.std.specs.Prelude.{ℕ, zero, suc, ◌+◌, ◌-◌, ◌==◌, Bool, true, false, List, [], length, min}
 use Rattle.std.specs.List.{list_any}
 use Rattle.ports.specs.declared.source.Reading.{Reading}
 use Rattle.ports.specs.declared.source.Reading.TheVariants.{Got, End, Failed as ReadFailed}
@@ -16,6 +16,10 @@ pub record Room : Type 0 where
   pub held : List ℕ
   pub room : ℕ
 
+-- room for so many bytes, with none held
+abbrev pub empty_room : ℕ → Room
+empty_room bytes = record { held = []; room = bytes }
+
 -- how many more there is room for
 abbrev pub room_left : Room → ℕ
 room_left r = r.room - length r.held
@@ -25,6 +29,10 @@ pub record Course : Type 0 where
   pub fails : List ℕ
   pub calls : ℕ
   pub faults : ℕ
+
+-- the course before the first call
+abbrev pub new_course : List ℕ → Course
+new_course fails = record { fails = fails; calls = 0; faults = 0 }
 
 -- whether the next call is listed as one that fails
 abbrev pub is_listed : Course → Bool
@@ -63,3 +71,11 @@ pub record MemHeld : Type 0 where
   pub store : Room
   pub course : Course
   pub largest : ℕ
+
+-- how many bytes the next read moves into a buffer of this length, if it does not fail
+abbrev pub readable : MemLeft → ℕ → ℕ
+readable source room = min (length source.left) (min room source.largest)
+
+-- how many bytes of a piece of this length the next write takes, if it does not fail
+abbrev pub writable : MemHeld → ℕ → ℕ
+writable sink size = min (min size sink.largest) (room_left sink.store)

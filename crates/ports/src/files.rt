@@ -18,7 +18,8 @@ pub(crate) fn place_of(files: &[(Name, Text)], name: &Name) -> Option<usize>
 pub(crate) fn place_for(alloc: Global, files: &mut Vec<(Name, Text)>, name: Name) -> usize
     requires { vec_len files.old < vec_capacity files.old }
     ensures place { IsPlaceOf name files.new.items result }
-    ensures others { (bytes : List ℕ) → with_file name bytes (look_up files.new.items) ≡ with_file name bytes (look_up files.old.items) }
+    ensures others { (bytes : List ℕ) → with_file name bytes (look_up files.new.items)
+        ≡ with_file name bytes (look_up files.old.items) }
     ensures names { KeepsNames files.old.items files.new.items }
     ensures more { vec_len files.new ≤ vec_len files.old + 1 }
     ensures capacity { vec_capacity files.old ≤ vec_capacity files.new }

@@ -13,7 +13,8 @@ pub enum Point {
     Fed,
 }
 
-/// A place that workers pass between their turns. It promises nothing and changes nothing: a test may hold them there.
+/// A place that workers pass between their turns. It promises nothing and changes nothing: a test
+/// may hold them there.
 pub trait Gate {
     /// Passes the gate. The feeder is `who` 0, and workers count from 1.
     fn at(&self, who: u32, point: Point);

@@ -14,7 +14,8 @@ pub enum Kind {
     Close,
 }
 
-// Which calls are to fail, by kind and by number among those of the kind, from 1, and how many of each kind there were.
+// Which calls are to fail, by kind and by number among those of the kind, from 1, and how many of
+// each kind there were.
 #[derive(Drop)]
 pub(crate) struct ShelfCalls {
     fails: Vec<(Kind, u64)>,

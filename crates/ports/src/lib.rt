@@ -1,4 +1,36 @@
-//! The outside as the program sees it: sources, sinks, shelves of files and a gate, with versions in memory.
+//! The outside as the program sees it: sources, sinks, shelves of files and a gate, with versions
+//! in memory.
+//!
+//! # What a caller can prove
+//!
+//! The traits say what each call does to two kinds of things, by ghost members, which are there for
+//! proofs alone.
+//!
+//! *Bytes*, where a type tells them: what is `left` in a source, what a sink has `held`, the
+//! `content` of a shelf, which maps each name to its bytes, and what is `opened` on it. Each is
+//! `None` where the type does not tell, as a real file or a terminal, and then nothing is claimed
+//! of bytes. Each call is an equation between what was told before and what is told now, so that calls
+//! in a row are joined by rewriting: `Moves` and `Gains` of `specs/Bytes`, `with_file` and
+//! `with_more` of `specs/Files`, by which only the one name changes.
+//!
+//! *Faults*, by counts that never fall: a source or a sink has one, a shelf one for reading and one
+//! for writing, each beside the name that its last counted call worked on. A call answers `Failed`
+//! only where it raised that count, at a shelf under the name that it worked on (`Rose` and
+//! `RoseAt` of `specs/Faults`). Every other answer leaves counts and names (`SameFaults`). So a body that
+//! answers a fault where the outside had none is refused, and the name tells which file it was.
+//! A count at the last value of its type stands still, which `Rose` allows for.
+//!
+//! [`load`], [`load_file`], [`put_all`] and [`store_file`] speak of whole texts, over any of these
+//! and in the same words: all that was left, the bytes of a file, all or a first part of what was
+//! to be written.
+//!
+//! # The versions in memory
+//!
+//! [`SureSource`], [`SureSink`] and [`SureShelf`] do not fail, but where a sink is full and at a
+//! create: their counts are the constant 0, or rise only there. The `room` of a sink never changes,
+//! so whoever ran a program over a [`SureSink`] with room for all that it writes concludes that no
+//! write failed. [`MemSource`], [`MemSink`] and [`MemShelf`] fail at the calls that they are told,
+//! and move pieces as small as one likes. None of them takes memory after it was made.
 #![tactic(auto)]
 
 mod files;

@@ -23,7 +23,8 @@ pub enum Loading {
     NoMemory,
 }
 
-/// Reads all that is left of a source, if it is no more than the limit.
+/// Reads all that is left of a source, if it is no more than the limit. It takes at most one byte
+/// more than that, and after want of memory what was read is lost.
 pub fn load<S: Source>(alloc: Global, source: &mut S, limit: u64) -> Loading
     ensures loads { IfSome (S.left source.old) (Loads result limit) }
     ensures takes { Takes result limit (S.left source.old) (S.left source.new) }
@@ -51,14 +52,15 @@ pub fn load<S: Source>(alloc: Global, source: &mut S, limit: u64) -> Loading
 fn read_behind<S: Source>(source: &mut S, buffer: &mut [u8], filled: usize) -> Reading
     requires { filled < length buffer.old }
     ensures front { take filled buffer.new ≡ take filled buffer.old }
-    ensures moved { ReadMoves result (drop filled buffer.new) (S.left source.old) (S.left source.new) }
+    ensures moved { ReadMoves result (drop filled buffer.new)
+        (S.left source.old) (S.left source.new) }
     ensures counted { Counts (read_failed result) (S.faults source.old) (S.faults source.new) }
 {
     source.read(&mut buffer[filled..])
 }
 
-// Makes the buffer longer than what is filled, by zeros, for the next read, and never longer than one byte more than the limit.
-// Its capacity doubles, but goes hardly past that either.
+// Makes the buffer longer than what is filled, by zeros, for the next read, and never longer than
+// one byte more than the limit. Its capacity doubles, but goes hardly past that either.
 pub(crate) fn make_room(buffer: &mut Vec<u8>, filled: usize, limit: u64) -> Result<(), AllocError>
     requires within { filled ≤ vec_len buffer.old }
     requires below { filled ≤ limit }

@@ -1,14 +1,14 @@
 // A shelf of which listed calls fail.
-ghost use Rattle.std.specs.Prelude.{◌≡◌, ◌<◌, ◌&&◌, ◌||◌, ◌==◌, ◌-◌, [], ℕ, List, Option, None, Some, length, min, not, false, take, replicate, IsTrue, IfOk, is_none, if◌then◌else◌, vec_len, option_copied, unwrap_or};
-ghost use Rattle.std.specs.Option.{option_map};
-ghost use Rattle.ports.specs.Faults.{Rose, Counts, CountsAt, SameFaults};
-ghost use Rattle.ports.specs.Files.{Files, Access, Nothing, ForReading, ForWriting, is_reading, is_writing, name_of, left_of, bytes_of, from_start, with_file};
-ghost use Rattle.ports.specs.Answers.{open_failed, create_failed, close_failed, read_failed, write_failed, ReadMoves, WriteAppendsTo};
-ghost use Rattle.ports.specs.Memory.{read_answer, write_answer};
-ghost use Rattle.ports.specs.Kinds.{is_due, after_begin};
+ghost use Rattle.std.specs.Prelude.{◌≡◌, ◌<◌, ◌&&◌, ◌||◌, ◌==◌, ◌-◌, ℕ, List, Option, length, IsTrue, IfOk, is_none, if◌then◌else◌, vec_len, option_copied};
 ghost use Rattle.std.specs.List.{All};
+ghost use Rattle.ports.specs.Faults.{Rose, Counts};
+ghost use Rattle.ports.specs.Files.{Nothing, ForReading, is_reading, is_writing, is_some_open, name_of, left_of};
+ghost use Rattle.ports.specs.Answers.{open_failed, create_failed, close_failed, read_failed, write_failed, close_failed_reading, close_failed_writing};
+ghost use Rattle.ports.specs.Answers.{after_open, after_create, ReadMoves, CreateEmpties, WriteAppendsTo};
+ghost use Rattle.ports.specs.Memory.{empty_room, read_answer, write_answer};
+ghost use Rattle.ports.specs.Kinds.{is_due};
 ghost use Rattle.ports.specs.Lists.{look_up};
-ghost use Rattle.ports.specs.Shelves.{IsNewShelf, SameRooms};
+ghost use Rattle.ports.specs.Shelves.{mem_content, ReadsCount, WritesCount, SameReads, SameWrites, Goes, readable_file, writable_file, IsNewShelf};
 
 use crate::files::{place_for, place_of};
 use crate::kinds::ShelfCalls;
@@ -104,8 +104,11 @@ impl Faults {
 
 /// A shelf in memory of which listed calls fail, and an open of a name that is not there.
 ///
-/// It is made with buffers for the files to come: each create uses up one, and fails without one. Nothing else fails but a write for which no room is left.
-/// Contracts see the files as a list, of which the first of a name counts.
+/// It is made with buffers for the files to come: each create uses up one, and fails without one.
+/// Nothing else fails but a write for which no room is left, and no later call takes memory.
+///
+/// Contracts see the files as a list, of which the first of a name counts, what is open, the
+/// buffers that are left, the course of its calls, and the faults with the names of the last ones.
 #[derive(Drop)]
 pub struct MemShelf {
     alloc: Global,
@@ -136,8 +139,9 @@ impl Model for MemShelf {
 }
 
 impl MemShelf {
-    /// A shelf with these files, `blanks` buffers of `room` bytes each for files to come, and the calls that fail: a kind, and a number
-    /// among the calls of that kind, counted from 1. A read or write moves at most `largest` bytes.
+    /// A shelf with these files, `blanks` buffers of `room` bytes each for files to come, and the
+    /// calls that fail: a kind, and a number among the calls of that kind, counted from 1. A read
+    /// or write moves at most `largest` bytes.
     pub fn with(
         alloc: Global,
         files: Vec<(Name, Text)>,
@@ -192,7 +196,7 @@ impl MemShelf {
         self.reads.count
     }
 
-    /// The name that the last of these calls worked on.
+    /// The name that the last of these faults was at.
     pub fn read_last(&self) -> Option<&[u8]>
         ensures { option_copied result ≡ self.now.read_last }
     {
@@ -206,7 +210,7 @@ impl MemShelf {
         self.writes.count
     }
 
-    /// The name that the last of these calls worked on.
+    /// The name that the last of these faults was at.
     pub fn write_last(&self) -> Option<&[u8]>
         ensures { option_copied result ≡ self.now.write_last }
     {
@@ -217,7 +221,8 @@ impl MemShelf {
 // So many buffers of this room.
 fn blank_buffers(alloc: Global, count: usize, room: usize) -> Result<Vec<Buffer>, AllocError>
     ensures count { IfOk result (λ buffers. vec_len buffers ≡ count) }
-    ensures blank { IfOk result (λ buffers. All (λ buffer. buffer ≡ record { held = []; room = room }) buffers.items) }
+    ensures blank { IfOk result (λ buffers.
+        All (λ buffer. buffer ≡ empty_room room) buffers.items) }
 {
     let mut buffers = Vec::with_capacity(alloc, count)?;
     for _ in 0..count {
@@ -227,7 +232,7 @@ fn blank_buffers(alloc: Global, count: usize, room: usize) -> Result<Vec<Buffer>
 }
 
 impl Shelf for MemShelf {
-    ghost content = { λ s. Some (look_up s.files) };
+    ghost content = { mem_content };
 
     ghost opened = { λ s. s.opened };
 
@@ -241,13 +246,13 @@ impl Shelf for MemShelf {
 
     fn open(&mut self, name: Name) -> Opening
         requires { self.old.opened ≡ Nothing }
-        ensures opened { self.new.opened ≡ (if open_failed result then Nothing else from_start name (Some (look_up self.old.files))) }
-        ensures content { Some (look_up self.new.files) ≡ Some (look_up self.old.files) }
-        ensures reads { CountsAt (open_failed result) name (λ shelf. shelf.read_faults) (λ shelf. shelf.read_last) self.old self.new }
-        ensures writes { SameFaults (λ shelf. shelf.write_faults) (λ shelf. shelf.write_last) self.old self.new }
-        ensures fails { open_failed result ≡ (is_due Kind.Open self.old.course || is_none (look_up self.old.files name)) }
-        ensures course { self.new.course ≡ after_begin Kind.Open self.old.course }
-        ensures rooms { SameRooms self.old self.new }
+        ensures opened { self.new.opened ≡ after_open result name (mem_content self.old) }
+        ensures content { mem_content self.new ≡ mem_content self.old }
+        ensures reads { ReadsCount (open_failed result) name self.old self.new }
+        ensures writes { SameWrites self.old self.new }
+        ensures fails { open_failed result
+            ≡ (is_due Kind.Open self.old.course || is_none (look_up self.old.files name)) }
+        ensures goes { Goes Kind.Open self.old self.new }
         ensures blanks { self.new.blanks ≡ self.old.blanks }
     {
         let listed = self.calls.begin(Kind::Open);
@@ -267,14 +272,17 @@ impl Shelf for MemShelf {
     fn read(&mut self, buffer: &mut [u8]) -> Reading
         requires some_room { 0 < length buffer.old }
         requires open { IsTrue (is_reading self.old.opened) }
-        ensures moved { ReadMoves result buffer.new (left_of self.old.opened) (left_of self.new.opened) }
-        ensures opened { self.new.opened ≡ ForReading (name_of self.old.opened) (left_of self.new.opened) }
-        ensures content { Some (look_up self.new.files) ≡ Some (look_up self.old.files) }
-        ensures reads { CountsAt (read_failed result) (name_of self.old.opened) (λ shelf. shelf.read_faults) (λ shelf. shelf.read_last) self.old self.new }
-        ensures writes { SameFaults (λ shelf. shelf.write_faults) (λ shelf. shelf.write_last) self.old self.new }
-        ensures answer { result ≡ read_answer (is_due Kind.Read self.old.course) (min (length (unwrap_or (left_of self.old.opened) [])) (min (length buffer.old) self.old.largest)) }
-        ensures course { self.new.course ≡ after_begin Kind.Read self.old.course }
-        ensures rooms { SameRooms self.old self.new }
+        ensures moved { ReadMoves result buffer.new
+            (left_of self.old.opened) (left_of self.new.opened) }
+        ensures opened { self.new.opened
+            ≡ ForReading (name_of self.old.opened) (left_of self.new.opened) }
+        ensures content { mem_content self.new ≡ mem_content self.old }
+        ensures reads { ReadsCount (read_failed result) (name_of self.old.opened)
+            self.old self.new }
+        ensures writes { SameWrites self.old self.new }
+        ensures answer { result ≡ read_answer (is_due Kind.Read self.old.course)
+            (readable_file self.old (length buffer.old)) }
+        ensures goes { Goes Kind.Read self.old self.new }
         ensures blanks { self.new.blanks ≡ self.old.blanks }
     {
         let Open::Reading(place) = self.open else {
@@ -292,14 +300,15 @@ impl Shelf for MemShelf {
 
     fn create(&mut self, name: Name) -> Creating
         requires { self.old.opened ≡ Nothing }
-        ensures opened { self.new.opened ≡ (if create_failed result then Nothing else ForWriting name) }
-        ensures content { Some (look_up self.new.files) ≡ (if create_failed result then Some (look_up self.old.files) else option_map (with_file name []) (Some (look_up self.old.files))) }
-        ensures writes { CountsAt (create_failed result) name (λ shelf. shelf.write_faults) (λ shelf. shelf.write_last) self.old self.new }
-        ensures reads { SameFaults (λ shelf. shelf.read_faults) (λ shelf. shelf.read_last) self.old self.new }
-        ensures fails { create_failed result ≡ (is_due Kind.Create self.old.course || (self.old.blanks == 0)) }
-        ensures course { self.new.course ≡ after_begin Kind.Create self.old.course }
-        ensures rooms { SameRooms self.old self.new }
-        ensures blanks { self.new.blanks ≡ (if create_failed result then self.old.blanks else self.old.blanks - 1) }
+        ensures opened { self.new.opened ≡ after_create result name }
+        ensures content { CreateEmpties result name (mem_content self.old) (mem_content self.new) }
+        ensures writes { WritesCount (create_failed result) name self.old self.new }
+        ensures reads { SameReads self.old self.new }
+        ensures fails { create_failed result
+            ≡ (is_due Kind.Create self.old.course || (self.old.blanks == 0)) }
+        ensures goes { Goes Kind.Create self.old self.new }
+        ensures blanks { self.new.blanks
+            ≡ (if create_failed result then self.old.blanks else self.old.blanks - 1) }
     {
         if self.calls.begin(Kind::Create) || self.blanks.is_empty() {
             self.writes.rise(Last::Named(name));
@@ -313,13 +322,15 @@ impl Shelf for MemShelf {
     fn write(&mut self, piece: &[u8]) -> Writing
         requires some_bytes { 0 < length piece.now }
         requires created { IsTrue (is_writing self.old.opened) }
-        ensures appended { WriteAppendsTo result (name_of self.old.opened) piece.now (Some (look_up self.old.files)) (Some (look_up self.new.files)) }
+        ensures appended { WriteAppendsTo result (name_of self.old.opened) piece.now
+            (mem_content self.old) (mem_content self.new) }
         ensures opened { self.new.opened ≡ self.old.opened }
-        ensures writes { CountsAt (write_failed result) (name_of self.old.opened) (λ shelf. shelf.write_faults) (λ shelf. shelf.write_last) self.old self.new }
-        ensures reads { SameFaults (λ shelf. shelf.read_faults) (λ shelf. shelf.read_last) self.old self.new }
-        ensures answer { result ≡ write_answer (is_due Kind.Write self.old.course) (min (min (length piece.now) self.old.largest) (self.old.room - length (bytes_of (look_up self.old.files) (name_of self.old.opened)))) }
-        ensures course { self.new.course ≡ after_begin Kind.Write self.old.course }
-        ensures rooms { SameRooms self.old self.new }
+        ensures writes { WritesCount (write_failed result) (name_of self.old.opened)
+            self.old self.new }
+        ensures reads { SameReads self.old self.new }
+        ensures answer { result ≡ write_answer (is_due Kind.Write self.old.course)
+            (writable_file self.old (length piece.now)) }
+        ensures goes { Goes Kind.Write self.old self.new }
         ensures blanks { self.new.blanks ≡ self.old.blanks }
     {
         let Open::Writing(place) = self.open else {
@@ -341,13 +352,15 @@ impl Shelf for MemShelf {
 
     fn close(&mut self) -> Closing
         ensures opened { self.new.opened ≡ Nothing }
-        ensures content { Some (look_up self.new.files) ≡ Some (look_up self.old.files) }
+        ensures content { mem_content self.new ≡ mem_content self.old }
         ensures idle { self.old.opened ≡ Nothing → result ≡ Closing.Closed }
-        ensures reads { CountsAt (close_failed result && is_reading self.old.opened) (name_of self.old.opened) (λ shelf. shelf.read_faults) (λ shelf. shelf.read_last) self.old self.new }
-        ensures writes { CountsAt (close_failed result && is_writing self.old.opened) (name_of self.old.opened) (λ shelf. shelf.write_faults) (λ shelf. shelf.write_last) self.old self.new }
-        ensures fails { close_failed result ≡ (is_due Kind.Close self.old.course && (is_reading self.old.opened || is_writing self.old.opened)) }
-        ensures course { self.new.course ≡ after_begin Kind.Close self.old.course }
-        ensures rooms { SameRooms self.old self.new }
+        ensures reads { ReadsCount (close_failed_reading result self.old.opened)
+            (name_of self.old.opened) self.old self.new }
+        ensures writes { WritesCount (close_failed_writing result self.old.opened)
+            (name_of self.old.opened) self.old self.new }
+        ensures fails { close_failed result
+            ≡ (is_due Kind.Close self.old.course && is_some_open self.old.opened) }
+        ensures goes { Goes Kind.Close self.old self.new }
         ensures blanks { self.new.blanks ≡ self.old.blanks }
     {
         let listed = self.calls.begin(Kind::Close);

@@ -1,8 +1,8 @@
 // A source and a sink of which listed calls fail.
-ghost use Rattle.std.specs.Prelude.{◌≡◌, ◌<◌, ◌≤◌, [], length, min, Some, IfOk};
+ghost use Rattle.std.specs.Prelude.{◌≡◌, ◌<◌, ◌≤◌, length, Some, IfOk};
 ghost use Rattle.ports.specs.Faults.{Counts};
 ghost use Rattle.ports.specs.Answers.{read_failed, write_failed, ReadMoves, WriteAppends};
-ghost use Rattle.ports.specs.Memory.{read_answer, write_answer, room_left, is_listed, after_call};
+ghost use Rattle.ports.specs.Memory.{empty_room, new_course, is_listed, after_call, read_answer, write_answer, readable, writable};
 
 use crate::pieces::{Buffer, Calls, Rest};
 use crate::{Reading, Sink, Source, Writing};
@@ -31,10 +31,12 @@ impl Model for MemSource {
 }
 
 impl MemSource {
-    /// A source of these bytes, which takes no memory. `fails` has the numbers of the reads that fail, counted from 1.
+    /// A source of these bytes, which takes no memory. `fails` has the numbers of the reads that
+    /// fail, counted from 1.
     pub fn of(bytes: Vec<u8>, fails: Vec<u64>, largest: usize) -> MemSource
         requires { 0 < largest }
-        ensures { result ≡ record { left = bytes.items; course = record { fails = fails.items; calls = 0; faults = 0 }; largest = largest } }
+        ensures { result
+            ≡ record { left = bytes.items; course = new_course fails.items; largest = largest } }
     {
         MemSource {
             rest: Rest::of(bytes),
@@ -65,9 +67,12 @@ impl Source for MemSource {
 
     fn read(&mut self, buffer: &mut [u8]) -> Reading
         requires { 0 < length buffer.old }
-        ensures moved { ReadMoves result buffer.new (Some self.old.left) (Some self.new.left) }
-        ensures counted { Counts (read_failed result) self.old.course.faults self.new.course.faults }
-        ensures answer { result ≡ read_answer (is_listed self.old.course) (min (length self.old.left) (min (length buffer.old) self.old.largest)) }
+        ensures moved { ReadMoves result buffer.new
+            (Some self.old.left) (Some self.new.left) }
+        ensures counted { Counts (read_failed result)
+            self.old.course.faults self.new.course.faults }
+        ensures answer { result ≡ read_answer (is_listed self.old.course)
+            (readable self.old (length buffer.old)) }
         ensures course { self.new.course ≡ after_call self.old.course (read_failed result) }
         ensures largest { self.new.largest ≡ self.old.largest }
     {
@@ -83,9 +88,11 @@ impl Source for MemSource {
     }
 }
 
-/// A sink in memory of which listed calls fail, and whose writes take at most so many bytes. It is made with its room, and no later call takes memory.
+/// A sink in memory of which listed calls fail, and whose writes take at most so many bytes. It is
+/// made with its room, and no later call takes memory.
 ///
-/// Contracts see the bytes that it holds beside its room, the course of its calls and the largest piece.
+/// Contracts see the bytes that it holds beside its room, the course of its calls and the largest
+/// piece.
 #[derive(Drop)]
 pub struct MemSink {
     store: Buffer,
@@ -105,7 +112,8 @@ impl Model for MemSink {
 }
 
 impl MemSink {
-    /// An empty sink with room for so many bytes. `fails` has the numbers of the writes that fail, counted from 1.
+    /// An empty sink with room for so many bytes. `fails` has the numbers of the writes that fail,
+    /// counted from 1.
     pub fn with_room(
         alloc: Global,
         bytes: usize,
@@ -113,7 +121,11 @@ impl MemSink {
         largest: usize,
     ) -> Result<MemSink, AllocError>
         requires { 0 < largest }
-        ensures { IfOk result (λ sink. sink ≡ record { store = record { held = []; room = bytes }; course = record { fails = fails.items; calls = 0; faults = 0 }; largest = largest }) }
+        ensures { IfOk result (λ sink. sink ≡ record {
+          store = empty_room bytes;
+          course = new_course fails.items;
+          largest = largest;
+        }) }
     {
         Ok(MemSink {
             store: Buffer::with_room(alloc, bytes)?,
@@ -147,10 +159,13 @@ impl Sink for MemSink {
 
     fn write(&mut self, piece: &[u8]) -> Writing
         requires { 0 < length piece.now }
-        ensures appended { WriteAppends result piece.now (Some self.old.store.held) (Some self.new.store.held) }
+        ensures appended { WriteAppends result piece.now
+            (Some self.old.store.held) (Some self.new.store.held) }
         ensures room { Some self.new.store.room ≡ Some self.old.store.room }
-        ensures counted { Counts (write_failed result) self.old.course.faults self.new.course.faults }
-        ensures answer { result ≡ write_answer (is_listed self.old.course) (min (min (length piece.now) self.old.largest) (room_left self.old.store)) }
+        ensures counted { Counts (write_failed result)
+            self.old.course.faults self.new.course.faults }
+        ensures answer { result ≡ write_answer (is_listed self.old.course)
+            (writable self.old (length piece.now)) }
         ensures course { self.new.course ≡ after_call self.old.course (write_failed result) }
         ensures largest { self.new.largest ≡ self.old.largest }
     {

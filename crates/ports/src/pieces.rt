@@ -1,13 +1,15 @@
-// What the versions in memory are made of: bytes that are handed out, a buffer that never grows, and the calls that fail.
+// What the versions in memory are made of: bytes that are handed out, a buffer that never grows,
+// and the calls that fail.
 ghost use Rattle.std.specs.Prelude.{◌≡◌, ◌≤◌, ◌-◌, ◌++◌, [], length, min, take, drop, false, IfOk};
 ghost use Rattle.ports.specs.Faults.{Rose};
-ghost use Rattle.ports.specs.Memory.{one_more, is_listed, after_call, room_left, read_answer, write_answer};
+ghost use Rattle.ports.specs.Memory.{empty_room, new_course, one_more, is_listed, after_call, room_left, read_answer, write_answer};
 
 use crate::{Reading, Writing};
 use std::alloc::{AllocError, Global};
 use std::marker::Model;
 
-// Copies bytes of a text from this place on to the front of the buffer, as many as there are and fit, and says how many.
+// Copies bytes of a text from this place on to the front of the buffer, as many as there are and
+// fit, and says how many.
 pub(crate) fn copy_from(text: &[u8], at: usize, buffer: &mut [u8]) -> usize
     requires { at ≤ length text.now }
     ensures count { result ≡ min (length (drop at text.now)) (length buffer.new) }
@@ -69,7 +71,8 @@ impl Rest {
         &self.bytes[self.at..]
     }
 
-    // Moves first bytes to the front of the buffer, as many as there are and fit, and says how many.
+    // Moves first bytes to the front of the buffer, as many as there are and fit, and says how
+    // many.
     pub(crate) fn move_first(&mut self, buffer: &mut [u8]) -> usize
         ensures count { result ≡ min (length self.old) (length buffer.old) }
         ensures moved { self.old ≡ take result buffer.new ++ self.new }
@@ -100,7 +103,7 @@ impl Model for Buffer {
 
 impl Buffer {
     pub(crate) fn with_room(alloc: Global, room: usize) -> Result<Buffer, AllocError>
-        ensures { IfOk result (λ b. b ≡ record { held = []; room = room }) }
+        ensures { IfOk result (λ b. b ≡ empty_room room) }
     {
         Ok(Buffer {
             bytes: Vec::with_capacity(alloc, room)?,
@@ -110,7 +113,7 @@ impl Buffer {
 
     // A buffer without room, which takes no memory.
     pub(crate) fn empty(alloc: Global) -> Buffer
-        ensures { result ≡ record { held = []; room = 0 } }
+        ensures { result ≡ empty_room 0 }
     {
         Buffer {
             bytes: Vec::new(alloc),
@@ -131,7 +134,8 @@ impl Buffer {
         self.bytes
     }
 
-    // Appends first bytes of the piece, as many as there is room for, and says how many. It takes no memory.
+    // Appends first bytes of the piece, as many as there is room for, and says how many. It takes
+    // no memory.
     pub(crate) fn append_first(&mut self, piece: &[u8]) -> usize
         ensures count { result ≡ min (length piece.now) (room_left self.old) }
         ensures held { self.new.held ≡ self.old.held ++ take result piece.now }
@@ -162,7 +166,7 @@ impl Model for Calls {
 
 impl Calls {
     pub(crate) fn of(fails: Vec<u64>) -> Calls
-        ensures { result ≡ record { fails = fails.items; calls = 0; faults = 0 } }
+        ensures { result ≡ new_course fails.items }
     {
         Calls {
             fails,

@@ -14,7 +14,7 @@ pub enum Putting {
     Failed,
 }
 
-/// Writes all bytes on a sink. Each write is handed all that is left.
+/// Writes all bytes on a sink. Each write is handed all that is left. It takes no memory.
 pub fn put_all<O: Sink>(sink: &mut O, bytes: &[u8]) -> Putting
     ensures puts { Puts result bytes.now (O.held sink.old) (O.held sink.new) }
     ensures room { O.room sink.new ≡ O.room sink.old }

@@ -1,9 +1,9 @@
 // Files by name.
-ghost use Rattle.std.specs.Prelude.{◌≡◌, ◌<◌, ◌&&◌, ℕ, List, [], Option, length, IsTrue, if◌then◌else◌};
-ghost use Rattle.std.specs.Option.{option_map};
+ghost use Rattle.std.specs.Prelude.{◌≡◌, ◌<◌, ℕ, List, Option, length, IsTrue};
 ghost use Rattle.ports.specs.Faults.{CountsAt, SameFaults};
-ghost use Rattle.ports.specs.Files.{Files, Access, Nothing, ForReading, ForWriting, is_reading, is_writing, name_of, left_of, from_start, with_file};
-ghost use Rattle.ports.specs.Answers.{open_failed, create_failed, close_failed, read_failed, write_failed, ReadMoves, WriteAppendsTo};
+ghost use Rattle.ports.specs.Files.{Files, Access, Nothing, ForReading, is_reading, is_writing, name_of, left_of};
+ghost use Rattle.ports.specs.Answers.{open_failed, create_failed, read_failed, write_failed, close_failed_reading, close_failed_writing};
+ghost use Rattle.ports.specs.Answers.{after_open, after_create, ReadMoves, CreateEmpties, WriteAppendsTo};
 
 use crate::{Reading, Writing};
 use rel_base::Name;
@@ -44,19 +44,20 @@ pub trait Shelf {
     /// How often an open, a read, or a close of what was opened failed.
     ghost read_faults: { Self → ℕ };
 
-    /// The name that the last of these calls worked on, or `None` before the first.
+    /// The name that the last of these faults was at, or `None` before the first.
     ghost read_last: { Self → Option (List ℕ) };
 
     /// How often a create, a write, or a close of what was created failed.
     ghost write_faults: { Self → ℕ };
 
-    /// The name that the last of these calls worked on, or `None` before the first.
+    /// The name that the last of these faults was at, or `None` before the first.
     ghost write_last: { Self → Option (List ℕ) };
 
-    /// Opens a file for reading. Of one that is not there some shelves read no bytes, and others fail.
+    /// Opens a file for reading. Of one that is not there some shelves read no bytes, and others
+    /// fail.
     fn open(&mut self, name: Name) -> Opening
         requires { opened self.old ≡ Nothing }
-        ensures opened { opened self.new ≡ (if open_failed result then Nothing else from_start name (content self.old)) }
+        ensures opened { opened self.new ≡ after_open result name (content self.old) }
         ensures content { content self.new ≡ content self.old }
         ensures reads { CountsAt (open_failed result) name read_faults read_last self.old self.new }
         ensures writes { SameFaults write_faults write_last self.old self.new };
@@ -65,27 +66,33 @@ pub trait Shelf {
     fn read(&mut self, buffer: &mut [u8]) -> Reading
         requires some_room { 0 < length buffer.old }
         requires open { IsTrue (is_reading (opened self.old)) }
-        ensures moved { ReadMoves result buffer.new (left_of (opened self.old)) (left_of (opened self.new)) }
-        ensures opened { opened self.new ≡ ForReading (name_of (opened self.old)) (left_of (opened self.new)) }
+        ensures moved { ReadMoves result buffer.new
+            (left_of (opened self.old)) (left_of (opened self.new)) }
+        ensures opened { opened self.new
+            ≡ ForReading (name_of (opened self.old)) (left_of (opened self.new)) }
         ensures content { content self.new ≡ content self.old }
-        ensures reads { CountsAt (read_failed result) (name_of (opened self.old)) read_faults read_last self.old self.new }
+        ensures reads { CountsAt (read_failed result) (name_of (opened self.old))
+            read_faults read_last self.old self.new }
         ensures writes { SameFaults write_faults write_last self.old self.new };
 
     /// Makes a file without bytes, in place of one of this name, and opens it for writing.
     fn create(&mut self, name: Name) -> Creating
         requires { opened self.old ≡ Nothing }
-        ensures opened { opened self.new ≡ (if create_failed result then Nothing else ForWriting name) }
-        ensures content { content self.new ≡ (if create_failed result then content self.old else option_map (with_file name []) (content self.old)) }
-        ensures writes { CountsAt (create_failed result) name write_faults write_last self.old self.new }
+        ensures opened { opened self.new ≡ after_create result name }
+        ensures content { CreateEmpties result name (content self.old) (content self.new) }
+        ensures writes { CountsAt (create_failed result) name
+            write_faults write_last self.old self.new }
         ensures reads { SameFaults read_faults read_last self.old self.new };
 
     /// Writes behind what the created file has, as a sink is written to.
     fn write(&mut self, piece: &[u8]) -> Writing
         requires some_bytes { 0 < length piece.now }
         requires created { IsTrue (is_writing (opened self.old)) }
-        ensures appended { WriteAppendsTo result (name_of (opened self.old)) piece.now (content self.old) (content self.new) }
+        ensures appended { WriteAppendsTo result (name_of (opened self.old)) piece.now
+            (content self.old) (content self.new) }
         ensures opened { opened self.new ≡ opened self.old }
-        ensures writes { CountsAt (write_failed result) (name_of (opened self.old)) write_faults write_last self.old self.new }
+        ensures writes { CountsAt (write_failed result) (name_of (opened self.old))
+            write_faults write_last self.old self.new }
         ensures reads { SameFaults read_faults read_last self.old self.new };
 
     /// Closes what is open. With nothing open there is nothing that could fail.
@@ -93,6 +100,8 @@ pub trait Shelf {
         ensures opened { opened self.new ≡ Nothing }
         ensures content { content self.new ≡ content self.old }
         ensures idle { opened self.old ≡ Nothing → result ≡ Closing.Closed }
-        ensures reads { CountsAt (close_failed result && is_reading (opened self.old)) (name_of (opened self.old)) read_faults read_last self.old self.new }
-        ensures writes { CountsAt (close_failed result && is_writing (opened self.old)) (name_of (opened self.old)) write_faults write_last self.old self.new };
+        ensures reads { CountsAt (close_failed_reading result (opened self.old))
+            (name_of (opened self.old)) read_faults read_last self.old self.new }
+        ensures writes { CountsAt (close_failed_writing result (opened self.old))
+            (name_of (opened self.old)) write_faults write_last self.old self.new };
 }

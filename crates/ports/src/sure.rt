@@ -1,15 +1,16 @@
 // A source that never fails, and a sink that fails only where it is full.
-ghost use Rattle.std.specs.Prelude.{◌≡◌, ◌<◌, ◌≤◌, [], length, min, false, Some, IfOk};
+ghost use Rattle.std.specs.Prelude.{◌≡◌, ◌<◌, ◌≤◌, length, min, false, Some, IfOk};
 ghost use Rattle.ports.specs.Faults.{Counts};
 ghost use Rattle.ports.specs.Answers.{read_failed, write_failed, ReadMoves, WriteAppends};
-ghost use Rattle.ports.specs.Memory.{read_answer, write_answer, room_left};
+ghost use Rattle.ports.specs.Memory.{empty_room, room_left, read_answer, write_answer};
 
 use crate::pieces::{Buffer, Rest};
 use crate::{Reading, Sink, Source, Writing};
 use std::alloc::{AllocError, Global};
 use std::marker::Model;
 
-/// A source in memory that never fails: its count of faults is the constant 0. Contracts see the bytes that are left.
+/// A source in memory that never fails: its count of faults is the constant 0. Contracts see the
+/// bytes that are left.
 #[derive(Drop)]
 pub struct SureSource {
     rest: Rest,
@@ -50,7 +51,8 @@ impl Source for SureSource {
         requires { 0 < length buffer.old }
         ensures moved { ReadMoves result buffer.new (Some self.old) (Some self.new) }
         ensures counted { Counts (read_failed result) 0 0 }
-        ensures answer { result ≡ read_answer false (min (length self.old) (length buffer.old)) }
+        ensures answer { result
+            ≡ read_answer false (min (length self.old) (length buffer.old)) }
     {
         match self.rest.move_first(buffer) {
             0 => Reading::End,
@@ -59,9 +61,11 @@ impl Source for SureSource {
     }
 }
 
-/// A sink in memory that fails only where it is full. It is made with its room, and no later call takes memory.
+/// A sink in memory that fails only where it is full. It is made with its room, and no later call
+/// takes memory.
 ///
-/// Contracts see the bytes that it holds beside its room, and its count of faults. A count above 0 says that it is full.
+/// Contracts see the bytes that it holds beside its room, and its count of faults. A count above 0
+/// says that it is full.
 #[derive(Drop)]
 pub struct SureSink {
     store: Buffer,
@@ -82,7 +86,7 @@ impl Model for SureSink {
 impl SureSink {
     /// An empty sink with room for so many bytes.
     pub fn with_room(alloc: Global, bytes: usize) -> Result<SureSink, AllocError>
-        ensures { IfOk result (λ sink. sink ≡ record { store = record { held = []; room = bytes }; faults = 0 }) }
+        ensures { IfOk result (λ sink. sink ≡ record { store = empty_room bytes; faults = 0 }) }
     {
         Ok(SureSink {
             store: Buffer::with_room(alloc, bytes)?,
@@ -116,10 +120,12 @@ impl Sink for SureSink {
 
     fn write(&mut self, piece: &[u8]) -> Writing
         requires { 0 < length piece.now }
-        ensures appended { WriteAppends result piece.now (Some self.old.store.held) (Some self.new.store.held) }
+        ensures appended { WriteAppends result piece.now
+            (Some self.old.store.held) (Some self.new.store.held) }
         ensures room { Some self.new.store.room ≡ Some self.old.store.room }
         ensures counted { Counts (write_failed result) self.old.faults self.new.faults }
-        ensures answer { result ≡ write_answer false (min (length piece.now) (room_left self.old.store)) }
+        ensures answer { result
+            ≡ write_answer false (min (length piece.now) (room_left self.old.store)) }
     {
         match self.store.append_first(piece) {
             0 => {

@@ -1,11 +1,9 @@
 // A shelf that never fails at a read.
-ghost use Rattle.std.specs.Prelude.{◌≡◌, ◌<◌, ◌&&◌, [], length, None, Some, IsTrue, if◌then◌else◌};
-ghost use Rattle.std.specs.Option.{option_map};
-ghost use Rattle.ports.specs.Faults.{CountsAt, SameFaults};
-ghost use Rattle.ports.specs.Files.{Nothing, ForWriting, with_file};
-ghost use Rattle.ports.specs.Answers.{create_failed};
-ghost use Rattle.ports.specs.Shelves.{SureFiles};
-ghost use Rattle.ports.specs.Lists.{look_up};
+ghost use Rattle.std.specs.Prelude.{◌≡◌, None};
+ghost use Rattle.ports.specs.Faults.{SameFaults};
+ghost use Rattle.ports.specs.Files.{Nothing};
+ghost use Rattle.ports.specs.Answers.{create_failed, after_create, CreateEmpties};
+ghost use Rattle.ports.specs.Shelves.{SureFiles, sure_content, SureWritesCount};
 
 use crate::files::text_of;
 use crate::pieces::{copy_from, reading_of};
@@ -13,10 +11,11 @@ use crate::{Closing, Creating, Opening, Reading, Shelf, Text, Writing};
 use rel_base::Name;
 use std::marker::Model;
 
-/// A shelf in memory that never fails at a read: its count of these faults is the constant 0. A name that it lacks opens as an empty file.
-/// Every create fails, and is counted.
+/// A shelf in memory that never fails at a read: its count of these faults is the constant 0. A
+/// name that it lacks opens as an empty file. Every create fails, and is counted.
 ///
-/// Contracts see the files as a list, of which the first of a name counts, what is open, and the faults of creates.
+/// Contracts see the files as a list, of which the first of a name counts, what is open, and the
+/// faults of creates.
 #[derive(Drop)]
 pub struct SureShelf {
     files: Vec<(Name, Text)>,
@@ -42,7 +41,12 @@ impl Model for SureShelf {
 impl SureShelf {
     /// A shelf with these files, which takes no memory.
     pub fn of(files: Vec<(Name, Text)>) -> SureShelf
-        ensures { result ≡ record { files = files.items; opened = Nothing; write_faults = 0; write_last = None } }
+        ensures { result ≡ record {
+          files = files.items;
+          opened = Nothing;
+          write_faults = 0;
+          write_last = None;
+        } }
     {
         SureShelf {
             files,
@@ -55,7 +59,7 @@ impl SureShelf {
 }
 
 impl Shelf for SureShelf {
-    ghost content = { λ s. Some (look_up s.files) };
+    ghost content = { sure_content };
 
     ghost opened = { λ s. s.opened };
 
@@ -84,10 +88,12 @@ impl Shelf for SureShelf {
 
     fn create(&mut self, name: Name) -> Creating
         requires { self.old.opened ≡ Nothing }
-        ensures opened { self.new.opened ≡ (if create_failed result then Nothing else ForWriting name) }
-        ensures content { Some (look_up self.new.files) ≡ (if create_failed result then Some (look_up self.old.files) else option_map (with_file name []) (Some (look_up self.old.files))) }
-        ensures writes { CountsAt (create_failed result) name (λ shelf. shelf.write_faults) (λ shelf. shelf.write_last) self.old self.new }
-        ensures reads { SameFaults (λ (shelf : SureFiles). 0) (λ (shelf : SureFiles). None) self.old self.new }
+        ensures opened { self.new.opened ≡ after_create result name }
+        ensures content { CreateEmpties result name
+            (sure_content self.old) (sure_content self.new) }
+        ensures writes { SureWritesCount (create_failed result) name self.old self.new }
+        ensures reads { SameFaults (λ (shelf : SureFiles). 0) (λ (shelf : SureFiles). None)
+            self.old self.new }
         ensures fails { result ≡ Creating.Failed }
     {
         self.write_faults = self.write_faults.saturating_add(1);

@@ -28,11 +28,17 @@ fn copy_file<H: Shelf, O: Sink>(
     limit: u64,
 ) -> Copied
     requires { H.opened shelf.old ≡ Nothing }
-    ensures done { result ≡ Copied.Done → IfSome (H.content shelf.old) (λ files. Gains (O.held sink.old) (O.held sink.new) (bytes_of files name)) }
-    ensures too_long { result ≡ Copied.TooLong → IfSome (H.content shelf.old) (λ files. limit < length (bytes_of files name)) }
-    ensures read_fault { result ≡ Copied.ReadFault → RoseAt name H.read_faults H.read_last shelf.old shelf.new }
-    ensures write_fault { result ≡ Copied.WriteFault → Rose (O.faults sink.old) (O.faults sink.new) }
-    ensures prefix { result ≡ Copied.WriteFault → IfSome (H.content shelf.old) (λ files. (count : ℕ) × (count < length (bytes_of files name)) × Gains (O.held sink.old) (O.held sink.new) (take count (bytes_of files name))) }
+    ensures done { result ≡ Copied.Done → IfSome (H.content shelf.old) (λ files.
+        Gains (O.held sink.old) (O.held sink.new) (bytes_of files name)) }
+    ensures too_long { result ≡ Copied.TooLong → IfSome (H.content shelf.old) (λ files.
+        limit < length (bytes_of files name)) }
+    ensures read_fault { result ≡ Copied.ReadFault
+        → RoseAt name H.read_faults H.read_last shelf.old shelf.new }
+    ensures write_fault { result ≡ Copied.WriteFault
+        → Rose (O.faults sink.old) (O.faults sink.new) }
+    ensures prefix { result ≡ Copied.WriteFault → IfSome (H.content shelf.old) (λ files.
+        (count : ℕ) × (count < length (bytes_of files name))
+        × Gains (O.held sink.old) (O.held sink.new) (take count (bytes_of files name))) }
     ensures files { H.content shelf.new ≡ H.content shelf.old }
     ensures closed { H.opened shelf.new ≡ Nothing }
     ensures room { O.room sink.new ≡ O.room sink.old }
@@ -59,8 +65,10 @@ fn copy_surely(
     requires closed { shelf.old.opened ≡ Nothing }
     requires whole { sink.old.faults ≡ 0 }
     requires short { length (bytes_of (look_up shelf.old.files) name) ≤ limit }
-    requires room { length sink.old.store.held + length (bytes_of (look_up shelf.old.files) name) < sink.old.store.room }
-    ensures { IfOk result (λ _. sink.new.store.held ≡ sink.old.store.held ++ bytes_of (look_up shelf.old.files) name) }
+    requires room { length sink.old.store.held + length (bytes_of (look_up shelf.old.files) name)
+        < sink.old.store.room }
+    ensures { IfOk result (λ _. sink.new.store.held
+        ≡ sink.old.store.held ++ bytes_of (look_up shelf.old.files) name) }
 {
     match copy_file(alloc, shelf, sink, name, limit) {
         Copied::Done => Ok(()),
@@ -183,7 +191,10 @@ fn a_listed_write_fails_and_is_counted(rt: HostRuntime) -> Result<(), Fail> {
 fn each_write_is_handed_all_that_is_left(rt: HostRuntime) -> Result<(), Fail> {
     let alloc = rt.alloc();
     let mut sink = MemSink::with_room(alloc, 58, vec![in alloc; 2]?, 58)?;
-    assert!(rt; put_all(&mut sink, R.as_bytes()) == Putting::Put, "there is no second write");
+    assert!(rt;
+        put_all(&mut sink, R.as_bytes()) == Putting::Put,
+        "there is no second write"
+    );
     let mut shelf = shelf(alloc, vec![in alloc; (Kind::Write, 2)]?, 58)?;
     assert!(rt; stored(alloc, &mut shelf, "t.csv")? == (Storing::Stored, first(alloc, 58)?));
     Ok(())

@@ -19,14 +19,17 @@ pub enum Storing {
     Failed,
 }
 
-/// Reads a whole file, if it is no more than the limit. The files stay as they were, whatever the answer.
+/// Reads a whole file, if it is no more than the limit. The files stay as they were, whatever the
+/// answer.
 pub fn load_file<H: Shelf>(alloc: Global, shelf: &mut H, name: Name, limit: u64) -> Loading
     requires { H.opened shelf.old ≡ Nothing }
-    ensures loads { IfSome (H.content shelf.old) (λ files. Loads result limit (bytes_of files name)) }
+    ensures loads { IfSome (H.content shelf.old) (λ files.
+        Loads result limit (bytes_of files name)) }
     ensures within { IsWithin result limit }
     ensures content { H.content shelf.new ≡ H.content shelf.old }
     ensures closed { H.opened shelf.new ≡ Nothing }
-    ensures reads { CountsAt (load_failed result) name H.read_faults H.read_last shelf.old shelf.new }
+    ensures reads { CountsAt (load_failed result) name
+        H.read_faults H.read_last shelf.old shelf.new }
     ensures writes { SameFaults H.write_faults H.write_last shelf.old shelf.new }
 {
     match shelf.open(name) {
@@ -46,9 +49,11 @@ fn load_opened<H: Shelf>(alloc: Global, shelf: &mut H, limit: u64) -> Loading
     requires { IsTrue (is_reading (H.opened shelf.old)) }
     ensures loads { IfSome (left_of (H.opened shelf.old)) (Loads result limit) }
     ensures within { IsWithin result limit }
-    ensures opened { H.opened shelf.new ≡ ForReading (name_of (H.opened shelf.old)) (left_of (H.opened shelf.new)) }
+    ensures opened { H.opened shelf.new
+        ≡ ForReading (name_of (H.opened shelf.old)) (left_of (H.opened shelf.new)) }
     ensures content { H.content shelf.new ≡ H.content shelf.old }
-    ensures reads { CountsAt (load_failed result) (name_of (H.opened shelf.old)) H.read_faults H.read_last shelf.old shelf.new }
+    ensures reads { CountsAt (load_failed result) (name_of (H.opened shelf.old))
+        H.read_faults H.read_last shelf.old shelf.new }
     ensures writes { SameFaults H.write_faults H.write_last shelf.old shelf.new }
 {
     let mut bytes = Vec::new(alloc);
@@ -74,22 +79,27 @@ fn read_file_behind<H: Shelf>(shelf: &mut H, buffer: &mut [u8], filled: usize) -
     requires room { filled < length buffer.old }
     requires open { IsTrue (is_reading (H.opened shelf.old)) }
     ensures front { take filled buffer.new ≡ take filled buffer.old }
-    ensures moved { ReadMoves result (drop filled buffer.new) (left_of (H.opened shelf.old)) (left_of (H.opened shelf.new)) }
-    ensures opened { H.opened shelf.new ≡ ForReading (name_of (H.opened shelf.old)) (left_of (H.opened shelf.new)) }
+    ensures moved { ReadMoves result (drop filled buffer.new)
+        (left_of (H.opened shelf.old)) (left_of (H.opened shelf.new)) }
+    ensures opened { H.opened shelf.new
+        ≡ ForReading (name_of (H.opened shelf.old)) (left_of (H.opened shelf.new)) }
     ensures content { H.content shelf.new ≡ H.content shelf.old }
-    ensures reads { CountsAt (read_failed result) (name_of (H.opened shelf.old)) H.read_faults H.read_last shelf.old shelf.new }
+    ensures reads { CountsAt (read_failed result) (name_of (H.opened shelf.old))
+        H.read_faults H.read_last shelf.old shelf.new }
     ensures writes { SameFaults H.write_faults H.write_last shelf.old shelf.new }
 {
     shelf.read(&mut buffer[filled..])
 }
 
-/// Makes a file of this name that holds these bytes. Each write is handed all that is left. The other files stay as they were, whatever the answer.
+/// Makes a file of this name that holds these bytes. Each write is handed all that is left. The
+/// other files stay as they were, whatever the answer. It takes no memory.
 pub fn store_file<H: Shelf>(shelf: &mut H, name: Name, bytes: &[u8]) -> Storing
     requires { H.opened shelf.old ≡ Nothing }
     ensures stores { Stores result name bytes.now (H.content shelf.old) (H.content shelf.new) }
     ensures others { OthersKept name (H.content shelf.old) (H.content shelf.new) }
     ensures closed { H.opened shelf.new ≡ Nothing }
-    ensures writes { CountsAt (store_failed result) name H.write_faults H.write_last shelf.old shelf.new }
+    ensures writes { CountsAt (store_failed result) name
+        H.write_faults H.write_last shelf.old shelf.new }
     ensures reads { SameFaults H.read_faults H.read_last shelf.old shelf.new }
 {
     match shelf.create(name) {
@@ -107,9 +117,11 @@ pub fn store_file<H: Shelf>(shelf: &mut H, name: Name, bytes: &[u8]) -> Storing
 // Writes all bytes behind what the created file has.
 fn write_whole<H: Shelf>(shelf: &mut H, bytes: &[u8]) -> Storing
     requires { IsTrue (is_writing (H.opened shelf.old)) }
-    ensures appended { AppendsTo result (name_of (H.opened shelf.old)) bytes.now (H.content shelf.old) (H.content shelf.new) }
+    ensures appended { AppendsTo result (name_of (H.opened shelf.old)) bytes.now
+        (H.content shelf.old) (H.content shelf.new) }
     ensures opened { H.opened shelf.new ≡ H.opened shelf.old }
-    ensures writes { CountsAt (store_failed result) (name_of (H.opened shelf.old)) H.write_faults H.write_last shelf.old shelf.new }
+    ensures writes { CountsAt (store_failed result) (name_of (H.opened shelf.old))
+        H.write_faults H.write_last shelf.old shelf.new }
     ensures reads { SameFaults H.read_faults H.read_last shelf.old shelf.new }
 {
     let mut done = 0;

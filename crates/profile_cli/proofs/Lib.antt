@@ -1,2 +1,6 @@
 pub mod Files
 pub mod Texts
+pub mod Found
+pub mod Parse
+pub mod Bare
+pub mod TheApp

@@ -1,29 +1,40 @@
 -- The command that words are.
-use Rattle.std.specs.Prelude.{if◌then◌else◌, ℕ, Bool, false, true, not, ◌&&◌, nat_eq, List, [], ◌∷◌, map, codes, Option, Some, None, String, string_bytes}
+use Rattle.std.specs.Prelude.{if◌then◌else◌, ℕ, Bool, false, List, [], map, codes, Option, Some, None, String, string_bytes, unwrap_or, option_and_then}
 use Rattle.std.specs.declared.alloc.Global.{Global}
-use Rattle.std.specs.List.{starts_with}
-use Rattle.std.specs.Cmp.Lexicographic.{pointwise}
-use Rattle.rel_base.specs.declared.nulls.Nulls.TheVariants.{Equal}
+use Rattle.std.specs.Option.{option_map_or}
+use Rattle.std.specs.Str.{bytes_eq}
+use Rattle.rel_base.specs.declared.nulls.Nulls.{Nulls}
+use Rattle.rel_base.specs.declared.nulls.Nulls.TheVariants.{Equal, Distinct}
+use Rattle.clap.specs.Walk.{Row, Text, all_of, byte_or_zero, first_of, is_empty, one_of}
+use Rattle.clap.specs.Simple.{subcommand_of}
+use Rattle.clap.specs.Faults.{fault_of}
 use Rattle.profile_cli.specs.Request.{Request}
+use Rattle.profile_cli.specs.Words.{the_app}
 
 -- the bytes of each word
-abbrev pub texts : List (String Global) → List (List ℕ)
+abbrev pub texts : List (String Global) → List Text
 texts words = map string_bytes words
 
--- three words: the program's own name, `profile`, and a file, which does not begin with a dash
-abbrev pub is_command : List (List ℕ) → Bool
-is_command (own ∷ name ∷ file ∷ []) = pointwise nat_eq name (codes "profile") && not (starts_with nat_eq file (codes "-"))
-is_command [] = false
-is_command (own ∷ []) = false
-is_command (own ∷ name ∷ []) = false
-is_command (own ∷ name ∷ file ∷ more ∷ rest) = false
+-- the number of workers, where a text that is no number below 256 would count as 0
+abbrev pub workers_of : List Row → ℕ
+workers_of rows = option_map_or byte_or_zero (one_of (codes "workers") rows) 0
 
--- what the words ask for, if they are a command
-abbrev pub command : List (List ℕ) → Option Request
-command words = if is_command words then Some (record { nulls = Equal; files = file_of words }) else None
-  where
-    file_of : List (List ℕ) → List (List ℕ)
-    file_of (own ∷ name ∷ file ∷ rest) = file ∷ []
-    file_of [] = []
-    file_of (own ∷ []) = []
-    file_of (own ∷ name ∷ []) = []
+-- how NULL is read
+abbrev pub nulls_of : List Row → Nulls
+nulls_of rows = if option_map_or (λ word. bytes_eq word (codes "distinct")) (first_of (codes "nulls") rows) false then Distinct else Equal
+
+-- the files, in the order of the words
+abbrev pub files_of : List Row → List Text
+files_of rows = unwrap_or (all_of (codes "files") rows) []
+
+-- what was found for the arguments of `profile`, as a request
+abbrev pub profile_request : List Row → Request
+profile_request rows = record { workers = workers_of rows; nulls = nulls_of rows; files = files_of rows }
+
+-- the request of a subcommand, by its name
+abbrev pub request_of : Text × List Row → Option Request
+request_of p = if bytes_eq p.0 (codes "profile") then Some (profile_request p.1) else None
+
+-- what the words ask for, where nothing is wrong with them
+unfoldable pub command : List Text → Option Request
+command words = if is_empty (fault_of the_app words) then option_and_then request_of (subcommand_of the_app words) else None

@@ -1,5 +1,6 @@
 pub mod Usage
 pub mod Request
+pub mod Words
 pub mod Command
 pub mod Outcomes
 pub mod Output

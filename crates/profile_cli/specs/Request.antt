@@ -2,7 +2,8 @@
 use Rattle.std.specs.Prelude.{ℕ, List}
 use Rattle.rel_base.specs.declared.nulls.Nulls.{Nulls}
 
--- the reports of these files, in this order, with NULL read so
+-- the reports of these files, in this order, with NULL read so, by so many workers
 pub record Request : Type 0 where
+  pub workers : ℕ
   pub nulls : Nulls
   pub files : List (List ℕ)

@@ -1,8 +1,12 @@
 // The command that words are.
-ghost use Rattle.std.specs.Prelude.{◌≡◌, ◌<◌, [], length, slice_index_or, IfOk};
-ghost use Rattle.profile_cli.specs.Command as words_of;
-ghost use Rattle.profile_cli.specs.Command.{texts, is_command};
+ghost use Rattle.std.specs.Prelude.{◌≡◌, ◌<◌, [], length, slice_index_or, map, IfOk};
+ghost use Rattle.clap.specs.Words.{found_of, rows_of};
+ghost use Rattle.profile_cli.specs.Command as request;
+ghost use Rattle.profile_cli.specs.Command.{texts};
 
+use crate::words::depprof_words;
+use clap::ArgMatches;
+use clap::error::ErrorKind;
 use rel_base::{Name, Nulls};
 use std::alloc::{AllocError, Global};
 use std::marker::Model;
@@ -10,6 +14,7 @@ use std::marker::Model;
 /// What the words ask for: the reports of these files, in this order.
 #[derive(Drop)]
 pub(crate) struct Command {
+    workers: u8,
     nulls: Nulls,
     files: Vec<Name>,
 }
@@ -19,7 +24,7 @@ impl Model for Command {
 
     ghost Value = { Request };
 
-    ghost view = { λ c. record { nulls = c.nulls; files = c.files.items } };
+    ghost view = { λ c. record { workers = c.workers; nulls = c.nulls; files = c.files.items } };
 }
 
 impl Command {
@@ -47,29 +52,64 @@ impl Command {
     }
 }
 
-// Whether the words are `profile` and one file.
-fn is_profile(words: &[String]) -> bool
-    ensures { result ≡ is_command (texts words.now) }
+// A name of its own for each word.
+fn names_of(alloc: Global, words: &[&str]) -> Result<Vec<Name>, AllocError>
+    ensures { IfOk result (λ names. names.items ≡ map (λ word. word.now) words.now) }
 {
-    match words {
-        [_, command, file] => {
-            command.as_str() == "profile" && !file.as_bytes().starts_with(b"-".as_slice())
-        }
-        _ => false,
+    let mut names = Vec::new(alloc);
+    for word in words {
+        names.push(Name::of(String::from_str(alloc, *word)?))?;
     }
+    Ok(names)
+}
+
+fn files_of(alloc: Global, found: &ArgMatches) -> Result<Vec<Name>, AllocError>
+    ensures { IfOk result (λ files. files.items ≡ request.files_of (rows_of (found_of found.now))) }
+{
+    match found.get_strs("files") {
+        Some(words) => names_of(alloc, words),
+        None => Ok(Vec::new(alloc)),
+    }
+}
+
+fn nulls_of(found: &ArgMatches) -> Nulls
+    ensures { result ≡ request.nulls_of (rows_of (found_of found.now)) }
+{
+    match found.get_str("nulls") {
+        Some(word) if word == "distinct" => Nulls::Distinct,
+        _ => Nulls::Equal,
+    }
+}
+
+fn workers_of(found: &ArgMatches) -> u8
+    ensures { result ≡ request.workers_of (rows_of (found_of found.now)) }
+{
+    found.get_one::<u8>("workers").unwrap_or(0)
+}
+
+// What was found for the arguments of `profile`.
+fn profile_of(alloc: Global, found: &ArgMatches) -> Result<Command, AllocError>
+    ensures { IfOk result (λ command. command ≡ request.profile_request (rows_of (found_of found.now))) }
+{
+    Ok(Command {
+        workers: workers_of(found),
+        nulls: nulls_of(found),
+        files: files_of(alloc, found)?,
+    })
 }
 
 /// The command that the words are, if they are one. The first word is the program's own name.
 pub(crate) fn command_of(alloc: Global, words: &[String]) -> Result<Option<Command>, AllocError>
-    ensures { IfOk result (λ found. found ≡ words_of.command (texts words.now)) }
+    ensures { IfOk result (λ found. found ≡ request.command (texts words.now)) }
 {
-    if !is_profile(words) {
-        return Ok(None);
+    match depprof_words(alloc)?.try_get_matches_from(words) {
+        Ok(matches) => match matches.subcommand_matches("profile") {
+            Some(found) => Ok(Some(profile_of(alloc, found)?)),
+            None => Ok(None),
+        },
+        Err(error) => match error.kind() {
+            ErrorKind::OutOfMemory => Err(AllocError),
+            _ => Ok(None),
+        },
     }
-    let mut files = Vec::new(alloc);
-    files.push(Name::of(words[2].clone()?))?;
-    Ok(Some(Command {
-        nulls: Nulls::Equal,
-        files,
-    }))
 }

@@ -9,6 +9,7 @@ mod reports;
 mod tests;
 mod top_call;
 mod usage;
+mod words;
 
 pub use outcome::Outcome;
 pub use top_call::run;

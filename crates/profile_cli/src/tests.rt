@@ -8,7 +8,9 @@ use std::test::Fail;
 use std::thread::Threads;
 
 const R: &str = "id,city,zip\n1,Berlin,10115\n2,Berlin,10115\n3,Potsdam,14467\n";
-const R_REPORT: &str = "relation,r.csv,3,3\ncolumn,1,id\ncolumn,2,city\ncolumn,3,zip\nkey,1\nfd,1,2\nfd,3,2\nfd,1,3\nfd,2,3\n";
+
+const R_REPORT: &str =
+    "relation,r.csv,3,3\ncolumn,1,id\ncolumn,2,city\ncolumn,3,zip\nkey,1\nfd,1,2\nfd,3,2\nfd,1,3\nfd,2,3\n";
 
 // What a run over one file writes, and its status.
 fn ran<H: Threads + Wait + Sync>(
@@ -57,10 +59,26 @@ fn expect_profile<H: Threads + Wait + Sync + Abort>(
 fn reports_keys_and_dependencies(rt: HostRuntime) -> Result<(), Fail> {
     let cases = [
         ("r.csv", R, R_REPORT),
-        ("bare.csv", "a,b\n", "relation,bare.csv,2,0\ncolumn,1,a\ncolumn,2,b\nkey,\nfd,,1\nfd,,2\n"),
-        ("one.csv", "a,b\n1,x\n", "relation,one.csv,2,1\ncolumn,1,a\ncolumn,2,b\nkey,\nfd,,1\nfd,,2\n"),
-        ("null.csv", "a,b\n,1\n,2\n", "relation,null.csv,2,2\ncolumn,1,a\ncolumn,2,b\nkey,2\nfd,,1\n"),
-        ("twice.csv", "a,b\n1,x\n1,x\n", "relation,twice.csv,2,2\ncolumn,1,a\ncolumn,2,b\nfd,,1\nfd,,2\n"),
+        (
+            "bare.csv",
+            "a,b\n",
+            "relation,bare.csv,2,0\ncolumn,1,a\ncolumn,2,b\nkey,\nfd,,1\nfd,,2\n",
+        ),
+        (
+            "one.csv",
+            "a,b\n1,x\n",
+            "relation,one.csv,2,1\ncolumn,1,a\ncolumn,2,b\nkey,\nfd,,1\nfd,,2\n",
+        ),
+        (
+            "null.csv",
+            "a,b\n,1\n,2\n",
+            "relation,null.csv,2,2\ncolumn,1,a\ncolumn,2,b\nkey,2\nfd,,1\n",
+        ),
+        (
+            "twice.csv",
+            "a,b\n1,x\n1,x\n",
+            "relation,twice.csv,2,2\ncolumn,1,a\ncolumn,2,b\nfd,,1\nfd,,2\n",
+        ),
         (
             "parity.csv",
             "a,b,c\n0,0,0\n0,1,1\n1,0,1\n1,1,0\n",
@@ -71,10 +89,22 @@ fn reports_keys_and_dependencies(rt: HostRuntime) -> Result<(), Fail> {
             "\u{feff}\u{feff}a,b\r\n\r\n1,\"x,y\"",
             "relation,marks.csv,2,1\ncolumn,1,a\ncolumn,2,b\nkey,\nfd,,1\nfd,,2\n",
         ),
-        ("open.csv", "a,b\n1,\"x,\n", "relation,open.csv,2,1\ncolumn,1,a\ncolumn,2,b\nkey,\nfd,,1\nfd,,2\n"),
+        (
+            "open.csv",
+            "a,b\n1,\"x,\n",
+            "relation,open.csv,2,1\ncolumn,1,a\ncolumn,2,b\nkey,\nfd,,1\nfd,,2\n",
+        ),
     ];
     for case in cases {
-        expect_profile(&rt, rt.alloc(), case.0, case.1.as_bytes(), Limits::standard(), case.2, 0)?;
+        expect_profile(
+            &rt,
+            rt.alloc(),
+            case.0,
+            case.1.as_bytes(),
+            Limits::standard(),
+            case.2,
+            0,
+        )?;
     }
     Ok(())
 }
@@ -86,12 +116,42 @@ fn refuses_files(rt: HostRuntime) -> Result<(), Fail> {
     let cases = [
         ("e.csv", "", standard, "refused,e.csv,0,1\n"),
         ("s.csv", "a,b\n1,x\n2\n", standard, "refused,s.csv,3,3\n"),
-        ("r.csv", R, Limits::smaller(128, 1_000_000, 65_536, 57), "refused,r.csv,0,6\n"),
-        ("r.csv", R, Limits::smaller(128, 1_000_000, 5, 268_435_456), "refused,r.csv,2,4\n"),
-        ("r.csv", R, Limits::smaller(128, 2, 65_536, 268_435_456), "refused,r.csv,4,5\n"),
-        ("x.csv", "a,b,c\n1\n", Limits::smaller(2, 9, 9, 99), "refused,x.csv,1,2\n"),
-        ("x.csv", "a,b\n11\n", Limits::smaller(2, 9, 1, 99), "refused,x.csv,2,3\n"),
-        ("x.csv", "a\n1\n22\n", Limits::smaller(2, 1, 1, 99), "refused,x.csv,3,4\n"),
+        (
+            "r.csv",
+            R,
+            Limits::smaller(128, 1_000_000, 65_536, 57),
+            "refused,r.csv,0,6\n",
+        ),
+        (
+            "r.csv",
+            R,
+            Limits::smaller(128, 1_000_000, 5, 268_435_456),
+            "refused,r.csv,2,4\n",
+        ),
+        (
+            "r.csv",
+            R,
+            Limits::smaller(128, 2, 65_536, 268_435_456),
+            "refused,r.csv,4,5\n",
+        ),
+        (
+            "x.csv",
+            "a,b,c\n1\n",
+            Limits::smaller(2, 9, 9, 99),
+            "refused,x.csv,1,2\n",
+        ),
+        (
+            "x.csv",
+            "a,b\n11\n",
+            Limits::smaller(2, 9, 1, 99),
+            "refused,x.csv,2,3\n",
+        ),
+        (
+            "x.csv",
+            "a\n1\n22\n",
+            Limits::smaller(2, 1, 1, 99),
+            "refused,x.csv,3,4\n",
+        ),
     ];
     for case in cases {
         expect_profile(&rt, alloc, case.0, case.1.as_bytes(), case.2, case.3, 3)?;
@@ -116,7 +176,11 @@ fn other_words_are_answered_by_the_usage_line(rt: HostRuntime) -> Result<(), Fai
         assert!(rt; written.as_slice() == usage_line());
         assert!(rt; status == 2);
     }
-    assert!(rt; usage_line().starts_with(b"usage: depprof profile [--workers N] [--nulls equal|distinct] FILE.. | ".as_slice()));
+    assert!(rt;
+        usage_line().starts_with(
+            b"usage: depprof profile [--workers N] [--nulls equal|distinct] FILE.. | ".as_slice()
+        )
+    );
     Ok(())
 }
 
@@ -146,19 +210,46 @@ fn lines_of(text: &[u8]) -> usize {
 fn widths_up_to_the_limit_are_reported(rt: HostRuntime) -> Result<(), Fail> {
     let alloc = rt.alloc();
     let words = ["depprof", "profile", "w.csv"];
-    let cases = [(13, 0, 28, 0), (64, 0, 130, 0), (128, 0, 258, 0), (129, 0, 1, 3), (65, 2, 131, 0)];
+    let cases = [
+        (13, 0, 28, 0),
+        (64, 0, 130, 0),
+        (128, 0, 258, 0),
+        (129, 0, 1, 3),
+        (65, 2, 131, 0),
+    ];
     for case in cases {
         let bytes = wide(alloc, case.0, case.1)?;
-        let (written, status) = ran(&rt, alloc, &words, "w.csv", bytes.as_slice(), Limits::standard())?;
-        assert!(rt; lines_of(written.as_slice()) == case.2, "lines at {} columns", case.0);
+        let (written, status) = ran(
+            &rt,
+            alloc,
+            &words,
+            "w.csv",
+            bytes.as_slice(),
+            Limits::standard(),
+        )?;
+        assert!(rt;
+            lines_of(written.as_slice()) == case.2,
+            "lines at {} columns",
+            case.0
+        );
         assert!(rt; status == case.3, "status at {} columns", case.0);
         if case.0 == 129 {
             assert!(rt; written.as_slice() == b"refused,w.csv,1,2\n".as_slice());
         }
     }
     let bytes = wide(alloc, 3, 2)?;
-    let (written, _) = ran(&rt, alloc, &words, "w.csv", bytes.as_slice(), Limits::standard())?;
-    assert!(rt; written.as_slice() == b"relation,w.csv,3,2\ncolumn,1,c\ncolumn,2,c\ncolumn,3,c\nkey,3\nfd,,1\nfd,,2\n".as_slice());
+    let (written, _) = ran(
+        &rt,
+        alloc,
+        &words,
+        "w.csv",
+        bytes.as_slice(),
+        Limits::standard(),
+    )?;
+    assert!(rt;
+        written.as_slice()
+            == b"relation,w.csv,3,2\ncolumn,1,c\ncolumn,2,c\ncolumn,3,c\nkey,3\nfd,,1\nfd,,2\n".as_slice()
+    );
     Ok(())
 }
 
@@ -167,7 +258,11 @@ fn cells_up_to_the_limit_are_read(rt: HostRuntime) -> Result<(), Fail> {
     let alloc = rt.alloc();
     let words = ["depprof", "profile", "h.csv"];
     let cases = [
-        ("a\n", 65_536usize, b"relation,h.csv,1,1\ncolumn,1,a\nkey,\nfd,,1\n".as_slice()),
+        (
+            "a\n",
+            65_536usize,
+            b"relation,h.csv,1,1\ncolumn,1,a\nkey,\nfd,,1\n".as_slice(),
+        ),
         ("a\n", 65_537, b"refused,h.csv,2,4\n".as_slice()),
         ("", 65_537, b"refused,h.csv,1,4\n".as_slice()),
     ];
@@ -176,7 +271,14 @@ fn cells_up_to_the_limit_are_read(rt: HostRuntime) -> Result<(), Fail> {
         for _ in 0..case.1 {
             bytes.push(b'x')?;
         }
-        let (written, _) = ran(&rt, alloc, &words, "h.csv", bytes.as_slice(), Limits::standard())?;
+        let (written, _) = ran(
+            &rt,
+            alloc,
+            &words,
+            "h.csv",
+            bytes.as_slice(),
+            Limits::standard(),
+        )?;
         assert!(rt; written.as_slice() == case.2, "a cell of {} bytes", case.1);
     }
     Ok(())

@@ -27,7 +27,7 @@ returns-in-Refused-clause-files g c =
     let is : c.index-names-place.result ≡ get_or c.args.names.now c.loop-place.place [] = name_at c.args.names.now c.loop-place.place c.index-names-place.result c.loop-place-test.true c.index-names-place.is in
     IfSome-both (H.content c.args.shelf.now)
     (λ held known refused. first_refusal-hit c.args.limits.now held c.args.names.now c.loop-place.place c.in-Refused.rec c.in-Refused.why c.loop-place-test.true known.0
-        (ap (λ (name : List ℕ). refused_file c.args.limits.now (bytes_of held name)) (sym is) ∙ refused))
+    (ap (λ (name : List ℕ). refused_file c.args.limits.now (bytes_of held name)) (sym is) ∙ refused))
     c.loop-place.invariant.known
     (subst (λ (content : Option Files). IfSome content (λ held. refused_file c.args.limits.now (bytes_of held c.index-names-place.result) ≡ Some (c.in-Refused.rec, c.in-Refused.why))) c.loop-place.invariant.content c.in-Refused.ensures.bytes)
 
@@ -41,7 +41,7 @@ loop-place-preserved g c =
           (λ held known read. (
             first_refusal-pass c.args.limits.now held c.args.names.now c.loop-place.place c.loop-place-test.true known.0 (ap (λ (name : List ℕ). refused_file c.args.limits.now (bytes_of held name)) (sym is) ∙ read.0),
             contents_more held c.args.names.now c.loop-place.place c.loop-place.relations.items c.push.new.self.items c.in-Read.relation c.loop-place-test.true items
-            (read.1 ∙ ap (λ (name : List ℕ). file_content (bytes_of held name)) is) known.1,
+                (read.1 ∙ ap (λ (name : List ℕ). file_content (bytes_of held name)) is) known.1,
           ))
           c.loop-place.invariant.known
           (subst (λ (content : Option Files). IfSome content (λ held. (refused_file c.args.limits.now (bytes_of held c.index-names-place.result) ≡ None) × (c.in-Read.relation ≡ file_content (bytes_of held c.index-names-place.result)))) c.loop-place.invariant.content c.in-Read.ensures.bytes);

@@ -19,6 +19,6 @@ loop-place-preserved c limit =
 pub returns : goal.returns
 returns c = IfOk-map c.into_text.result
     (λ text e limit. e ∙ c.loop-place.invariant limit
-        ∙ ap₂ (λ (names : List (List ℕ)) (relations : List Content). flat_map (λ p. report_of p.0 (opened c.args.nulls limit p.1)) (zip names relations))
-        (take_whole c.loop-place.place c.args.names.now c.loop-place-test.false) (take_whole c.loop-place.place c.args.relations.now (let l = c.loop-place-test.false in let e = c.requires in omega arith)))
+    ∙ ap₂ (λ (names : List (List ℕ)) (relations : List Content). flat_map (λ p. report_of p.0 (opened c.args.nulls limit p.1)) (zip names relations))
+    (take_whole c.loop-place.place c.args.names.now c.loop-place-test.false) (take_whole c.loop-place.place c.args.relations.now (let l = c.loop-place-test.false in let e = c.requires in omega arith)))
     c.into_text.ensures

@@ -16,9 +16,9 @@ returns-in-Read-clause-profiles g c =
     Profiles-read c.write_reports.result c.args.command c.args.limits.now (H.content c.args.shelf.now) c.in-Read.relations.items
     (O.held c.args.out.now) (O.held c.write_reports.new.out) (O.faults c.args.out.now) (O.faults c.write_reports.new.out)
     (subst (λ (names : List (List ℕ)). IfSome (H.content c.args.shelf.now)
-        (λ held. (first_refusal c.args.limits.now held names ≡ None) × (c.in-Read.relations.items ≡ map (λ name. file_content (bytes_of held name)) names))) c.files.ensures c.in-Read.ensures.files)
+    (λ held. (first_refusal c.args.limits.now held names ≡ None) × (c.in-Read.relations.items ≡ map (λ name. file_content (bytes_of held name)) names))) c.files.ensures c.in-Read.ensures.files)
     (λ limit. subst (λ (relations : List Content). WritesText c.write_reports.result (flat_map (λ p. report_of p.0 (opened c.args.command.nulls limit p.1)) (zip c.args.command.files relations))
-        (O.held c.args.out.now) (O.held c.write_reports.new.out) (O.faults c.args.out.now) (O.faults c.write_reports.new.out)) c.as_slice.ensures.value (c.write_reports.ensures limit))
+    (O.held c.args.out.now) (O.held c.write_reports.new.out) (O.faults c.args.out.now) (O.faults c.write_reports.new.out)) c.as_slice.ensures.value (c.write_reports.ensures limit))
 
 pub returns-in-Read-clause-reads : goal.returns-in-Read-clause-reads
 returns-in-Read-clause-reads g c =

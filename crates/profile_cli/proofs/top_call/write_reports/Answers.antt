@@ -8,17 +8,24 @@ use Rattle.profile_cli.proofs.top_call.write_reports.Goals as goal
 
 pub returns-in-Put : goal.returns-in-Put
 returns-in-Put g c limit =
-    let O = g.O.Sink in
-    (subst (λ (text : List ℕ). Gains (O.held c.args.out.now) (O.held c.put_all.new.sink) text)
-    (c.as_slice.ensures.value ∙ c.in-Ok.ensures limit
-    ∙ ap₂ (λ (nulls : Nulls) (files : List (List ℕ)). flat_map (λ p. report_of p.0 (opened nulls limit p.1)) (zip files c.args.relations.now)) c.nulls.ensures c.files.ensures)
-    c.in-Put.ensures.puts, c.in-Put.ensures.counted)
+    let O = g.O.Sink in (
+      subst (λ (text : List ℕ). Gains (O.held c.args.out.now) (O.held c.put_all.new.sink) text)
+          (c.as_slice.ensures.value ∙ c.in-Ok.ensures limit
+          ∙ ap₂ (λ (nulls : Nulls) (files : List (List ℕ)). flat_map (λ p. report_of p.0 (opened nulls limit p.1)) (zip files c.args.relations.now)) c.nulls.ensures c.files.ensures)
+          c.in-Put.ensures.puts,
+      c.in-Put.ensures.counted,
+    )
 
 pub returns-in-Ok : goal.returns-in-Ok
 returns-in-Ok g c limit =
     let O = g.O.Sink in
-    let p = c.in-Failed.ensures.puts in
-    ((p.0, subst (λ (text : List ℕ). Gains (O.held c.args.out.now) (O.held c.put_all.new.sink) (take p.0 text))
-    (c.as_slice.ensures.value ∙ c.in-Ok.ensures limit
-    ∙ ap₂ (λ (nulls : Nulls) (files : List (List ℕ)). flat_map (λ p. report_of p.0 (opened nulls limit p.1)) (zip files c.args.relations.now)) c.nulls.ensures c.files.ensures)
-    p.2), c.in-Failed.ensures.counted)
+    let p = c.in-Failed.ensures.puts in (
+      (
+        p.0,
+        subst (λ (text : List ℕ). Gains (O.held c.args.out.now) (O.held c.put_all.new.sink) (take p.0 text))
+            (c.as_slice.ensures.value ∙ c.in-Ok.ensures limit
+            ∙ ap₂ (λ (nulls : Nulls) (files : List (List ℕ)). flat_map (λ p. report_of p.0 (opened nulls limit p.1)) (zip files c.args.relations.now)) c.nulls.ensures c.files.ensures)
+            p.2,
+      ),
+      c.in-Failed.ensures.counted,
+    )

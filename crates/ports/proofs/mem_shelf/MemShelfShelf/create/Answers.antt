@@ -1,5 +1,6 @@
 use Rattle.std.proofs.Common.{◌≡◌, ◌∙◌, ap, sym, Some, [], arith}
 use Rattle.std.proofs.lemmas.List.Elements.{All-pop}
+use Rattle.ports.specs.Memory.{empty_room}
 use Rattle.ports.specs.Files.{ForWriting, with_file}
 use Rattle.ports.specs.Lists.{look_up}
 use Rattle.ports.proofs.Places.{IsPlaceOf-named, name-at}
@@ -10,7 +11,7 @@ pub invariant_of-self-2 : goal.invariant_of-self-2
 invariant_of-self-2 c =
     let kept = c.self.invariant in
     let placed = c.place_for.ensures in
-    let popped = All-pop (λ buffer. buffer ≡ record { held = []; room = c.self.inside.room }) _ _ c.pop.result c.pop.ensures.items kept.blank in
+    let popped = All-pop (λ buffer. buffer ≡ empty_room c.self.inside.room) _ _ c.pop.result c.pop.ensures.items kept.blank in
     let blank = rw c.unwrap.ensures at popped.1 in
     let fewer = rw c.unwrap.ensures at c.pop.ensures.len in
     record {
@@ -30,7 +31,7 @@ returns-clause-content c =
     let s = c.self.inside in
     let name = c.args.name in
     let placed = c.place_for.ensures in
-    let popped = All-pop (λ buffer. buffer ≡ record { held = []; room = s.room }) _ _ c.pop.result c.pop.ensures.items c.self.invariant.blank in
+    let popped = All-pop (λ buffer. buffer ≡ empty_room s.room) _ _ c.pop.result c.pop.ensures.items c.self.invariant.blank in
     let blank = ap (λ buffer. buffer.held) (rw c.unwrap.ensures at popped.1) in
     let idle = rw (← c.self.view_is) at c.requires in
     let files = sym (told-idle s.files.items s.«open» s.at s.buffer.held idle) ∙ ap (λ shelf. shelf.files) c.self.view_is in

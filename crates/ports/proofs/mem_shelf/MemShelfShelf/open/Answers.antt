@@ -1,7 +1,7 @@
 use Rattle.std.proofs.Common.{◌∙◌, ap, sym, refl, Some, None, [], arith}
 use Rattle.std.specs.List.{position}
 use Rattle.std.proofs.Math.Bool.{or-true}
-use Rattle.ports.specs.Files.{from_start}
+use Rattle.ports.specs.Files.{ForReading, bytes_of}
 use Rattle.ports.specs.Lists.{has_name, look_up}
 use Rattle.ports.proofs.Places.{IsPlaceOf-from_position, IsPlaceOf-named, look_up-at}
 use Rattle.ports.proofs.Opened.{told-idle, from_start-at}
@@ -26,7 +26,7 @@ returns-in-Some-clause-opened c =
     let s = c.self.inside in
     let place = IsPlaceOf-from_position c.args.name s.files.items (Some c.in-Some.place) (c.in-Some.ensures ∙ ap (position (has_name c.args.name)) c.deref.ensures.value) in
     let idle = rw (← c.self.view_is) at c.requires in
-    from_start-at _ _ _ place ∙ ap (λ files. from_start c.args.name (Some (look_up files))) (sym (told-idle s.files.items s.«open» s.at s.buffer.held idle) ∙ ap (λ shelf. shelf.files) c.self.view_is)
+    from_start-at _ _ _ place ∙ ap (λ files. ForReading c.args.name (Some (bytes_of (look_up files) c.args.name))) (sym (told-idle s.files.items s.«open» s.at s.buffer.held idle) ∙ ap (λ shelf. shelf.files) c.self.view_is)
 
 pub returns-in-Some-clause-fails : goal.returns-in-Some-clause-fails
 returns-in-Some-clause-fails c =

@@ -1,0 +1,69 @@
+//! The agree set of two rows of codes.
+#![tactic(auto)]
+
+ghost use Rattle.std.specs.Prelude.{◌≡◌, ◌+◌, ◌*◌, ◌^◌, ◌<◌, ◌≤◌, ◌↔◌, ℕ, true, length, slice_index};
+ghost use Rattle.std.specs.Simd.Lanes.{chunk};
+ghost use Rattle.col_set.specs.ColSet.{has};
+ghost use Rattle.agree_sets.specs.Agreement.{agree_set, agreement_bits};
+
+use rel_base::ColSet;
+use std::simd::prelude::*;
+
+#[cfg(test)]
+mod tests;
+
+/// How many codes are compared at once.
+const LANES: usize = 16;
+
+/// The places at which two rows of codes are equal, as a set of columns: the columns in which the rows agree where each
+/// column's codes are equal exactly where its cells agree.
+///
+/// It takes no memory. Sixteen codes are compared at once, and those after the last whole sixteen one by one.
+pub fn agree_codes(a: &[u32], b: &[u32]) -> ColSet
+    requires same { length a.now ≡ length b.now }
+    requires few { length a.now ≤ 128 }
+    ensures set { result ≡ agree_set a.now b.now }
+    ensures each { (k : ℕ) → (has result k ≡ true) ↔ ((k < length a.now) × (slice_index a.now k ≡ slice_index b.now k)) }
+{
+    ColSet::of_bits(agreement(a, b))
+}
+
+// The number whose bit k says whether the rows have the same code at place k.
+fn agreement(a: &[u32], b: &[u32]) -> u128
+    requires same { length a.now ≡ length b.now }
+    requires few { length a.now ≤ 128 }
+    ensures { result ≡ agreement_bits a.now b.now }
+{
+    let blocks = a.len() / LANES;
+    let mut bits = 0;
+    'whole: for k in 0..blocks {
+        bits = joined(bits, LANES * k, block(a, b, LANES * k), LANES);
+    }
+    'rest: for k in LANES * blocks..a.len() {
+        bits = joined(bits, k, (a[k] == b[k]) as u64, 1);
+    }
+    bits
+}
+
+// The same of the 16 places from `at` on.
+fn block(a: &[u32], b: &[u32], at: usize) -> u64
+    requires first { at + 16 ≤ length a.now }
+    requires second { at + 16 ≤ length b.now }
+    ensures value { result ≡ agreement_bits (chunk at 16 a.now) (chunk at 16 b.now) }
+    ensures bound { result < 2 ^ 16 }
+{
+    u32x16::from_slice(&a[at..])
+        .simd_eq(u32x16::from_slice(&b[at..]))
+        .to_bitmask()
+}
+
+// What the bits before place `at` become with `more`, which has `width` bits, above them.
+fn joined(bits: u128, at: usize, more: u64, width: usize) -> u128
+    requires bits { bits < 2 ^ at }
+    requires more { more < 2 ^ width }
+    requires room { at + width ≤ 128 }
+    requires some { 1 ≤ width }
+    ensures { result ≡ bits + 2 ^ at * more }
+{
+    bits + ((more as u128) << at)
+}

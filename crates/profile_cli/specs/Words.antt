@@ -1,0 +1,57 @@
+-- The words that the program takes, as the crate `clap` describes a command.
+use Rattle.std.specs.Prelude.{◌≡◌, ◌++◌, ℕ, true, List, [], ◌∷◌, map, codes, Some, pos}
+use Rattle.std.specs.Borrow.{Bor}
+use Rattle.clap.specs.Lexer.{usize_max}
+use Rattle.clap.specs.Walk.{Rule, Text}
+use Rattle.clap.specs.Simple.{App, new_app, new_rule, with_rule, with_subcommand}
+use Rattle.clap.specs.declared.builder.value_parser.ValueParser.TheVariants as parser
+
+-- `--workers N`, a number from 1 to 16, or 4
+abbrev pub workers_rule : Rule
+workers_rule = record (new_rule (codes "workers")) {
+  long = Some (codes "workers");
+  parser = Some (parser.Signed (pos 1) (pos 16));
+  defaults = codes "4" ∷ [];
+}
+
+-- `--nulls equal|distinct`, or `equal`, where the two words stand behind references
+abbrev pub nulls_rule : Bor (List (Bor Text)) → Rule
+nulls_rule names = record (new_rule (codes "nulls")) {
+  long = Some (codes "nulls");
+  parser = Some (parser.Names names);
+  defaults = codes "equal" ∷ [];
+}
+
+-- one or more files
+abbrev pub files_rule : Rule
+files_rule = record (new_rule (codes "files")) {
+  range = Some (record { start_inclusive = 1; end_inclusive = usize_max });
+  required = true;
+}
+
+-- `profile [--workers N] [--nulls equal|distinct] FILE..`
+abbrev pub profile_app : Bor (List (Bor Text)) → App
+profile_app names = with_rule (with_rule (with_rule (new_app (codes "profile")) workers_rule) (nulls_rule names)) files_rule
+
+-- the program with its subcommand, which is required
+abbrev pub app_with : Bor (List (Bor Text)) → App
+app_with names = let a = with_subcommand (new_app (codes "depprof")) (profile_app names).top in
+    record a { top = record a.top { subcommand_required = true } }
+
+-- the words of `--nulls`
+abbrev pub null_words : List Text
+null_words = codes "equal" ∷ codes "distinct" ∷ []
+
+-- texts behind references that point to one place
+abbrev pub behind : List Text → Bor (List (Bor Text))
+behind texts = record { ref_ptr = (0, 0); now = map (λ text. record { ref_ptr = (0, 0); now = text }) texts }
+
+-- the command that the words are read by
+abbrev pub the_app : App
+the_app = app_with (behind null_words)
+
+-- The same command, wherever the words of `--nulls` stand in memory.
+pub record IsTheApp (a : App) : Type 0 where
+  pub names : Bor (List (Bor Text))
+  pub words : map (λ name. name.now) names.now ≡ null_words
+  pub app : a ≡ app_with names
