@@ -12,7 +12,7 @@ ghost use Rattle.ports.specs.Shelves.{mem_content, ReadsCount, WritesCount, Same
 
 use crate::files::{place_for, place_of};
 use crate::kinds::ShelfCalls;
-use crate::pieces::{Buffer, copy_from, reading_of, writing_of};
+use crate::pieces::{Buffer, copy_from, reading_of};
 use crate::{Closing, Creating, Kind, Opening, Reading, Shelf, Text, Writing};
 use rel_base::Name;
 use std::alloc::{AllocError, Global};

@@ -4,7 +4,7 @@ ghost use Rattle.ports.specs.Faults.{Counts};
 ghost use Rattle.ports.specs.Answers.{read_failed, write_failed, ReadMoves, WriteAppends};
 ghost use Rattle.ports.specs.Memory.{empty_room, new_course, is_listed, after_call, read_answer, write_answer, readable, writable};
 
-use crate::pieces::{Buffer, Calls, Rest};
+use crate::pieces::{Buffer, Calls, Rest, reading_of};
 use crate::{Reading, Sink, Source, Writing};
 use std::alloc::{AllocError, Global};
 use std::marker::Model;
@@ -81,10 +81,7 @@ impl Source for MemSource {
             return Reading::Failed;
         }
         let most = buffer.len().min(self.largest);
-        match self.rest.move_first(&mut buffer[..most]) {
-            0 => Reading::End,
-            count => Reading::Got(count),
-        }
+        reading_of(self.rest.move_first(&mut buffer[..most]))
     }
 }
 

@@ -2,9 +2,9 @@
 // and the calls that fail.
 ghost use Rattle.std.specs.Prelude.{◌≡◌, ◌≤◌, ◌-◌, ◌++◌, [], length, min, take, drop, false, IfOk};
 ghost use Rattle.ports.specs.Faults.{Rose};
-ghost use Rattle.ports.specs.Memory.{empty_room, new_course, one_more, is_listed, after_call, room_left, read_answer, write_answer};
+ghost use Rattle.ports.specs.Memory.{empty_room, new_course, one_more, is_listed, after_call, room_left, read_answer};
 
-use crate::{Reading, Writing};
+use crate::Reading;
 use std::alloc::{AllocError, Global};
 use std::marker::Model;
 
@@ -28,16 +28,6 @@ pub(crate) fn reading_of(count: usize) -> Reading
     match count {
         0 => Reading::End,
         count => Reading::Got(count),
-    }
-}
-
-// What a write answers that took so many bytes.
-pub(crate) fn writing_of(count: usize) -> Writing
-    ensures { result ≡ write_answer false count }
-{
-    match count {
-        0 => Writing::Failed,
-        count => Writing::Took(count),
     }
 }
 

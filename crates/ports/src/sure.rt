@@ -4,7 +4,7 @@ ghost use Rattle.ports.specs.Faults.{Counts};
 ghost use Rattle.ports.specs.Answers.{read_failed, write_failed, ReadMoves, WriteAppends};
 ghost use Rattle.ports.specs.Memory.{empty_room, room_left, read_answer, write_answer};
 
-use crate::pieces::{Buffer, Rest};
+use crate::pieces::{Buffer, Rest, reading_of};
 use crate::{Reading, Sink, Source, Writing};
 use std::alloc::{AllocError, Global};
 use std::marker::Model;
@@ -54,10 +54,7 @@ impl Source for SureSource {
         ensures answer { result
             ≡ read_answer false (min (length self.old) (length buffer.old)) }
     {
-        match self.rest.move_first(buffer) {
-            0 => Reading::End,
-            count => Reading::Got(count),
-        }
+        reading_of(self.rest.move_first(buffer))
     }
 }
 

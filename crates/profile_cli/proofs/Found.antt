@@ -14,13 +14,17 @@ use Rattle.clap.specs.declared.parser.matches.Found.{Found}
 use Rattle.clap.proofs.WalkLemmas.{byte_read, first_value-rows, one_text-rows, raw_values-rows}
 use Rattle.profile_cli.specs.Command.{files_of, nulls_of, workers_of}
 
--- a word that is compared, and none
-pub nulls_of-word : (f : Found) (word : Text) (is : Bool) → Some word ≡ first_value f (codes "nulls") → is ≡ bytes_eq word (codes "distinct") → cond is Distinct Equal ≡ nulls_of (rows_of f)
-nulls_of-word f word is found same =
-    ap (λ b. cond b Distinct Equal) same ∙ ap (λ o. cond (option_map_or (λ w. bytes_eq w (codes "distinct")) o false) Distinct Equal) (found ∙ first_value-rows f (codes "nulls"))
+-- the text of a reference, or another
+text_or : (o : Option (Bor Text)) (d : Bor Text) → (unwrap_or o d).now ≡ unwrap_or (option_map (λ s. s.now) o) d.now
+text_or None d = refl
+text_or (Some s) d = refl
 
-pub nulls_of-none : (f : Found) → None ≡ first_value f (codes "nulls") → Equal ≡ nulls_of (rows_of f)
-nulls_of-none f found = ap (λ o. cond (option_map_or (λ w. bytes_eq w (codes "distinct")) o false) Distinct Equal) (found ∙ first_value-rows f (codes "nulls"))
+pub nulls_of-word : (f : Found) (o : Option (Bor Text)) (word d : Bor Text) (is : Bool) → option_map (λ s. s.now) o ≡ first_value f (codes "nulls") → word ≡ unwrap_or o d → d.now ≡ codes "equal"
+    → is ≡ bytes_eq word.now (codes "distinct") → cond is Distinct Equal ≡ nulls_of (rows_of f)
+nulls_of-word f o word d is found same default_word e =
+    ap (λ b. cond b Distinct Equal) e
+    ∙ ap (λ (t : Text). cond (bytes_eq t (codes "distinct")) Distinct Equal)
+    (ap (λ (s : Bor Text). s.now) same ∙ text_or o d ∙ (λ i. unwrap_or ((found ∙ first_value-rows f (codes "nulls")) i) (default_word i)))
 
 pub files_of-words : (f : Found) (o : Option (List Text)) → o ≡ option_map raw_values (matched_of f (codes "files")) → unwrap_or o [] ≡ files_of (rows_of f)
 files_of-words f o found = ap (λ (x : Option (List Text)). unwrap_or x []) (found ∙ raw_values-rows f (codes "files"))

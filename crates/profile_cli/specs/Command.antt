@@ -1,5 +1,5 @@
 -- The command that words are.
-use Rattle.std.specs.Prelude.{if◌then◌else◌, ℕ, Bool, false, List, [], map, codes, Option, Some, None, String, string_bytes, unwrap_or, option_and_then}
+use Rattle.std.specs.Prelude.{if◌then◌else◌, ℕ, List, [], map, codes, Option, Some, None, String, string_bytes, unwrap_or, option_and_then}
 use Rattle.std.specs.declared.alloc.Global.{Global}
 use Rattle.std.specs.Option.{option_map_or}
 use Rattle.std.specs.Str.{bytes_eq}
@@ -21,7 +21,7 @@ workers_of rows = option_map_or byte_or_zero (one_of (codes "workers") rows) 0
 
 -- how NULL is read
 abbrev pub nulls_of : List Row → Nulls
-nulls_of rows = if option_map_or (λ word. bytes_eq word (codes "distinct")) (first_of (codes "nulls") rows) false then Distinct else Equal
+nulls_of rows = if bytes_eq (unwrap_or (first_of (codes "nulls") rows) (codes "equal")) (codes "distinct") then Distinct else Equal
 
 -- the files, in the order of the words
 abbrev pub files_of : List Row → List Text

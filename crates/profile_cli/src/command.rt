@@ -75,9 +75,11 @@ fn files_of(alloc: Global, found: &ArgMatches) -> Result<Vec<Name>, AllocError>
 fn nulls_of(found: &ArgMatches) -> Nulls
     ensures { result ≡ request.nulls_of (rows_of (found_of found.now)) }
 {
-    match found.get_str("nulls") {
-        Some(word) if word == "distinct" => Nulls::Distinct,
-        _ => Nulls::Equal,
+    let word = found.get_str("nulls").unwrap_or("equal");
+    if word == "distinct" {
+        Nulls::Distinct
+    } else {
+        Nulls::Equal
     }
 }
 

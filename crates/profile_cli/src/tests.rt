@@ -12,24 +12,26 @@ const R: &str = "id,city,zip\n1,Berlin,10115\n2,Berlin,10115\n3,Potsdam,14467\n"
 const R_REPORT: &str =
     "relation,r.csv,3,3\ncolumn,1,id\ncolumn,2,city\ncolumn,3,zip\nkey,1\nfd,1,2\nfd,3,2\nfd,1,3\nfd,2,3\n";
 
-// What a run over one file writes, and its status.
+// What a run over these files writes, and its status.
 fn ran<H: Threads + Wait + Sync>(
     rt: &H,
     alloc: Global,
     words: &[&str],
-    name: &str,
-    bytes: &[u8],
+    files: &[(&str, &[u8])],
     limits: Limits,
 ) -> Result<(Vec<u8>, u8), Fail> {
     let mut own = Vec::new(alloc);
     for word in words {
         own.push(String::from_str(alloc, *word)?)?;
     }
-    let file = (
-        Name::of(String::from_str(alloc, name)?),
-        Text::of(Vec::from_slice(alloc, bytes)?),
-    );
-    let mut shelf = SureShelf::of(vec![in alloc; file]?);
+    let mut held = Vec::new(alloc);
+    for file in files {
+        held.push((
+            Name::of(String::from_str(alloc, file.0)?),
+            Text::of(Vec::from_slice(alloc, file.1)?),
+        ))?;
+    }
+    let mut shelf = SureShelf::of(held);
     let mut input = SureSource::of(Vec::new(alloc));
     let mut out = SureSink::with_room(alloc, 1_000_000)?;
     let outcome = run(
@@ -49,7 +51,7 @@ fn expect_profile<H: Threads + Wait + Sync + Abort>(
     status: u8,
 ) -> Result<(), Fail> {
     let words = ["depprof", "profile", name];
-    let (written, ended) = ran(rt, alloc, &words, name, bytes, limits)?;
+    let (written, ended) = ran(rt, alloc, &words, &[(name, bytes)], limits)?;
     assert!(rt; written.as_slice() == text.as_bytes(), "the text of {name}");
     assert!(rt; ended == status, "the status of {name}");
     Ok(())
@@ -163,24 +165,180 @@ fn refuses_files(rt: HostRuntime) -> Result<(), Fail> {
 #[test]
 fn other_words_are_answered_by_the_usage_line(rt: HostRuntime) -> Result<(), Fail> {
     let alloc = rt.alloc();
-    let cases: [&[&str]; 6] = [
+    let cases: [&[&str]; 22] = [
+        &[],
         &["depprof"],
         &["depprof", "profile"],
-        &["depprof", "profile", "--help"],
+        &["depprof", "profile", "--"],
+        &["depprof", "r.csv"],
         &["depprof", "demo", "x"],
+        &["depprof", "-h"],
+        &["depprof", "--help"],
+        &["depprof", "help"],
+        &["depprof", "help", "profile"],
+        &["depprof", "profile", "-h", "r.csv"],
+        &["depprof", "profile", "r.csv", "--help"],
+        &["depprof", "--workers", "3", "profile", "r.csv"],
+        &["depprof", "profile", "--out", "p", "r.csv"],
+        &["depprof", "profile", "-w", "3", "r.csv"],
+        &["depprof", "profile", "--work", "3", "r.csv"],
+        &["depprof", "profile", "r.csv", "--workers"],
+        &["depprof", "profile", "--workers", "0", "r.csv"],
         &["depprof", "profile", "--workers", "17", "r.csv"],
-        &[],
+        &[
+            "depprof",
+            "profile",
+            "--workers",
+            "3",
+            "--workers",
+            "3",
+            "r.csv",
+        ],
+        &["depprof", "profile", "--nulls", "other", "r.csv"],
+        &["depprof", "profile", "--nulls=Equal", "r.csv"],
     ];
     for words in cases {
-        let (written, status) = ran(&rt, alloc, words, "r.csv", R.as_bytes(), Limits::standard())?;
-        assert!(rt; written.as_slice() == usage_line());
-        assert!(rt; status == 2);
+        let (written, status) = ran(
+            &rt,
+            alloc,
+            words,
+            &[("r.csv", R.as_bytes())],
+            Limits::standard(),
+        )?;
+        assert!(rt; written.as_slice() == usage_line(), "the text at {words:?}");
+        assert!(rt; status == 2, "the status at {words:?}");
     }
     assert!(rt;
         usage_line().starts_with(
             b"usage: depprof profile [--workers N] [--nulls equal|distinct] FILE.. | ".as_slice()
         )
     );
+    Ok(())
+}
+
+#[test]
+fn options_are_read_in_each_of_their_forms(rt: HostRuntime) -> Result<(), Fail> {
+    let alloc = rt.alloc();
+    let cases: [&[&str]; 8] = [
+        &["depprof", "profile", "--workers", "3", "r.csv"],
+        &["depprof", "profile", "--workers", "16", "r.csv"],
+        &["depprof", "profile", "--workers=+1", "r.csv"],
+        &["depprof", "profile", "r.csv", "--workers", "007"],
+        &["depprof", "profile", "--nulls", "equal", "--", "r.csv"],
+        &[
+            "depprof",
+            "profile",
+            "--nulls=distinct",
+            "--workers",
+            "2",
+            "r.csv",
+        ],
+        &["other", "profile", "r.csv"],
+        &["", "profile", "--", "r.csv"],
+    ];
+    for words in cases {
+        let (written, status) = ran(
+            &rt,
+            alloc,
+            words,
+            &[("r.csv", R.as_bytes())],
+            Limits::standard(),
+        )?;
+        assert!(rt;
+            written.as_slice() == R_REPORT.as_bytes(),
+            "the text at {words:?}"
+        );
+        assert!(rt; status == 0, "the status at {words:?}");
+    }
+    Ok(())
+}
+
+#[test]
+fn null_agrees_as_the_words_say(rt: HostRuntime) -> Result<(), Fail> {
+    let alloc = rt.alloc();
+    let cases: [(&[&str], &str); 3] = [
+        (&["depprof", "profile", "n.csv"], "key,2\nfd,,1\n"),
+        (
+            &["depprof", "profile", "--nulls", "equal", "n.csv"],
+            "key,2\nfd,,1\n",
+        ),
+        (
+            &["depprof", "profile", "--nulls", "distinct", "n.csv"],
+            "key,1\nkey,2\nfd,2,1\nfd,1,2\n",
+        ),
+    ];
+    for case in cases {
+        let (written, status) = ran(
+            &rt,
+            alloc,
+            case.0,
+            &[("n.csv", b"a,b\n,1\n,2\n")],
+            Limits::standard(),
+        )?;
+        assert!(rt;
+            written
+                .as_slice()
+                .starts_with(b"relation,n.csv,2,2\ncolumn,1,a\ncolumn,2,b\n")
+        );
+        assert!(rt;
+            written.as_slice().ends_with(case.1.as_bytes()),
+            "at {:?}",
+            case.0
+        );
+        assert!(rt; lines_of(written.as_slice()) == 3 + lines_of(case.1.as_bytes()));
+        assert!(rt; status == 0);
+    }
+    Ok(())
+}
+
+#[test]
+fn files_are_reported_in_the_order_of_the_words(rt: HostRuntime) -> Result<(), Fail> {
+    let alloc = rt.alloc();
+    let one = "relation,one,1,2\ncolumn,1,a\nkey,1\n";
+    let bare = "relation,-x,1,0\ncolumn,1,b\nkey,\nfd,,1\n";
+    let dash = "relation,-,1,1\ncolumn,1,c\nkey,\nfd,,1\n";
+    let cases: [(&[&str], &[&str]); 6] = [
+        (&["depprof", "profile", "one", "-"], &[one, dash]),
+        (&["depprof", "profile", "-", "one"], &[dash, one]),
+        (&["depprof", "profile", "one", "one"], &[one, one]),
+        (
+            &["depprof", "profile", "--", "-x", "one", "-x"],
+            &[bare, one, bare],
+        ),
+        (
+            &[
+                "depprof",
+                "profile",
+                "one",
+                "--workers",
+                "3",
+                "-",
+                "--nulls",
+                "distinct",
+                "--",
+                "-x",
+            ],
+            &[one, dash, bare],
+        ),
+        (
+            &["depprof", "profile", "-", "--", "-", "one", "-"],
+            &[dash, dash, one, dash],
+        ),
+    ];
+    let files: [(&str, &[u8]); 3] = [("one", b"a\n1\n2\n"), ("-x", b"b\n"), ("-", b"c\n3\n")];
+    for case in cases {
+        let mut wanted = Vec::new(alloc);
+        for report in case.1 {
+            wanted.extend_from_slice(report.as_bytes())?;
+        }
+        let (written, status) = ran(&rt, alloc, case.0, files.as_slice(), Limits::standard())?;
+        assert!(rt;
+            written.as_slice() == wanted.as_slice(),
+            "the text at {:?}",
+            case.0
+        );
+        assert!(rt; status == 0, "the status at {:?}", case.0);
+    }
     Ok(())
 }
 
@@ -223,8 +381,7 @@ fn widths_up_to_the_limit_are_reported(rt: HostRuntime) -> Result<(), Fail> {
             &rt,
             alloc,
             &words,
-            "w.csv",
-            bytes.as_slice(),
+            &[("w.csv", bytes.as_slice())],
             Limits::standard(),
         )?;
         assert!(rt;
@@ -242,8 +399,7 @@ fn widths_up_to_the_limit_are_reported(rt: HostRuntime) -> Result<(), Fail> {
         &rt,
         alloc,
         &words,
-        "w.csv",
-        bytes.as_slice(),
+        &[("w.csv", bytes.as_slice())],
         Limits::standard(),
     )?;
     assert!(rt;
@@ -275,8 +431,7 @@ fn cells_up_to_the_limit_are_read(rt: HostRuntime) -> Result<(), Fail> {
             &rt,
             alloc,
             &words,
-            "h.csv",
-            bytes.as_slice(),
+            &[("h.csv", bytes.as_slice())],
             Limits::standard(),
         )?;
         assert!(rt; written.as_slice() == case.2, "a cell of {} bytes", case.1);
