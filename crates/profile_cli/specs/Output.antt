@@ -10,7 +10,7 @@ use Rattle.rel_base.specs.Relation.{Content}
 use Rattle.rel_base.specs.RowState.{RowState, opened}
 use Rattle.rel_base.specs.Covers.{covers}
 use Rattle.ports.specs.Files.{Files, bytes_of}
-use Rattle.ports.specs.declared.storing.Putting.{Putting}
+use Rattle.ports.specs.declared.putting.Putting.{Putting}
 use Rattle.ports.specs.Whole.{Puts, put_failed}
 use Rattle.ports.specs.Faults.{Counts}
 use Rattle.csv_load.specs.Records.{records_of}
