@@ -2,6 +2,8 @@
 #![tactic(auto)]
 
 mod command;
+#[cfg(test)]
+mod fault_tests;
 mod outcome;
 mod reading;
 mod reports;

@@ -29,7 +29,7 @@ use std::thread::Threads;
 
 /// Runs the command that the words are. The first word is the program's own name.
 ///
-/// `profile FILE` reads the file and writes its relation's columns, minimal keys and minimal functional dependencies.
+/// `profile FILE..` reads all files, and then writes for each of them its relation's columns, minimal keys and minimal functional dependencies.
 pub fn run<R: Threads + Wait + Sync, H: Shelf, I: Source, O: Sink, G: Gate + Sync>(
     rt: &R,
     alloc: Global,
