@@ -1,0 +1,139 @@
+// The dictionary.
+ghost use Rattle.std.specs.Prelude.{◌≡◌, ◌<◌, [], Some, true, IfOk, OnOk, OnErr, length, slice_get, take};
+ghost use Rattle.column_dict.specs.Coding.{IsCoding, IsCodeOf, coded, is_new};
+
+use crate::table::{Known, add_fresh, add_known, entries_left, is_fresh, known_code};
+use rel_base::{Cell, Nulls};
+use std::alloc::{AllocError, Global};
+use std::hash::BuildHasherDefault;
+use std::marker::Model;
+use std::mem;
+
+/// The codes of a column's cells, counted from 0 by first sight.
+///
+/// Two codes are equal exactly where their cells are, but that under `Nulls::Distinct` each NULL coded has a code of its own.
+/// A cell that has a code takes no memory when it is coded again; a new one is copied.
+/// A code costs about 60 bytes and its cell, a fresh NULL 4 bytes.
+#[derive(Drop)]
+pub struct Dict {
+    known: Known,
+    places: Vec<u32>,
+    null: Cell,
+    scratch: Vec<u8>,
+    alloc: Global,
+    nulls: Nulls,
+}
+
+impl Model for Dict {
+    ghost use Rattle.std.specs.Prelude.{◌≡◌, []};
+    ghost use Rattle.std.specs.Map.{keys_of};
+    ghost use Rattle.column_dict.specs.Coding.{Coding};
+    ghost use Rattle.column_dict.specs.Layout.{cells_at, IsLaid};
+
+    ghost Value = { Coding };
+
+    ghost view = { λ d. record { nulls = d.nulls; cells = cells_at (keys_of d.known.entries) d.places.items } };
+
+    ghost invariant = { λ d. (d.null ≡ []) × IsLaid d.nulls d.known.entries d.places.items };
+}
+
+impl Dict {
+    ghost use Rattle.rel_base.specs.declared.nulls.Nulls.TheVariants.{Equal};
+
+    /// No cells, and NULL equal to NULL.
+    pub fn new(alloc: Global) -> Dict
+        ensures { result ≡ record { nulls = Equal; cells = [] } }
+    {
+        Dict::with_nulls(alloc, Nulls::Equal)
+    }
+
+    /// No cells, for this reading of NULL.
+    pub fn with_nulls(alloc: Global, nulls: Nulls) -> Dict
+        ensures { result ≡ record { nulls = nulls; cells = [] } }
+    {
+        Dict {
+            known: Known::with_hasher(alloc, BuildHasherDefault::new()),
+            places: Vec::new(alloc),
+            null: Cell::of(Vec::new(alloc)),
+            scratch: Vec::new(alloc),
+            alloc,
+            nulls,
+        }
+    }
+
+    /// The code of a cell, which is copied where it is new.
+    ///
+    /// After want of memory the dictionary is as before.
+    pub fn code(&mut self, cell: &Cell) -> Result<u32, AllocError>
+        requires { length self.old.cells < 4294967295 }
+        ensures cell { IfOk result (λ code. slice_get self.new.cells code ≡ Some cell.now) }
+        ensures cells { OnOk result (self.new ≡ coded self.old cell.now) }
+        ensures last { IfOk result (λ code. is_new self.old cell.now ≡ true → code ≡ length self.old.cells) }
+        ensures agrees { IfOk result (λ code. IsCodeOf self.old cell.now code) }
+        ensures refused { OnErr result (self.new ≡ self.old) }
+    {
+        if is_fresh(self.nulls, cell) {
+            return add_fresh(&mut self.places);
+        }
+        if let Some(code) = known_code(&self.known, cell) {
+            return Ok(code);
+        }
+        let copy = Cell::copied(self.alloc, cell.bytes())?;
+        add_known(&mut self.known, &mut self.places, copy)
+    }
+
+    /// The code of the cell of these bytes. It does what `code` does, and makes no cell where one is known: the bytes are
+    /// looked up from a buffer that the dictionary keeps, which grows to the longest cell.
+    pub fn code_of(&mut self, bytes: &[u8]) -> Result<u32, AllocError>
+        requires { length self.old.cells < 4294967295 }
+        ensures cell { IfOk result (λ code. slice_get self.new.cells code ≡ Some bytes.now) }
+        ensures cells { OnOk result (self.new ≡ coded self.old bytes.now) }
+        ensures last { IfOk result (λ code. is_new self.old bytes.now ≡ true → code ≡ length self.old.cells) }
+        ensures agrees { IfOk result (λ code. IsCodeOf self.old bytes.now code) }
+        ensures refused { OnErr result (self.new ≡ self.old) }
+    {
+        let mut buffer = mem::replace(&mut self.scratch, Vec::new(self.alloc));
+        buffer.clear();
+        let filled = buffer.extend_from_slice(bytes);
+        let cell = Cell::of(buffer);
+        let answer = match filled {
+            Ok(()) => self.code(&cell),
+            Err(refused) => Err(refused),
+        };
+        self.scratch = cell.into_bytes();
+        answer
+    }
+
+    /// The cell of a code.
+    pub fn cell(&self, code: u32) -> &Cell
+        requires { code < length self.now.cells }
+        ensures { slice_get self.now.cells code ≡ Some result.now }
+    {
+        match self.known.get_index(self.places[code as usize] as usize) {
+            Some((cell, _)) => cell,
+            None => &self.null,
+        }
+    }
+
+    /// How many codes there are: they are the numbers below it.
+    pub fn len(&self) -> u32
+        ensures len { result ≡ length self.now.cells }
+        ensures coding { IsCoding self.now }
+    {
+        // `len` is called for its clause that no cell stands twice.
+        let _cells = self.known.len();
+        self.places.len() as u32
+    }
+
+    /// Drops the codes from n on, as if their cells had not been seen. It takes a step a code dropped, and no memory.
+    pub fn keep(&mut self, n: u32)
+        ensures { self.new ≡ record { nulls = self.old.nulls; cells = take n self.old.cells } }
+    {
+        let n = n as usize;
+        if n < self.places.len() {
+            let left = entries_left(&self.known, &self.places[n..]);
+            self.known.truncate(left);
+            self.places.truncate(n);
+        }
+    }
+}

@@ -1,0 +1,9 @@
+//! A dictionary of the cells of a column.
+#![tactic(auto)]
+
+mod dict;
+mod table;
+#[cfg(test)]
+mod tests;
+
+pub use dict::Dict;
