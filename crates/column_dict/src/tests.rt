@@ -1,19 +1,33 @@
 // The codes of a few cells under both readings of NULL.
 use crate::Dict;
 use rel_base::{Cell, Nulls};
+use std::alloc::AllocError;
+use std::process::Abort;
 use std::test::Fail;
+
+// The code of these bytes in a dictionary that is not full.
+fn code_of(rt: &impl Abort, dict: &mut Dict, bytes: &[u8]) -> Result<u32, AllocError> {
+    assert!(rt; dict.len() < u32::MAX, "the dictionary is full");
+    dict.code_of(bytes)
+}
+
+// The code of this cell in a dictionary that is not full.
+fn code(rt: &impl Abort, dict: &mut Dict, cell: &Cell) -> Result<u32, AllocError> {
+    assert!(rt; dict.len() < u32::MAX, "the dictionary is full");
+    dict.code(cell)
+}
 
 #[test]
 fn null_has_one_code_where_null_equals_null(rt: HostRuntime) -> Result<(), Fail> {
     let mut dict = Dict::new(rt.alloc());
     let x = Cell::copied(rt.alloc(), b"x")?;
     let null = Cell::copied(rt.alloc(), b"")?;
-    assert_eq!(rt; dict.len(), 0);
-    assert_eq!(rt; dict.code(&x)?, 0);
-    assert_eq!(rt; dict.code(&null)?, 1);
-    assert_eq!(rt; dict.code(&x)?, 0);
-    assert_eq!(rt; dict.code_of(b"")?, 1);
-    assert_eq!(rt; dict.len(), 2);
+    assert!(rt; dict.len() == 0);
+    assert!(rt; code(&rt, &mut dict, &x)? == 0);
+    assert!(rt; code(&rt, &mut dict, &null)? == 1);
+    assert!(rt; code(&rt, &mut dict, &x)? == 0);
+    assert!(rt; code_of(&rt, &mut dict, b"")? == 1);
+    assert!(rt; dict.len() == 2);
     assert!(rt; dict.cell(1).is_null());
     Ok(())
 }
@@ -23,17 +37,21 @@ fn each_null_has_a_code_of_its_own_where_null_agrees_with_nothing(
     rt: HostRuntime,
 ) -> Result<(), Fail> {
     let mut dict = Dict::with_nulls(rt.alloc(), Nulls::Distinct);
-    assert_eq!(rt; dict.code_of(b"")?, 0);
-    assert_eq!(rt; dict.code_of(b"x")?, 1);
-    assert_eq!(rt; dict.code_of(b"")?, 2);
-    assert_eq!(rt; dict.code_of(b"y")?, 3);
-    assert_eq!(rt; dict.code_of(b"x")?, 1);
-    assert_eq!(rt; dict.len(), 4);
-    assert_eq!(rt; dict.cell(1).bytes(), b"x".as_slice());
+    for (bytes, wanted) in [
+        (b"".as_slice(), 0u32),
+        (b"x", 1),
+        (b"", 2),
+        (b"y", 3),
+        (b"x", 1),
+    ] {
+        assert!(rt; code_of(&rt, &mut dict, bytes)? == wanted, "{bytes:?}");
+    }
+    assert!(rt; dict.len() == 4);
+    assert!(rt; dict.cell(1).bytes() == b"x".as_slice());
     dict.keep(3);
-    assert_eq!(rt; dict.len(), 3);
+    assert!(rt; dict.len() == 3);
     assert!(rt; dict.cell(2).is_null());
-    assert_eq!(rt; dict.code_of(b"z")?, 3);
-    assert_eq!(rt; dict.code_of(b"y")?, 4);
+    assert!(rt; code_of(&rt, &mut dict, b"z")? == 3);
+    assert!(rt; code_of(&rt, &mut dict, b"y")? == 4);
     Ok(())
 }
