@@ -4,3 +4,4 @@ pub mod Found
 pub mod Parse
 pub mod Bare
 pub mod TheApp
+pub mod Sure

@@ -8,6 +8,8 @@ mod outcome;
 mod reading;
 mod reports;
 #[cfg(test)]
+mod sure_tests;
+#[cfg(test)]
 mod tests;
 mod top_call;
 mod usage;

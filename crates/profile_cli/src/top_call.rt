@@ -86,7 +86,8 @@ pub fn run<R: Threads + Wait + Sync, H: Shelf, I: Source, O: Sink, G: Gate + Syn
     // An open, a read or a close failed on the file of a read fault, and on none where the run went on.
     ensures reads { ReadsCounted result H.read_faults H.read_last shelf.old shelf.new }
 
-    // The files stay as they were, nothing is open, and the input is unread.
+    // The sink keeps its room, the files stay as they were, nothing is open, and the input is unread.
+    ensures room { O.room out.new ≡ O.room out.old }
     ensures content { H.content shelf.new ≡ H.content shelf.old }
     ensures closed { H.opened shelf.new ≡ Nothing }
     ensures writes { SameFaults H.write_faults H.write_last shelf.old shelf.new }
@@ -113,6 +114,7 @@ fn profile<H: Shelf, O: Sink>(
     requires { H.opened shelf.old ≡ Nothing }
     ensures profiles { Profiles result command limits.now (H.content shelf.old) (O.held out.old) (O.held out.new) (O.faults out.old) (O.faults out.new) }
     ensures reads { ReadsCounted result H.read_faults H.read_last shelf.old shelf.new }
+    ensures room { O.room out.new ≡ O.room out.old }
     ensures content { H.content shelf.new ≡ H.content shelf.old }
     ensures closed { H.opened shelf.new ≡ Nothing }
     ensures writes { SameFaults H.write_faults H.write_last shelf.old shelf.new }
@@ -133,8 +135,9 @@ fn write_reports<O: Sink>(
     out: &mut O,
 ) -> Outcome
     requires { length relations.now ≡ length command.now.files }
-    ensures { (limit : ℕ) → WritesText result (flat_map (λ p. report_of p.0 (opened command.now.nulls limit p.1)) (zip command.now.files relations.now))
+    ensures written { (limit : ℕ) → WritesText result (flat_map (λ p. report_of p.0 (opened command.now.nulls limit p.1)) (zip command.now.files relations.now))
         (O.held out.old) (O.held out.new) (O.faults out.old) (O.faults out.new) }
+    ensures room { O.room out.new ≡ O.room out.old }
 {
     match reports_of(alloc, command.nulls(), command.files(), relations) {
         Ok(text) => match put_all(out, text.as_slice()) {
@@ -155,7 +158,8 @@ fn refuse<O: Sink>(
     out: &mut O,
 ) -> Outcome
     requires { place < length command.files }
-    ensures { EndsWith result (Refused (slice_index_or command.files place []) rec why) (file_line (slice_index_or command.files place []) rec why)
+    ensures room { O.room out.new ≡ O.room out.old }
+    ensures ends { EndsWith result (Refused (slice_index_or command.files place []) rec why) (file_line (slice_index_or command.files place []) rec why)
         (O.held out.old) (O.held out.new) (O.faults out.old) (O.faults out.new) }
 {
     let file = command.into_file(place);
@@ -171,7 +175,8 @@ fn refuse<O: Sink>(
 // Names the file that could not be read. What the sink answers does not change the outcome.
 fn end_at_fault<O: Sink>(alloc: Global, command: Command, place: usize, out: &mut O) -> Outcome
     requires { place < length command.files }
-    ensures { EndsWith result (ReadFault (slice_index_or command.files place [])) (fault_line (slice_index_or command.files place []))
+    ensures room { O.room out.new ≡ O.room out.old }
+    ensures ends { EndsWith result (ReadFault (slice_index_or command.files place [])) (fault_line (slice_index_or command.files place []))
         (O.held out.old) (O.held out.new) (O.faults out.old) (O.faults out.new) }
 {
     let file = command.into_file(place);

@@ -18,10 +18,10 @@ returns-in-Read-clause-profiles g c =
     (subst (λ (names : List (List ℕ)). IfSome (H.content c.args.shelf.now)
     (λ held. (first_refusal c.args.limits.now held names ≡ None) × (c.in-Read.relations.items ≡ map (λ name. file_content (bytes_of held name)) names))) c.files.ensures c.in-Read.ensures.files)
     (λ limit. subst (λ (relations : List Content). WritesText c.write_reports.result (flat_map (λ p. report_of p.0 (opened c.args.command.nulls limit p.1)) (zip c.args.command.files relations))
-    (O.held c.args.out.now) (O.held c.write_reports.new.out) (O.faults c.args.out.now) (O.faults c.write_reports.new.out)) c.as_slice.ensures.value (c.write_reports.ensures limit))
+    (O.held c.args.out.now) (O.held c.write_reports.new.out) (O.faults c.args.out.now) (O.faults c.write_reports.new.out)) c.as_slice.ensures.value (c.write_reports.ensures.written limit))
 
 pub returns-in-Read-clause-reads : goal.returns-in-Read-clause-reads
 returns-in-Read-clause-reads g c =
     let H = g.H.Shelf in
     let O = g.O.Sink in
-    ReadsCounted-written c.write_reports.result H.read_faults H.read_last c.args.shelf.now c.read_files.new.shelf _ _ _ _ _ (c.write_reports.ensures 0) c.in-Read.ensures.reads
+    ReadsCounted-written c.write_reports.result H.read_faults H.read_last c.args.shelf.now c.read_files.new.shelf _ _ _ _ _ (c.write_reports.ensures.written 0) c.in-Read.ensures.reads

@@ -6,8 +6,8 @@ use Rattle.rel_base.specs.RowState.{opened}
 use Rattle.profile_cli.specs.Output.{report_of}
 use Rattle.profile_cli.proofs.top_call.write_reports.Goals as goal
 
-pub returns-in-Put : goal.returns-in-Put
-returns-in-Put g c limit =
+pub returns-in-Put-clause-written : goal.returns-in-Put-clause-written
+returns-in-Put-clause-written g c limit =
     let O = g.O.Sink in (
       subst (λ (text : List ℕ). Gains (O.held c.args.out.now) (O.held c.put_all.new.sink) text)
           (c.as_slice.ensures.value ∙ c.in-Ok.ensures limit
@@ -16,8 +16,8 @@ returns-in-Put g c limit =
       c.in-Put.ensures.counted,
     )
 
-pub returns-in-Ok : goal.returns-in-Ok
-returns-in-Ok g c limit =
+pub returns-in-Ok-clause-written : goal.returns-in-Ok-clause-written
+returns-in-Ok-clause-written g c limit =
     let O = g.O.Sink in
     let p = c.in-Failed.ensures.puts in (
       (

@@ -1,0 +1,74 @@
+// Runs over a source and a shelf that never fail, and a sink with more room than the text.
+ghost use Rattle.std.specs.Prelude.{◌≡◌, ◌<◌, [], Some, None, length};
+ghost use Rattle.ports.specs.Files.{Nothing};
+ghost use Rattle.ports.specs.Lists.{look_up};
+ghost use Rattle.profile_cli.specs.Command as words_of;
+ghost use Rattle.profile_cli.specs.Command.{texts};
+ghost use Rattle.profile_cli.specs.Output.{first_refusal, profile_text};
+ghost use Rattle.profile_cli.specs.Outcomes.{IsDoneOrNoMemory, OnDone};
+ghost use Rattle.profile_cli.specs.Request.{Request};
+
+use crate::{Outcome, run};
+use ports::{OpenGate, SureShelf, SureSink, SureSource, Text};
+use rel_base::{Limits, Name};
+use std::alloc::Global;
+use std::process::Abort;
+use std::sync::Wait;
+use std::test::Fail;
+use std::thread::Threads;
+
+// Where the words are a command, no file is refused, and an empty sink has more room than the text, the whole text is written, unless memory ran out.
+fn profiled_surely<R: Threads + Wait + Sync>(
+    rt: &R,
+    alloc: Global,
+    words: Vec<String>,
+    shelf: &mut SureShelf,
+    input: &mut SureSource,
+    out: &mut SureSink,
+    limits: Limits,
+) -> Outcome
+    requires closed { shelf.old.opened ≡ Nothing }
+    requires empty { out.old.store.held ≡ [] }
+    requires no_fault { out.old.faults ≡ 0 }
+    ensures complete { (request : Request) → words_of.command (texts words.items) ≡ Some request
+        → first_refusal limits (look_up shelf.old.files) request.files ≡ None
+        → length (profile_text request limits (look_up shelf.old.files)) < out.old.store.room
+        → IsDoneOrNoMemory result }
+    ensures written { (request : Request) → words_of.command (texts words.items) ≡ Some request
+        → OnDone result (out.new.store.held ≡ profile_text request limits (look_up shelf.old.files)) }
+{
+    let outcome = run(rt, alloc, words, shelf, input, out, &OpenGate, limits);
+    let _held = out.bytes();
+    outcome
+}
+
+const N: &str = "a,b\n,1\n,2\n";
+
+#[test]
+fn a_run_with_room_is_done(rt: HostRuntime) -> Result<(), Fail> {
+    let alloc = rt.alloc();
+    let report = "relation,n.csv,2,2\ncolumn,1,a\ncolumn,2,b\nkey,2\nfd,,1\n";
+    let mut words = Vec::new(alloc);
+    for word in ["depprof", "profile", "n.csv", "n.csv"] {
+        words.push(String::from_str(alloc, word)?)?;
+    }
+    let name = Name::of(String::from_str(alloc, "n.csv")?);
+    let text = Text::of(Vec::from_slice(alloc, N.as_bytes())?);
+    let mut shelf = SureShelf::of(vec![in alloc; (name, text)]?);
+    let mut input = SureSource::of(Vec::new(alloc));
+    let mut out = SureSink::with_room(alloc, report.len().saturating_mul(2).saturating_add(1))?;
+    let outcome = profiled_surely(
+        &rt,
+        alloc,
+        words,
+        &mut shelf,
+        &mut input,
+        &mut out,
+        Limits::standard(),
+    );
+    assert!(rt; outcome.status() == 0);
+    assert!(rt; out.bytes().starts_with(report.as_bytes()));
+    assert!(rt; out.bytes().ends_with(report.as_bytes()));
+    assert!(rt; out.bytes().len() == report.len().saturating_mul(2));
+    Ok(())
+}
