@@ -1,12 +1,10 @@
 -- Files read one after another.
-use Rattle.std.proofs.Common.{◌≡◌, ℕ, zero, suc, ◌+◌, ◌<◌, ◌≤◌, ltb, Bool, true, false, cond, refl, sym, ap, ap₂, ◌∙◌, subst, arith, List, [], ◌∷◌, ◌++◌, length, get_or, take, map, Option, Some, None}
+use Rattle.std.proofs.Common.{◌≡◌, ℕ, zero, suc, ◌+◌, ◌<◌, ◌≤◌, Bool, cond, refl, sym, ap, ap₂, ◌∙◌, arith, List, [], ◌∷◌, ◌++◌, length, get_or, take, map, Option, Some, None}
 use Rattle.std.proofs.lemmas.Bool.{le-ltb, lt-ltb}
 use Rattle.std.proofs.lemmas.List.{take_more, map-append}
-use Rattle.std.specs.Option.{option_map}
 use Rattle.rel_base.specs.declared.limits.Limits.{Limits}
 use Rattle.rel_base.specs.declared.why.Why.{Why}
 use Rattle.rel_base.specs.declared.why.Why.TheVariants.{Bytes}
-use Rattle.rel_base.specs.Cells.{Row}
 use Rattle.rel_base.specs.Relation.{Content}
 use Rattle.ports.specs.Files.{Files, bytes_of}
 use Rattle.csv_load.specs.Records.{records_of}

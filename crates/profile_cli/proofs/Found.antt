@@ -1,18 +1,20 @@
 -- What the getters of a parse read, as rows.
-use Rattle.std.proofs.Common.{◌≡◌, ◌∙◌, ℕ, Bool, cond, true, false, refl, sym, ap, subst, List, [], map, Option, Some, None, Result}
+use Rattle.std.proofs.Common.{◌≡◌, ◌∙◌, ◌<◌, arith, ℕ, Bool, cond, true, false, refl, sym, ap, List, [], Option, Some, None, Result}
 use Rattle.std.specs.Prelude.{option_map, unwrap_or, codes, Ok, Err}
 use Rattle.std.specs.Option.{option_map_or}
 use Rattle.std.specs.Result.{result_unwrap_or}
 use Rattle.std.specs.Borrow.{Bor}
 use Rattle.std.specs.Str.{bytes_eq}
-use Rattle.std.specs.Str.Parse.{ParsesUnsigned}
-use Rattle.rel_base.specs.declared.nulls.Nulls.{Nulls}
+use Rattle.std.specs.Str.Parse.{ParsesUnsigned, digits_value, without_leading_plus}
 use Rattle.rel_base.specs.declared.nulls.Nulls.TheVariants.{Equal, Distinct}
 use Rattle.clap.specs.Matches.{ReadsOne, first_value, matched_of, one_text, raw_values}
-use Rattle.clap.specs.Walk.{Text, byte_or_zero, first_of, one_of, rows_of}
+use Rattle.clap.specs.Walk.{Text, rows_of}
 use Rattle.clap.specs.declared.parser.matches.Found.{Found}
-use Rattle.clap.proofs.WalkLemmas.{byte_read, first_value-rows, one_text-rows, raw_values-rows}
-use Rattle.profile_cli.specs.Command.{files_of, nulls_of, workers_of}
+use Rattle.clap.proofs.WalkLemmas.{first_value-rows, one_text-rows, raw_values-rows}
+use Rattle.clap.specs.ValueTests.{is_unsigned_in}
+use Rattle.clap.specs.declared.builder.value_parser.ValueParser.TheVariants as vp
+use Rattle.clap.proofs.ValueTestLemmas.{Accepts-accepts, accepts-Accepts}
+use Rattle.profile_cli.specs.Command.{files_of, nulls_of, number_or, workers_of}
 
 -- the text of a reference, or another
 text_or : (o : Option (Bor Text)) (d : Bor Text) → (unwrap_or o d).now ≡ unwrap_or (option_map (λ s. s.now) o) d.now
@@ -29,15 +31,31 @@ nulls_of-word f o word d is found same default_word e =
 pub files_of-words : (f : Found) (o : Option (List Text)) → o ≡ option_map raw_values (matched_of f (codes "files")) → unwrap_or o [] ≡ files_of (rows_of f)
 files_of-words f o found = ap (λ (x : Option (List Text)). unwrap_or x []) (found ∙ raw_values-rows f (codes "files"))
 
-pub workers_of-number : {E : Type 0} (G : List ℕ → Result ℕ E → Type 0) (f : Found) (r : Option ℕ) → ((t : Text) (x : Result ℕ E) → G t x → ParsesUnsigned 8 10 t x)
-    → (one_text f (codes "workers") ≡ None → r ≡ None) → ((t : Text) → one_text f (codes "workers") ≡ Some t → ReadsOne G t r) → unwrap_or r 0 ≡ workers_of (rows_of f)
-workers_of-number {E} G f r parses none value = go (one_text f (codes "workers")) refl
-    ∙ ap (λ (o : Option Text). option_map_or byte_or_zero o 0) (one_text-rows f (codes "workers"))
+-- a number that was parsed, or another
+parsed_or : {E : Type 0} (other : ℕ) (text : Text) (r : Result ℕ E) → ParsesUnsigned 8 10 text r → result_unwrap_or r other ≡ number_or other text
+parsed_or other text (Ok n) h =
+    let numeral = h.0.0 in
+    let small : digits_value 10 (without_leading_plus text) < 256 = h.0.1 in
+    let passes : is_unsigned_in 0 255 text ≡ true = Accepts-accepts false (vp.Unsigned 0 255) text (numeral, omega arith, omega arith, omega arith) in
+    rw passes h.1
+parsed_or {E} other text (Err e) h = go (is_unsigned_in 0 255 text) refl
   where
-    read : (t : Text) (o : Option ℕ) → ReadsOne G t o → unwrap_or o 0 ≡ byte_or_zero t
-    read t (Some n) h = byte_read {E = E} t (Ok n) (parses t (Ok n) h)
-    read t None h = byte_read {E = E} t (Err h.0) (parses t (Err h.0) h.1)
+    go : (b : Bool) → is_unsigned_in 0 255 text ≡ b → other ≡ cond (is_unsigned_in 0 255 text) (digits_value 10 (without_leading_plus text)) other
+    go true e =
+        let passes = accepts-Accepts false (vp.Unsigned 0 255) text e in
+        let most = passes.3 in
+        absurd (h (passes.0, omega arith))
+    go false e = rw e refl
 
-    go : (o : Option Text) → one_text f (codes "workers") ≡ o → unwrap_or r 0 ≡ option_map_or byte_or_zero (one_text f (codes "workers")) 0
-    go None e = ap (λ (x : Option ℕ). unwrap_or x 0) (none e) ∙ sym (ap (λ (o : Option Text). option_map_or byte_or_zero o 0) e)
-    go (Some t) e = read t r (value t e) ∙ sym (ap (λ (o : Option Text). option_map_or byte_or_zero o 0) e)
+pub workers_of-number : {E : Type 0} (G : List ℕ → Result ℕ E → Type 0) (f : Found) (r : Option ℕ) → ((t : Text) (x : Result ℕ E) → G t x → ParsesUnsigned 8 10 t x)
+    → (one_text f (codes "workers") ≡ None → r ≡ None) → ((t : Text) → one_text f (codes "workers") ≡ Some t → ReadsOne G t r) → unwrap_or r 4 ≡ workers_of (rows_of f)
+workers_of-number {E} G f r parses none value = go (one_text f (codes "workers")) refl
+    ∙ ap (λ (o : Option Text). option_map_or (number_or 4) o 4) (one_text-rows f (codes "workers"))
+  where
+    read : (t : Text) (o : Option ℕ) → ReadsOne G t o → unwrap_or o 4 ≡ number_or 4 t
+    read t (Some n) h = parsed_or {E = E} 4 t (Ok n) (parses t (Ok n) h)
+    read t None h = parsed_or {E = E} 4 t (Err h.0) (parses t (Err h.0) h.1)
+
+    go : (o : Option Text) → one_text f (codes "workers") ≡ o → unwrap_or r 4 ≡ option_map_or (number_or 4) (one_text f (codes "workers")) 4
+    go None e = ap (λ (x : Option ℕ). unwrap_or x 4) (none e) ∙ sym (ap (λ (o : Option Text). option_map_or (number_or 4) o 4) e)
+    go (Some t) e = read t r (value t e) ∙ sym (ap (λ (o : Option Text). option_map_or (number_or 4) o 4) e)

@@ -1,5 +1,6 @@
 pub mod Files
 pub mod Texts
+pub mod Workers
 pub mod Found
 pub mod Parse
 pub mod Bare

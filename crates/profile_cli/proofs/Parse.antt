@@ -1,5 +1,5 @@
 -- What a parse of the words says of the command that they are.
-use Rattle.std.proofs.Common.{◌≡◌, ◌∙◌, ◌⊎◌, inl, inr, ℕ, Bool, cond, true, false, refl, sym, ap, subst, List, [], ◌∷◌, map, drop, length, arith, Option, Some, None}
+use Rattle.std.proofs.Common.{◌≡◌, ◌∙◌, ◌⊎◌, inl, inr, Bool, cond, true, false, refl, sym, ap, subst, List, [], ◌∷◌, drop, length, arith, Option, Some, None}
 use Rattle.std.proofs.lemmas.Bool.{ne_eqb}
 use Rattle.std.specs.Prelude.{option_map, option_and_then, is_some, codes, Box}
 use Rattle.std.specs.Box.{box_value}
@@ -17,9 +17,9 @@ use Rattle.clap.specs.declared.error.kind.ErrorKind.{ErrorKind}
 use Rattle.clap.specs.declared.error.kind.ErrorKind.TheVariants.{OutOfMemory}
 use Rattle.std.proofs.lemmas.Slice.Eq.{bytes_eq-Decides}
 use Rattle.profile_cli.specs.Request.{Request}
-use Rattle.profile_cli.specs.Words.{IsTheApp, app_with, behind, null_words, the_app}
+use Rattle.profile_cli.specs.Words.{IsTheApp, app_with, behind, the_app}
 use Rattle.profile_cli.specs.Command.{command, profile_request, request_of}
-use Rattle.profile_cli.proofs.Bare.{bare_shape, bare_words, entered-bare, entered_fault-bare}
+use Rattle.profile_cli.proofs.Bare.{bare_words, entered-bare, entered_fault-bare}
 
 -- ---- the command, wherever the words of its option stand
 simple_with : (names : Bor (List (Bor Text))) → is_simple (app_with names) ≡ true

@@ -1,5 +1,5 @@
 -- What a run comes to over a source and a shelf that never fail, and a sink with more room than the text.
-use Rattle.std.proofs.Common.{◌≡◌, ◌∙◌, ◌<◌, ℕ, zero, suc, refl, sym, ap, subst, arith, List, [], ◌++◌, length, take, length-take, Option, Some, None}
+use Rattle.std.proofs.Common.{◌≡◌, ◌∙◌, ◌<◌, ℕ, zero, suc, sym, ap, subst, arith, List, [], ◌++◌, length, take, length-take, Option, Some, None}
 use Rattle.std.specs.Prelude.{IsSomeAnd}
 use Rattle.rel_base.specs.declared.limits.Limits.{Limits}
 use Rattle.ports.specs.Bytes.{Gains}

@@ -1,5 +1,5 @@
 -- The text of several reports, and what a run of `profile` comes to.
-use Rattle.std.proofs.Common.{◌≡◌, ℕ, zero, suc, ◌+◌, ◌<◌, ◌≤◌, refl, sym, ap, ap₂, ◌∙◌, subst, arith, List, [], ◌∷◌, ◌++◌, length, get_or, take, map, append_assoc, append-nil, Option, Some, None, Result, Ok, Err, Bool, true, false, cond}
+use Rattle.std.proofs.Common.{◌≡◌, ℕ, zero, suc, ◌+◌, ◌<◌, refl, sym, ap, ap₂, ◌∙◌, subst, arith, List, [], ◌∷◌, ◌++◌, length, get_or, take, map, append-nil, Option, Some, None, Result, Ok, Err, false, cond}
 use Rattle.std.specs.Prelude.{OnOk, IfOk, IfSome, is_ok, is_err}
 use Rattle.std.proofs.lemmas.Bool.{false≢true}
 use Rattle.std.specs.List.{flat_map, zip, range_with_len}
@@ -7,19 +7,18 @@ use Rattle.std.proofs.lemmas.List.Concat.{flat_map-append}
 use Rattle.std.proofs.lemmas.List.FromFn.{length-range_with_len}
 use Rattle.rel_base.specs.declared.nulls.Nulls.{Nulls}
 use Rattle.rel_base.specs.declared.limits.Limits.{Limits}
-use Rattle.rel_base.specs.declared.why.Why.{Why}
 use Rattle.rel_base.specs.Cells.{Row}
 use Rattle.rel_base.specs.Relation.{Content}
 use Rattle.rel_base.specs.RowState.{opened}
 use Rattle.rel_base.specs.Covers.{CoverLists, covers}
 use Rattle.report_text.specs.Report.{report_text}
 use Rattle.ports.specs.Bytes.{Gains}
-use Rattle.ports.specs.Faults.{SameFaults, Rose}
+use Rattle.ports.specs.Faults.{SameFaults}
 use Rattle.ports.specs.Files.{Files, bytes_of}
 use Rattle.profile_cli.specs.declared.outcome.Outcome.{Outcome}
 use Rattle.profile_cli.specs.declared.outcome.Outcome.TheVariants.{Done, Usage, Refused, ReadFault, WriteFault, NoMemory}
 use Rattle.profile_cli.specs.Request.{Request}
-use Rattle.profile_cli.specs.Output.{file_content, report_of, reports, first_refusal, profile_text}
+use Rattle.profile_cli.specs.Output.{file_content, report_of, reports, first_refusal}
 use Rattle.profile_cli.specs.Outcomes.{WritesText, Profiles, ReadsCounted}
 
 module _ {T E : Type 0} where

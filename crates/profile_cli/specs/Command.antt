@@ -3,10 +3,12 @@ use Rattle.std.specs.Prelude.{if◌then◌else◌, ℕ, List, [], map, codes, Op
 use Rattle.std.specs.declared.alloc.Global.{Global}
 use Rattle.std.specs.Option.{option_map_or}
 use Rattle.std.specs.Str.{bytes_eq}
+use Rattle.std.specs.Str.Parse.{digits_value, without_leading_plus}
 use Rattle.rel_base.specs.declared.nulls.Nulls.{Nulls}
 use Rattle.rel_base.specs.declared.nulls.Nulls.TheVariants.{Equal, Distinct}
-use Rattle.clap.specs.Walk.{Row, Text, all_of, byte_or_zero, first_of, is_empty, one_of}
+use Rattle.clap.specs.Walk.{Row, Text, all_of, first_of, is_empty, one_of}
 use Rattle.clap.specs.Simple.{subcommand_of}
+use Rattle.clap.specs.ValueTests.{is_unsigned_in}
 use Rattle.clap.specs.Faults.{fault_of}
 use Rattle.profile_cli.specs.Request.{Request}
 use Rattle.profile_cli.specs.Words.{the_app}
@@ -15,9 +17,13 @@ use Rattle.profile_cli.specs.Words.{the_app}
 abbrev pub texts : List (String Global) → List Text
 texts words = map string_bytes words
 
--- the number of workers, where a text that is no number below 256 would count as 0
+-- the number below 256 that a text says, or another where it says none
+abbrev pub number_or : ℕ → Text → ℕ
+number_or other text = if is_unsigned_in 0 255 text then digits_value 10 (without_leading_plus text) else other
+
+-- the number of workers
 abbrev pub workers_of : List Row → ℕ
-workers_of rows = option_map_or byte_or_zero (one_of (codes "workers") rows) 0
+workers_of rows = option_map_or (number_or 4) (one_of (codes "workers") rows) 4
 
 -- how NULL is read
 abbrev pub nulls_of : List Row → Nulls

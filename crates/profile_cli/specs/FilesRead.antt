@@ -1,8 +1,6 @@
 -- What reading files comes to.
-use Rattle.std.specs.Prelude.{◌≡◌, ◌<◌, ℕ, Bool, true, false, List, [], length, map, take, slice_index_or, Option, Some, None, ⊤}
+use Rattle.std.specs.Prelude.{◌≡◌, ◌<◌, ℕ, Bool, true, false, List, [], length, map, take, slice_index_or, Some, None, ⊤}
 use Rattle.rel_base.specs.declared.limits.Limits.{Limits}
-use Rattle.rel_base.specs.declared.why.Why.{Why}
-use Rattle.rel_base.specs.Relation.{Content}
 use Rattle.ports.specs.Files.{Files, bytes_of}
 use Rattle.csv_load.specs.Refusal.{refused_file}
 use Rattle.profile_cli.specs.declared.reading.FileRead.{FileRead}

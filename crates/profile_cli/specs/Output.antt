@@ -1,6 +1,5 @@
 -- What a run writes, from the definitions of the relations that its files hold.
 use Rattle.std.specs.Prelude.{◌≡◌, ◌<◌, ℕ, List, [], ◌∷◌, length, take, slice_index_or, Option, Some, None, IfSome}
-use Rattle.std.specs.Option.{option_map}
 use Rattle.std.specs.List.{flat_map}
 use Rattle.rel_base.specs.declared.limits.Limits.{Limits}
 use Rattle.rel_base.specs.declared.nulls.Nulls.{Nulls}

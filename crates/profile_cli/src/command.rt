@@ -1,8 +1,9 @@
 // The command that words are.
-ghost use Rattle.std.specs.Prelude.{◌≡◌, ◌<◌, [], length, slice_index_or, map, IfOk};
+ghost use Rattle.std.specs.Prelude.{◌≡◌, ◌<◌, [], length, slice_index_or, map, IfOk, IfSome};
 ghost use Rattle.clap.specs.Words.{found_of, rows_of};
 ghost use Rattle.profile_cli.specs.Command as request;
 ghost use Rattle.profile_cli.specs.Command.{texts};
+ghost use Rattle.profile_cli.specs.Request.{HasWorkers};
 
 use crate::words::depprof_words;
 use clap::ArgMatches;
@@ -86,7 +87,7 @@ fn nulls_of(found: &ArgMatches) -> Nulls
 fn workers_of(found: &ArgMatches) -> u8
     ensures { result ≡ request.workers_of (rows_of (found_of found.now)) }
 {
-    found.get_one::<u8>("workers").unwrap_or(0)
+    found.get_one::<u8>("workers").unwrap_or(4)
 }
 
 // What was found for the arguments of `profile`.
@@ -102,7 +103,8 @@ fn profile_of(alloc: Global, found: &ArgMatches) -> Result<Command, AllocError>
 
 /// The command that the words are, if they are one. The first word is the program's own name.
 pub(crate) fn command_of(alloc: Global, words: &[String]) -> Result<Option<Command>, AllocError>
-    ensures { IfOk result (λ found. found ≡ request.command (texts words.now)) }
+    ensures command { IfOk result (λ found. found ≡ request.command (texts words.now)) }
+    ensures workers { IfOk result (λ found. IfSome found HasWorkers) }
 {
     match depprof_words(alloc)?.try_get_matches_from(words) {
         Ok(matches) => match matches.subcommand_matches("profile") {

@@ -4,6 +4,7 @@
 mod command;
 #[cfg(test)]
 mod fault_tests;
+pub mod laws;
 mod outcome;
 mod reading;
 mod reports;

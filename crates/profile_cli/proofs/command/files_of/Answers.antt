@@ -1,4 +1,4 @@
-use Rattle.std.proofs.Common.{◌≡◌, ◌∙◌, [], map, Some, None}
+use Rattle.std.proofs.Common.{◌∙◌, map, Some, None}
 use Rattle.std.proofs.lemmas.Result.{IfOk-weaker}
 use Rattle.clap.specs.Matches.{found_of}
 use Rattle.profile_cli.proofs.Found.{files_of-words}

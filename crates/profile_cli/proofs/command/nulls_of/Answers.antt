@@ -1,4 +1,4 @@
-use Rattle.std.proofs.Common.{◌≡◌, ◌∙◌, refl, sym, true, false}
+use Rattle.std.proofs.Common.{◌∙◌, refl, sym, true, false}
 use Rattle.clap.specs.Matches.{found_of}
 use Rattle.profile_cli.proofs.Found.{nulls_of-word}
 use Rattle.profile_cli.proofs.command.nulls_of.Goals as goal

@@ -1,10 +1,9 @@
-use Rattle.std.proofs.Common.{◌≡◌, ◌∙◌, ◌+◌, ◌<◌, ◌++◌, ◌∷◌, ℕ, List, [], None, Some, Option, length, take, map, get_or, sym, ap, subst, refl, arith}
-use Rattle.std.specs.Prelude.{IfSome, is_ok, if◌then◌else◌}
+use Rattle.std.proofs.Common.{◌≡◌, ◌∙◌, ◌+◌, ◌++◌, ◌∷◌, ℕ, List, [], None, Some, Option, length, get_or, sym, ap, subst, refl}
+use Rattle.std.specs.Prelude.{IfSome}
 use Rattle.std.proofs.lemmas.List.{length-append}
-use Rattle.rel_base.specs.Relation.{Content}
 use Rattle.ports.specs.Files.{Files, bytes_of}
 use Rattle.csv_load.specs.Refusal.{refused_file}
-use Rattle.profile_cli.specs.Output.{file_content, first_refusal}
+use Rattle.profile_cli.specs.Output.{file_content}
 use Rattle.profile_cli.proofs.Files.{first_refusal-none, first_refusal-hit, first_refusal-pass, contents_more, name_at}
 use Rattle.profile_cli.proofs.Texts.{IfSome-always, IfSome-both, pushed, SameFaults-refl, SameFaults-trans}
 use Rattle.profile_cli.proofs.reading.read_files.Goals as goal

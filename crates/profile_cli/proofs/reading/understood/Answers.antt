@@ -1,4 +1,4 @@
-use Rattle.std.proofs.Common.{◌≡◌, ◌∙◌, ℕ, List, sym, subst}
+use Rattle.std.proofs.Common.{◌∙◌, subst}
 use Rattle.ports.specs.declared.loading.Loading.{Loading}
 use Rattle.ports.specs.Whole.{Loads}
 use Rattle.profile_cli.proofs.Files.{read_is, refused_is, too_long_is}

@@ -1,4 +1,4 @@
-use Rattle.std.proofs.Common.{◌≡◌, ◌∙◌, ◌++◌, ℕ, List, sym, ap}
+use Rattle.std.proofs.Common.{◌∙◌, ◌++◌, ap}
 use Rattle.profile_cli.proofs.Texts.{OnOk-map, report_text-of}
 use Rattle.profile_cli.proofs.reports.push_report_of.Goals as goal
 

@@ -1,4 +1,4 @@
-use Rattle.std.proofs.Common.{◌≡◌, ◌∙◌, ◌++◌, ◌<◌, ℕ, List, length, sym, ap, ap₂, arith, subst, Vec, Global}
+use Rattle.std.proofs.Common.{◌∙◌, ◌++◌, ◌<◌, ℕ, List, length, sym, ap₂, arith, subst}
 use Rattle.std.specs.List.{flat_map, zip}
 use Rattle.rel_base.specs.RowState.{opened}
 use Rattle.rel_base.specs.Relation.{Content}

@@ -1,4 +1,4 @@
-use Rattle.std.proofs.Common.{◌≡◌, ◌∙◌, ◌++◌, ℕ, List, Option, take, sym, ap, ap₂, subst}
+use Rattle.std.proofs.Common.{◌∙◌, ℕ, List, take, ap₂, subst}
 use Rattle.ports.specs.Bytes.{Gains}
 use Rattle.std.specs.List.{flat_map, zip}
 use Rattle.rel_base.specs.declared.nulls.Nulls.{Nulls}

@@ -1,7 +1,7 @@
 use Rattle.std.proofs.Common.{◌≡◌, ◌∙◌, refl, ap, ap₂, true}
 use Rattle.std.specs.Prelude.{codes}
 use Rattle.clap.specs.Simple.{App, app_of, app_of_fields, new_app, with_subcommand}
-use Rattle.profile_cli.specs.Words.{IsTheApp, app_with, profile_app}
+use Rattle.profile_cli.specs.Words.{profile_app}
 use Rattle.profile_cli.proofs.TheApp.{local_command}
 use Rattle.profile_cli.proofs.words.depprof_words.Goals as goal
 

@@ -1,7 +1,7 @@
-use Rattle.std.proofs.Common.{◌≡◌, refl}
+use Rattle.std.proofs.Common.{refl}
 use Rattle.std.proofs.lemmas.Result.{IfOk-weaker}
 use Rattle.clap.specs.Simple.{new_app, with_rule}
-use Rattle.profile_cli.specs.Words.{files_rule, nulls_rule, workers_rule, profile_app}
+use Rattle.profile_cli.specs.Words.{files_rule, nulls_rule, workers_rule}
 use Rattle.std.specs.Prelude.{codes}
 use Rattle.profile_cli.proofs.TheApp.{with_arg}
 use Rattle.profile_cli.proofs.words.profile_words.Goals as goal
