@@ -1,9 +1,8 @@
 -- Agreement by codes on a column set.
-use Rattle.std.proofs.Common.{inl, inr, ◌≡◌, ◌⊎◌, ℕ, ◌<◌, ◌≤◌, Bool, true, false, not, ◌||◌, eqb, refl, sym, ap, ◌∙◌, subst, arith, List, [], ◌∷◌, length}
-use Rattle.std.specs.List.{filter}
-use Rattle.std.proofs.lemmas.Bool.{true≢false, false≢true, eqb-true, eq-eqb, or_cases}
-use Rattle.col_set.specs.ColSet.{has, with, union, set_of, upto, IsSubset}
-use Rattle.col_set.specs.Lists.{Listed, Listed-filter, Listed-filter_parts}
+use Rattle.std.proofs.Common.{inl, inr, ◌≡◌, ℕ, ◌<◌, Bool, true, false, ◌||◌, eqb, refl, sym, ◌∙◌, length}
+use Rattle.std.proofs.lemmas.Bool.{false≢true, eqb-true, eq-eqb, or_cases}
+use Rattle.col_set.specs.ColSet.{has, with, union, upto, IsSubset}
+use Rattle.col_set.specs.Lists.{Listed-filter, Listed-filter_parts}
 use Rattle.col_set.specs.Subsets.{subset-true, true-subset, IsSubset-trans, IsSubset-with, with_subset, has-with_itself}
 use Rattle.col_set.specs.Members.{has-empty, has-union}
 use Rattle.col_set.specs.AllSets.{set_of-has, has-set_of, Listed-upto, Listed-upto_within}
@@ -51,9 +50,10 @@ module _ (s : CodeTable) where
 
   -- the columns of two sets
   pub agree_on-union_parts : (x y i j : ℕ) → agree_on s (union x y) i j ≡ true → (agree_on s x i j ≡ true) × (agree_on s y i j ≡ true)
-  agree_on-union_parts x y i j e = let h = agree_on-subset (union x y) i j e in
-      (subset-agree_on x i j (record { each = λ k m. h.each k (has-union x y k ∙ left (has x k) (has y k) m) }),
-      subset-agree_on y i j (record { each = λ k m. h.each k (has-union x y k ∙ right (has x k) (has y k) m) }))
+  agree_on-union_parts x y i j e = let h = agree_on-subset (union x y) i j e in (
+    subset-agree_on x i j (record { each = λ k m. h.each k (has-union x y k ∙ left (has x k) (has y k) m) }),
+    subset-agree_on y i j (record { each = λ k m. h.each k (has-union x y k ∙ right (has x k) (has y k) m) }),
+  )
     where
       left : (a b : Bool) → a ≡ true → (a || b) ≡ true
       left true b e = refl

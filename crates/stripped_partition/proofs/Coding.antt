@@ -1,15 +1,15 @@
 -- Codes of rows: loops that gather them, ranks, and the table of groups by row.
-use Rattle.std.proofs.Common.{inl, inr, ◌≡◌, ◌≢◌, ◌⊎◌, ℕ, zero, suc, ◌+◌, ◌-◌, ◌<◌, ◌≤◌, Bool, true, false, cond, ◌||◌, eqb, ltb, refl, sym, ap, ap₂, ◌∙◌, subst, arith, List, [], ◌∷◌, ◌++◌, length, get_or, set, map, take, count_by, sum_by, append-nil}
-use Rattle.std.specs.List.{filter, range_with_len, list_any, All, Contains}
+use Rattle.std.proofs.Common.{inl, inr, ◌≡◌, ◌⊎◌, ℕ, zero, suc, ◌+◌, ◌-◌, ◌<◌, ◌≤◌, Bool, true, false, cond, ◌||◌, eqb, ltb, refl, sym, ap, ap₂, ◌∙◌, subst, arith, List, [], ◌∷◌, ◌++◌, length, get_or, set, map, take, count_by, append-nil}
+use Rattle.std.specs.List.{filter, range_with_len, list_any, All}
 use Rattle.std.specs.List.Sorted.{IsPermutation}
-use Rattle.std.proofs.lemmas.Bool.{true≢false, false≢true, eqb-true, eqb-false, eq-eqb, ne_eqb, ltb-true, lt-ltb, ltb-false, le-ltb, cases_eq, cases_lt, cases_order, cases_Bool, or_left, or_right, or_from}
-use Rattle.std.proofs.lemmas.List.{take_more, take_all, map-append, get_or-set_same, get_or-set_other, length-set, get_or-map}
+use Rattle.std.proofs.lemmas.Bool.{eqb-true, eq-eqb, ne_eqb, lt-ltb, le-ltb, cases_eq, cases_lt, cases_order, cases_Bool}
+use Rattle.std.proofs.lemmas.List.{take_more, take_all, map-append, get_or-set_same, get_or-set_other, length-set}
 use Rattle.std.proofs.lemmas.List.Elements.{filter-append}
 use Rattle.std.proofs.lemmas.List.Folds.{list_any-append}
 use Rattle.std.proofs.lemmas.List.Sums.{sum_by-cons}
 use Rattle.std.proofs.lemmas.List.Sorted.{sum_by-IsPermutation}
 use Rattle.col_set.specs.Lists.{Listed, Listed-append_cases, list_any_at, list_any_which}
-use Rattle.col_set.proofs.Places.{Listed-contained, Contains-listed, Listed-get_or}
+use Rattle.col_set.proofs.Places.{Listed-contained, Listed-get_or}
 use Rattle.stripped_partition.specs.Codes.{IsRecoded, IsTable}
 
 -- ---- live rows

@@ -1,28 +1,28 @@
 -- What a stripped partition says of dependencies.
-use Rattle.std.proofs.Common.{inl, inr, ◌≡◌, ◌≢◌, ◌⊎◌, ℕ, zero, suc, ◌+◌, ◌-◌, ◌<◌, ◌≤◌, Bool, true, false, cond, not, ◌&&◌, eqb, ltb, refl, sym, ap, ◌∙◌, subst, arith, List, [], ◌∷◌, ◌++◌, length, get_or, map, Option, Some, None, option_map, find}
-use Rattle.std.specs.List.{filter, flat_map, list_any, concat, count_by, All, AllPairs, Contains}
+use Rattle.std.proofs.Common.{inl, inr, ◌≡◌, ◌≢◌, ◌⊎◌, ℕ, zero, suc, ◌<◌, ◌≤◌, Bool, true, false, cond, ◌&&◌, eqb, ltb, refl, sym, ap, ◌∙◌, subst, arith, List, [], ◌∷◌, length, get_or, Option, Some, None, option_map, find}
+use Rattle.std.specs.List.{filter, flat_map, concat, AllPairs}
 use Rattle.std.specs.List.Sorted.{IsStrictlyIncreasing}
-use Rattle.std.proofs.lemmas.Bool.{true≢false, false≢true, eqb-true, eqb-false, eq-eqb, ltb-true, lt-ltb, cases_eq, cases_lt, cases_order, cases_Bool, and_parts, and_from, not-true, not-false, false_from_ne_true}
+use Rattle.std.proofs.lemmas.Bool.{true≢false, false≢true, eqb-true, eqb-false, ltb-true, lt-ltb, cases_order, cases_Bool, and_parts, and_from, not-true, not-false, false_from_ne_true}
 use Rattle.std.proofs.lemmas.List.Concat.{concat_is}
 use Rattle.std.proofs.lemmas.List.Sums.{length-filter}
 use Rattle.col_set.specs.declared.target.Target.{Target}
 use Rattle.col_set.specs.declared.target.Target.TheVariants.{Col, RowId}
-use Rattle.col_set.specs.ColSet.{has, with, IsSubset}
+use Rattle.col_set.specs.ColSet.{with, IsSubset}
 use Rattle.col_set.specs.Target.{has_target}
-use Rattle.col_set.specs.Lists.{Listed, Listed-filter, Listed-filter_parts, Listed-map, Listed-map_which, Listed-flat_map, Listed-flat_map_which, filter_same, list_any_at, list_any_which}
+use Rattle.col_set.specs.Lists.{Listed, Listed-filter, Listed-filter_parts, Listed-map, Listed-map_which, Listed-flat_map_which, filter_same, list_any_at, list_any_which}
 use Rattle.col_set.specs.Subsets.{same_test}
 use Rattle.col_set.proofs.Places.{Climbs, Contains-listed, Listed-contained, Listed-get_or}
 use Rattle.rel_base.specs.CodeTable.{CodeTable, code_at}
 use Rattle.rel_base.specs.Validity.{pairs}
 use Rattle.rel_base.specs.Shows.{code_agree, live_numbers, code_agree_sets, holds_in}
-use Rattle.rel_base.proofs.Agree.{PairOf, PairOf-pairs, Listed-rising}
+use Rattle.rel_base.proofs.Agree.{PairOf-pairs, Listed-rising}
 use Rattle.rel_base.proofs.States.{All-from, increasing-Climbs}
 use Rattle.rel_base.proofs.Valid.{determined-at, determined-from}
 use Rattle.stripped_partition.specs.Stripped.{group_of, grouped, agree_on, stripped, error_of}
 use Rattle.stripped_partition.specs.SplitBy.{least, differ, is_split, split_pair, split_by}
 use Rattle.stripped_partition.specs.Order.{Ahead}
 use Rattle.stripped_partition.specs.Laws.{RowsStandOnce}
-use Rattle.stripped_partition.proofs.Grouped.{two_of, IsSame, GroupOf, Listed-grouped_parts, Listed-grouped, group_is, Ahead-grouped}
+use Rattle.stripped_partition.proofs.Grouped.{two_of, IsSame, GroupOf, Listed-grouped_parts, Listed-grouped, Ahead-grouped}
 use Rattle.stripped_partition.proofs.Firsts.{Once, Once-filter}
 use Rattle.stripped_partition.proofs.Agreeing.{code_agree-parts, code_agree-from, agree_on-subset, subset-agree_on, agree_same, agree_on-with_parts, agree_on-with}
 use Rattle.stripped_partition.proofs.Errors.{Climbs-Once, Once-length, filter_same_length, follows, group_climbs, Once-each, error_of-grouped}

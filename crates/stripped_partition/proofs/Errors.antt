@@ -1,7 +1,7 @@
 -- How many rows follow another one of their group.
-use Rattle.std.proofs.Common.{inl, inr, ◌≡◌, ◌≢◌, ◌⊎◌, ℕ, zero, suc, ◌+◌, ◌-◌, ◌<◌, ◌≤◌, Bool, true, false, cond, not, ◌&&◌, eqb, ltb, leb, refl, sym, ap, ◌∙◌, subst, arith, le_antisymm, List, [], ◌∷◌, ◌++◌, length, get_or, map, drop}
+use Rattle.std.proofs.Common.{inl, inr, ◌≡◌, ◌≢◌, ◌⊎◌, ℕ, suc, ◌+◌, ◌<◌, ◌≤◌, Bool, true, false, cond, ◌&&◌, eqb, ltb, refl, sym, ap, ◌∙◌, subst, arith, le_antisymm, List, [], ◌∷◌, ◌++◌, length, get_or, drop}
 use Rattle.std.specs.List.{filter, flat_map, list_any, sum_by}
-use Rattle.std.proofs.lemmas.Bool.{true≢false, false≢true, eqb-true, eqb-false, eq-eqb, ne_eqb, ltb-true, lt-ltb, cases_eq, and_parts, and_from}
+use Rattle.std.proofs.lemmas.Bool.{false≢true, eqb-true, eq-eqb, ltb-true, lt-ltb, and_parts, and_from}
 use Rattle.std.proofs.lemmas.List.{length-append}
 use Rattle.std.proofs.lemmas.List.Sums.{sum_by-cons}
 use Rattle.col_set.specs.Lists.{Listed, Listed-append_cases, Listed-filter, Listed-filter_parts, Listed-flat_map, Listed-flat_map_which, list_any_at, list_any_which}
@@ -9,7 +9,7 @@ use Rattle.col_set.proofs.Places.{Climbs}
 use Rattle.rel_base.proofs.Valid.{Climbs-filter}
 use Rattle.stripped_partition.specs.Stripped.{group_of, grouped, error_of}
 use Rattle.stripped_partition.specs.Order.{Ahead}
-use Rattle.stripped_partition.proofs.Grouped.{first_least, two_of, IsSame, GroupOf, Listed-grouped_parts, Listed-grouped, group_is, group_apart, Ahead-grouped}
+use Rattle.stripped_partition.proofs.Grouped.{first_least, two_of, IsSame, GroupOf, Listed-grouped_parts, Listed-grouped, group_apart, Ahead-grouped}
 use Rattle.stripped_partition.proofs.Firsts.{Once, Once-filter}
 
 -- ---- lists that have each member once

@@ -1,10 +1,10 @@
 -- The numbers of a list, each once, and the parts of a group by code.
-use Rattle.std.proofs.Common.{inl, inr, ◌≡◌, ◌≢◌, ◌⊎◌, ℕ, ◌<◌, ◌≤◌, Bool, true, false, cond, not, ◌&&◌, eqb, ltb, leb, refl, sym, ap, ◌∙◌, subst, arith, List, [], ◌∷◌, ◌++◌, length, get_or, map}
-use Rattle.std.specs.List.{filter, flat_map}
-use Rattle.std.proofs.lemmas.Bool.{true≢false, eqb-true, eqb-false, eq-eqb, ne_eqb, ltb-true, lt-ltb, leb-true, le-leb, cases_eq, and_parts, and_from, not-true, not_from_false}
-use Rattle.col_set.specs.Lists.{Listed, Listed-filter, Listed-filter_parts, Listed-map, Listed-map_which, Listed-flat_map, Listed-flat_map_which}
+use Rattle.std.proofs.Common.{inl, inr, ◌≡◌, ◌⊎◌, ℕ, ◌<◌, ◌≤◌, Bool, true, false, cond, not, ◌&&◌, eqb, ltb, leb, refl, sym, ap, ◌∙◌, subst, arith, List, [], ◌∷◌, length, get_or, map}
+use Rattle.std.specs.List.{filter}
+use Rattle.std.proofs.lemmas.Bool.{true≢false, eqb-true, eq-eqb, ne_eqb, ltb-true, lt-ltb, leb-true, le-leb, cases_eq, and_parts, and_from, not-true, not_from_false}
+use Rattle.col_set.specs.Lists.{Listed, Listed-filter, Listed-filter_parts, Listed-map, Listed-map_which}
 use Rattle.col_set.proofs.Places.{Listed-get_or}
-use Rattle.stripped_partition.specs.Order.{Ahead, Apart}
+use Rattle.stripped_partition.specs.Order.{Apart}
 use Rattle.stripped_partition.specs.Splits.{firsts}
 
 -- ---- each once
@@ -91,9 +91,11 @@ module _ (code : ℕ → ℕ) (bound : ℕ) where
   -- parts by different codes begin with different rows
   Apart-map : (rows cs : List ℕ) → Once cs → ((c : ℕ) → Listed c cs → 2 ≤ length (with_code code rows c)) → Apart (map (with_code code rows) cs)
   Apart-map rows [] o f = tt
-  Apart-map rows (c ∷ cs) o f =
-      ((λ h l e. let w = Listed-map_which (with_code code rows) h cs l in
-      o.0 (subst (λ (d : ℕ). Listed d cs) (sym (same w.0 c (f w.0 (inr w.1)) (f c (inl refl)) (ap (λ (g : List ℕ). get_or g 0 0) (sym w.2) ∙ sym e))) w.1)), Apart-map rows cs o.1 (λ d l. f d (inr l)))
+  Apart-map rows (c ∷ cs) o f = (
+    (λ h l e. let w = Listed-map_which (with_code code rows) h cs l in
+        o.0 (subst (λ (d : ℕ). Listed d cs) (sym (same w.0 c (f w.0 (inr w.1)) (f c (inl refl)) (ap (λ (g : List ℕ). get_or g 0 0) (sym w.2) ∙ sym e))) w.1)),
+    Apart-map rows cs o.1 (λ d l. f d (inr l)),
+  )
     where
       code_first : (c : ℕ) → 2 ≤ length (with_code code rows c) → code (get_or (with_code code rows c) 0 0) ≡ c
       code_first c two = let l : 0 < length (with_code code rows c) = omega arith in

@@ -1,9 +1,9 @@
 -- Lists of groups that stand one after another are what their ends cut.
-use Rattle.std.proofs.Common.{inl, inr, ◌≡◌, ◌⊎◌, ℕ, zero, suc, ◌+◌, ◌-◌, ◌<◌, ◌≤◌, refl, sym, ap, ap₂, ◌∙◌, subst, arith, List, [], ◌∷◌, ◌++◌, length, get_or, take, drop, slice_range, append_assoc}
+use Rattle.std.proofs.Common.{inl, inr, ◌≡◌, ℕ, ◌+◌, ◌-◌, ◌<◌, ◌≤◌, refl, sym, ap, ap₂, ◌∙◌, subst, arith, List, [], ◌∷◌, ◌++◌, length, take, slice_range, append_assoc}
 use Rattle.std.specs.List.{flat_map, concat, sum_by}
 use Rattle.std.proofs.lemmas.List.{length-append, drop_at, take_at}
 use Rattle.std.proofs.lemmas.List.Sums.{sum_by-cons}
-use Rattle.col_set.specs.Lists.{Listed, Listed-flat_map_which}
+use Rattle.col_set.specs.Lists.{Listed}
 use Rattle.stripped_partition.specs.Groups.{cut, EndsRise, ends_of, IsCut, IsFlat}
 use Rattle.stripped_partition.specs.Splits.{parts}
 use Rattle.stripped_partition.proofs.Cuts.{length-slice, sum-cut}
@@ -26,8 +26,10 @@ flat-cut rows ends gs p = ap₂ (λ (r e : List ℕ). cut 0 r e) p.laid p.cuts �
 rise_from : (start : ℕ) (gs : List (List ℕ)) → ((g : List ℕ) → Listed g gs → 0 < length g) → EndsRise start (start + length (concat gs)) (ends_of start gs)
 unfolding ends_of
 rise_from start [] f = (let e : start ≡ start + 0 = omega arith in e)
-rise_from start (g ∷ gs) f = ((let l = f g (inl refl) in omega arith),
-    subst (λ (n : ℕ). EndsRise (start + length g) n (ends_of (start + length g) gs)) (let e = length-append g (concat gs) in let d : start + length g + length (concat gs) ≡ start + length (g ++ concat gs) = omega arith in d) (rise_from (start + length g) gs (λ h l. f h (inr l))))
+rise_from start (g ∷ gs) f = (
+  (let l = f g (inl refl) in omega arith),
+  subst (λ (n : ℕ). EndsRise (start + length g) n (ends_of (start + length g) gs)) (let e = length-append g (concat gs) in let d : start + length g + length (concat gs) ≡ start + length (g ++ concat gs) = omega arith in d) (rise_from (start + length g) gs (λ h l. f h (inr l))),
+)
 
 pub flat-rise : (rows ends : List ℕ) (gs : List (List ℕ)) → IsFlat rows ends gs → ((g : List ℕ) → Listed g gs → 0 < length g) → length rows ≤ 1000000 → IsCut rows ends
 flat-rise rows ends gs p f short = record {

@@ -1,5 +1,5 @@
 -- The groups of an ascending list by a symmetric and transitive relation, and lists of groups in order.
-use Rattle.std.proofs.Common.{inl, inr, ◌≡◌, ◌≢◌, ◌⊎◌, ℕ, zero, suc, ◌<◌, ◌≤◌, Bool, true, false, cond, leb, refl, sym, ap, ap₂, ◌∙◌, subst, arith, List, [], ◌∷◌, ◌++◌, length, get_or, map}
+use Rattle.std.proofs.Common.{inl, inr, ◌≡◌, ◌≢◌, ◌⊎◌, ℕ, ◌<◌, ◌≤◌, Bool, true, false, cond, leb, refl, sym, ap, ap₂, ◌∙◌, subst, arith, List, [], ◌∷◌, ◌++◌, length, get_or, map}
 use Rattle.std.specs.List.{filter}
 use Rattle.std.proofs.lemmas.Bool.{eqb-true, eq-eqb, leb-true, le-leb, cases_eq}
 use Rattle.std.proofs.lemmas.List.Elements.{filter_agree}
@@ -132,11 +132,13 @@ module _ (same : ℕ → ℕ → Bool) (is : IsSame same) (rows : List ℕ) wher
 
   Ahead-map : (is : List ℕ) → Climbs is → ((i : ℕ) → Listed i is → leads same rows i ≡ true) → Ahead (map (group_of same rows) is)
   Ahead-map [] c f = tt
-  Ahead-map (i ∷ is) c f =
-      ((λ h l. let w = Listed-map_which (group_of same rows) h is l in
-      let a = eqb-true (get_or (group_of same rows i) 0 0) i (f i (inl refl)) in
-      let b = ap (λ (xs : List ℕ). get_or xs 0 0) w.2 ∙ eqb-true (get_or (group_of same rows w.0) 0 0) w.0 (f w.0 (inr w.1)) in
-      let m = c.0 w.0 w.1 in omega arith), Ahead-map is c.1 (λ j l. f j (inr l)))
+  Ahead-map (i ∷ is) c f = (
+    (λ h l. let w = Listed-map_which (group_of same rows) h is l in
+        let a = eqb-true (get_or (group_of same rows i) 0 0) i (f i (inl refl)) in
+        let b = ap (λ (xs : List ℕ). get_or xs 0 0) w.2 ∙ eqb-true (get_or (group_of same rows w.0) 0 0) w.0 (f w.0 (inr w.1)) in
+        let m = c.0 w.0 w.1 in omega arith),
+    Ahead-map is c.1 (λ j l. f j (inr l)),
+  )
 
   pub Ahead-grouped : Climbs rows → Ahead (grouped same rows)
   unfolding grouped

@@ -1,6 +1,6 @@
 -- The live numbers of a snapshot: ascending, from 1 to below its next number.
-use Rattle.std.proofs.Common.{◌≡◌, ℕ, zero, suc, ◌+◌, ◌-◌, ◌<◌, ◌≤◌, true, refl, arith, List, [], ◌∷◌, length}
-use Rattle.std.specs.List.{filter, range_with_len}
+use Rattle.std.proofs.Common.{◌≡◌, ℕ, zero, suc, ◌+◌, ◌-◌, ◌<◌, ◌≤◌, refl, arith, List, [], ◌∷◌, length}
+use Rattle.std.specs.List.{range_with_len}
 use Rattle.std.proofs.lemmas.List.Sums.{length-filter, count_by-le-length}
 use Rattle.col_set.specs.Lists.{Listed, Listed-filter_parts}
 use Rattle.col_set.specs.AllSets.{Ascends, Ascends-range, Ascends_within}

@@ -1,11 +1,10 @@
 -- Loops over groups that test their order and copy them in order.
-use Rattle.std.proofs.Common.{inl, inr, ◌≡◌, ◌⊎◌, ℕ, zero, suc, ◌+◌, ◌-◌, ◌*◌, ◌%◌, ◌^◌, ◌<◌, ◌≤◌, refl, sym, ap, ap₂, ◌∙◌, subst, arith, List, [], ◌∷◌, ◌++◌, length, get_or, map, take, sum_by, append_assoc, append-nil}
-use Rattle.std.specs.List.{range_with_len, concat, All}
+use Rattle.std.proofs.Common.{inl, inr, ◌≡◌, ◌⊎◌, ℕ, zero, suc, ◌+◌, ◌<◌, ◌≤◌, refl, sym, ap, ap₂, ◌∙◌, subst, arith, List, [], ◌∷◌, ◌++◌, length, get_or, map, take, sum_by, append_assoc, append-nil}
+use Rattle.std.specs.List.{range_with_len, concat}
 use Rattle.std.proofs.lemmas.List.{length-append, take_more, take_all, map-append}
 use Rattle.std.proofs.lemmas.List.Sums.{sum_by-cons, sum_by_more_le}
 use Rattle.col_set.specs.ColSet.{upto}
 use Rattle.col_set.specs.Lists.{Listed, Listed-append_cases}
-use Rattle.rel_base.proofs.States.{All-from}
 use Rattle.stripped_partition.specs.Groups.{ends_of, IsFlat}
 use Rattle.stripped_partition.specs.Order.{Ahead, key_of, group_at}
 use Rattle.stripped_partition.proofs.PlacingStep.{ends_of-append}

@@ -1,20 +1,18 @@
 -- Groups by keys that are sorted.
-use Rattle.std.proofs.Common.{inl, inr, ◌≡◌, ◌≢◌, ◌⊎◌, ℕ, zero, suc, ◌+◌, ◌-◌, ◌*◌, ◌/◌, ◌%◌, ◌^◌, ◌<◌, ◌≤◌, Bool, true, false, cond, eqb, refl, sym, ap, ap₂, ◌∙◌, subst, arith, List, [], ◌∷◌, ◌++◌, length, get_or, map, take, slice_range, count_by, sum_by, append_assoc}
-use Rattle.std.specs.List.{range_with_len, All, flat_map, concat}
+use Rattle.std.proofs.Common.{inl, inr, ◌≡◌, ◌≢◌, ◌⊎◌, ℕ, zero, suc, ◌+◌, ◌*◌, ◌%◌, ◌^◌, ◌<◌, ◌≤◌, Bool, true, false, cond, eqb, refl, sym, ap, ap₂, ◌∙◌, subst, arith, List, [], ◌∷◌, ◌++◌, length, get_or, map, count_by, sum_by, append_assoc}
+use Rattle.std.specs.List.{range_with_len}
 use Rattle.std.specs.List.Sorted.{IsNonDecreasing, IsPermutation}
-use Rattle.std.proofs.lemmas.Bool.{eqb-true, eq-eqb, ne_eqb, cases_eq, cases_lt}
-use Rattle.std.proofs.lemmas.List.{length-append, length-map, get_or_default}
+use Rattle.std.proofs.lemmas.Bool.{eq-eqb, ne_eqb, cases_eq}
+use Rattle.std.proofs.lemmas.List.{length-append, get_or_default}
 use Rattle.std.proofs.lemmas.List.Sums.{sum_by-cons}
 use Rattle.std.proofs.lemmas.List.Sorted.{sum_by-IsPermutation, Contains-permutation, IsPermutation-sym}
 use Rattle.col_set.specs.ColSet.{upto}
-use Rattle.col_set.specs.Lists.{Listed, Listed-append_cases, Listed-map, Listed-map_which}
+use Rattle.col_set.specs.Lists.{Listed, Listed-map, Listed-map_which}
 use Rattle.col_set.specs.AllSets.{Ascends-range, Ascends_within, Listed-upto, Listed-upto_within}
 use Rattle.col_set.proofs.Places.{Climbs, Contains-listed, Listed-contained, Listed-get_or}
-use Rattle.stripped_partition.specs.Groups.{cut, start_at, EndsRise, IsCut}
 use Rattle.stripped_partition.specs.Order.{Ahead, Apart, IsInOrder, key_of, group_at}
 use Rattle.stripped_partition.proofs.Firsts.{Once}
 use Rattle.stripped_partition.proofs.Errors.{Climbs-Once}
-use Rattle.stripped_partition.proofs.Cuts.{length-cut}
 
 -- ---- lists of which each number stands once
 abbrev tally : Bool → ℕ
@@ -54,9 +52,10 @@ counted-listed (y ∷ xs) x (inr h) =
 
 once-counted : (xs : List ℕ) → ((x : ℕ) → count_by (λ y. eqb y x) xs ≤ 1) → Once xs
 once-counted [] f = tt
-once-counted (x ∷ xs) f =
-    ((λ h. let c = counted-listed xs x h in let l = f x in let s = sum_by-cons (λ z. cond (eqb z x) 1 0) x xs in let i = tally-true (eqb x x) (eq-eqb x x refl) in absurd (omega arith)),
-    once-counted xs (λ y. let l = f y in let s = sum_by-cons (λ z. cond (eqb z y) 1 0) x xs in omega arith))
+once-counted (x ∷ xs) f = (
+  (λ h. let c = counted-listed xs x h in let l = f x in let s = sum_by-cons (λ z. cond (eqb z x) 1 0) x xs in let i = tally-true (eqb x x) (eq-eqb x x refl) in absurd (omega arith)),
+  once-counted xs (λ y. let l = f y in let s = sum_by-cons (λ z. cond (eqb z y) 1 0) x xs in omega arith),
+)
 
 Once-permutation : (xs ys : List ℕ) → IsPermutation xs ys → Once xs → Once ys
 Once-permutation xs ys p o = once-counted ys (λ x. let e = sum_by-IsPermutation (λ y. cond (eqb y x) 1 0) xs ys p in let l = counted-once xs o x in omega arith)
@@ -64,10 +63,11 @@ Once-permutation xs ys p o = once-counted ys (λ x. let e = sum_by-IsPermutation
 -- sorted numbers of which each stands once climb
 sorted-Climbs : (xs : List ℕ) → Once xs → IsNonDecreasing xs → Climbs xs
 sorted-Climbs [] o s = tt
-sorted-Climbs (x ∷ xs) o s =
-    ((λ y h. let w = Contains-listed y xs h in let l : x ≤ get_or xs w.0 y = s 0 (suc w.0) y (omega arith) (let m = w.1 in omega arith) in let e = w.2 in
-    elim (cases_eq x y) as (λ _. x < y) [ inl i ↦ absurd (o.0 (subst (λ (z : ℕ). Listed z xs) (sym i) h)) | inr ne ↦ omega arith ]),
-    sorted-Climbs xs o.1 (λ i j d l m. s (suc i) (suc j) d (omega arith) (omega arith)))
+sorted-Climbs (x ∷ xs) o s = (
+  (λ y h. let w = Contains-listed y xs h in let l : x ≤ get_or xs w.0 y = s 0 (suc w.0) y (omega arith) (let m = w.1 in omega arith) in let e = w.2 in
+      elim (cases_eq x y) as (λ _. x < y) [ inl i ↦ absurd (o.0 (subst (λ (z : ℕ). Listed z xs) (sym i) h)) | inr ne ↦ omega arith ]),
+  sorted-Climbs xs o.1 (λ i j d l m. s (suc i) (suc j) d (omega arith) (omega arith)),
+)
 
 -- ---- keys
 module _ (groups : List (List ℕ)) where
@@ -115,10 +115,12 @@ module _ (groups : List (List ℕ)) (short : length groups < 2 ^ 32) where
 
   Once-map : (ks : List ℕ) → Once ks → ((k : ℕ) → Listed k ks → k < 2 ^ 32) → Once (map (key_of groups) ks)
   Once-map [] o f = tt
-  Once-map (k ∷ ks) o f =
-      ((λ h. let w = Listed-map_which (key_of groups) (key_of groups k) ks h in
-      let e : k ≡ w.0 = sym (place_of groups k (f k (inl refl))) ∙ ap (λ (n : ℕ). n % 2 ^ 32) w.2 ∙ place_of groups w.0 (f w.0 (inr w.1)) in
-      o.0 (subst (λ (z : ℕ). Listed z ks) (sym e) w.1)), Once-map ks o.1 (λ j h. f j (inr h)))
+  Once-map (k ∷ ks) o f = (
+    (λ h. let w = Listed-map_which (key_of groups) (key_of groups k) ks h in
+        let e : k ≡ w.0 = sym (place_of groups k (f k (inl refl))) ∙ ap (λ (n : ℕ). n % 2 ^ 32) w.2 ∙ place_of groups w.0 (f w.0 (inr w.1)) in
+        o.0 (subst (λ (z : ℕ). Listed z ks) (sym e) w.1)),
+    Once-map ks o.1 (λ j h. f j (inr h)),
+  )
 
   Once-keys : Once (map (key_of groups) (upto (length groups)))
   Once-keys = Once-map (upto (length groups)) (Climbs-Once (upto (length groups)) (Climbs-range (length groups) 0)) (λ k h. let l = Listed-upto_within (length groups) k h in omega arith)
@@ -146,9 +148,11 @@ module _ (groups : List (List ℕ)) (short : length groups < 2 ^ 32) where
 
   Ahead-keys : Apart groups → (ks : List ℕ) → Climbs ks → ((k : ℕ) → Listed k ks → IsKey groups k) → Ahead (map (group_at groups) ks)
   Ahead-keys apart [] c f = tt
-  Ahead-keys apart (k ∷ ks) c f =
-      ((λ h l. let w = Listed-map_which (group_at groups) h ks l in
-      subst (λ (g : List ℕ). get_or (group_at groups k) 0 0 < get_or g 0 0) (sym w.2) (below apart k w.0 (f k (inl refl)) (f w.0 (inr w.1)) (c.0 w.0 w.1))), Ahead-keys apart ks c.1 (λ j l. f j (inr l)))
+  Ahead-keys apart (k ∷ ks) c f = (
+    (λ h l. let w = Listed-map_which (group_at groups) h ks l in
+        subst (λ (g : List ℕ). get_or (group_at groups k) 0 0 < get_or g 0 0) (sym w.2) (below apart k w.0 (f k (inl refl)) (f w.0 (inr w.1)) (c.0 w.0 w.1))),
+    Ahead-keys apart ks c.1 (λ j l. f j (inr l)),
+  )
 
   module _ (sorted : List ℕ) (moved : IsPermutation (map (key_of groups) (upto (length groups))) sorted) where
     pub is_key : (key : ℕ) → Listed key sorted → IsKey groups key

@@ -1,14 +1,12 @@
 -- Rows put one after another into the parts of their codes.
-use Rattle.std.proofs.Common.{inl, inr, ◌≡◌, ◌≢◌, ◌⊎◌, ℕ, zero, suc, ◌+◌, ◌-◌, ◌^◌, ◌<◌, ◌≤◌, Bool, true, false, cond, not, ◌&&◌, eqb, ltb, leb, refl, sym, ap, ap₂, ◌∙◌, subst, arith, List, [], ◌∷◌, ◌++◌, length, get_or, set, replicate, map, append_assoc, append-nil}
-use Rattle.std.specs.List.{filter, flat_map, concat}
-use Rattle.std.proofs.lemmas.Bool.{true≢false, false≢true, eqb-true, eqb-false, eq-eqb, ne_eqb, ltb-true, lt-ltb, leb-true, le-leb, cases_eq, cases_lt, cases_Bool, and_parts, and_from, not-true, not_from_false, not_from_true, false_from_ne_true}
-use Rattle.std.proofs.lemmas.List.{length-append, length-replicate, length-set, length-map, map-append, get_or-set_same, get_or-set_other, set-append_left}
+use Rattle.std.proofs.Common.{inl, inr, ◌≡◌, ◌≢◌, ◌⊎◌, ℕ, suc, ◌+◌, ◌<◌, ◌≤◌, cond, not, eqb, refl, sym, ap, ap₂, ◌∙◌, subst, arith, List, [], ◌∷◌, ◌++◌, length, set, map, append-nil}
+use Rattle.std.specs.List.{filter, flat_map}
+use Rattle.std.proofs.lemmas.Bool.{eq-eqb, ne_eqb, cases_eq, not_from_false, not_from_true}
+use Rattle.std.proofs.lemmas.List.{length-append, map-append, set-append_left}
 use Rattle.std.proofs.lemmas.List.Elements.{filter-append}
-use Rattle.std.proofs.lemmas.List.Concat.{flat_map-append}
-use Rattle.col_set.specs.Lists.{Listed, Listed-append_left, Listed-append_right, Listed-append_cases, Listed-filter, Listed-filter_parts, Listed-map, Listed-map_which, filter_same}
-use Rattle.stripped_partition.specs.Groups.{ends_of}
-use Rattle.stripped_partition.specs.Splits.{firsts, rows_with, repeated_codes, parts, Places}
-use Rattle.stripped_partition.proofs.Firsts.{Once, Once-filter, Once-firsts, Listed-firsts, firsts-listed}
+use Rattle.col_set.specs.Lists.{Listed}
+use Rattle.stripped_partition.specs.Splits.{firsts, rows_with}
+use Rattle.stripped_partition.proofs.Firsts.{Once}
 
 -- ---- a number stands in a list or not
 pub listed_or : (x : ℕ) (xs : List ℕ) → Listed x xs ⊎ (Listed x xs → ⊥)

@@ -1,9 +1,9 @@
 -- One row after another is put into the part of its code.
-use Rattle.std.proofs.Common.{inl, inr, ◌≡◌, ◌≢◌, ◌⊎◌, ℕ, zero, suc, ◌+◌, ◌-◌, ◌^◌, ◌<◌, ◌≤◌, Bool, true, false, cond, not, ◌&&◌, eqb, ltb, leb, refl, sym, ap, ap₂, ◌∙◌, subst, arith, List, [], ◌∷◌, ◌++◌, length, get_or, set, replicate, map, append_assoc, append-nil, count_by, take, drop, zip}
+use Rattle.std.proofs.Common.{inl, inr, ◌≡◌, ◌≢◌, ◌⊎◌, ℕ, zero, suc, ◌+◌, ◌-◌, ◌^◌, ◌<◌, ◌≤◌, Bool, false, cond, ◌&&◌, eqb, ltb, leb, refl, sym, ap, ap₂, ◌∙◌, subst, arith, List, [], ◌∷◌, ◌++◌, length, get_or, set, replicate, map, append_assoc, append-nil, count_by, take, drop, zip}
 use Rattle.std.specs.List.{filter, flat_map, concat}
-use Rattle.std.proofs.lemmas.Bool.{true≢false, false≢true, ltb-true, lt-ltb, leb-true, le-leb, le-ltb, lt-leb, cases_eq, cases_lt, cases_Bool, and_parts, and_from, and_left, and_right}
+use Rattle.std.proofs.lemmas.Bool.{true≢false, ltb-true, lt-ltb, leb-true, le-leb, le-ltb, lt-leb, cases_eq, cases_lt, and_parts, and_from, and_left, and_right}
 use Rattle.std.proofs.lemmas.Slice.Zip.{length-zip, get_or-zip}
-use Rattle.std.proofs.lemmas.List.{take_more, drop_more, take-append-drop, length-append, length-replicate, length-set, length-map, map-append, get_or-set_same, get_or-set_other}
+use Rattle.std.proofs.lemmas.List.{take_more, drop_more, take-append-drop, length-append, length-replicate, length-set, map-append, get_or-set_same, get_or-set_other}
 use Rattle.std.proofs.lemmas.List.Elements.{filter-append}
 use Rattle.std.proofs.lemmas.List.Concat.{flat_map-append}
 use Rattle.col_set.specs.Lists.{Listed, Listed-append_left, Listed-append_right, Listed-append_cases, Listed-filter, Listed-filter_parts}
@@ -313,9 +313,9 @@ module _ (all : List (ℕ × ℕ)) (bound : ℕ) (before ends_before : List ℕ)
               let w = p.long in
               let at : get_or (set slots e.1 (2 ^ 31 + length rows + 1)) c 0 ≡ 2 ^ 31 + length rows + 1 = ap (λ (z : ℕ). get_or (set slots e.1 (2 ^ 31 + length rows + 1)) z 0) i ∙ get_or-set_same slots e.1 (2 ^ 31 + length rows + 1) 0 (omega arith) in
               let o : offset (size all) (opened all bound (seen ++ e ∷ [])) c ≡ length (flat_map (filled all bound seen) (opened all bound seen))
-                  = ap₂ (λ (ds : List ℕ) (z : ℕ). offset (size all) ds z) now i ∙ offset-append_new (size all) (filled all bound seen) (opened all bound seen) e.1 (λ d h. length-filled all bound seen (e ∷ rest) d is) out in
+              = ap₂ (λ (ds : List ℕ) (z : ℕ). offset (size all) ds z) now i ∙ offset-append_new (size all) (filled all bound seen) (opened all bound seen) e.1 (λ d h. length-filled all bound seen (e ∷ rest) d is) out in
               let n : length (rows_with (seen ++ e ∷ []) c) ≡ 1
-                  = ap (λ (z : ℕ). length (rows_with (seen ++ e ∷ []) z)) i ∙ ap length (rows_with-push seen e ∙ ap (λ (xs : List ℕ). xs ++ e.0 ∷ []) (rows_with-none seen e.1 fresh)) in
+              = ap (λ (z : ℕ). length (rows_with (seen ++ e ∷ []) z)) i ∙ ap length (rows_with-push seen e ∙ ap (λ (xs : List ℕ). xs ++ e.0 ∷ []) (rows_with-none seen e.1 fresh)) in
               let r = long_rows in
               omega arith
           by c m (inr ne) (inl k) =
@@ -333,7 +333,7 @@ module _ (all : List (ℕ × ℕ)) (bound : ℕ) (before ends_before : List ℕ)
             ∙ ap (λ (xs : List ℕ). set xs (length before + (offset (size all) (opened all bound seen) e.1 + length (rows_with seen e.1))) e.0) p.laid
             ∙ shifted before (flat_map (filled all bound seen) (opened all bound seen)) (offset (size all) (opened all bound seen) e.1 + length (rows_with seen e.1))
             ∙ ap (λ (xs : List ℕ). before ++ xs) (set-flat (size all) (filled all bound seen) (filled all bound (seen ++ e ∷ [])) (opened all bound seen) e.1 (length (rows_with seen e.1)) e.0 (Once-opened all bound seen) listed
-                (λ d h. length-filled all bound seen (e ∷ rest) d is) (λ d ne. filled-other all bound seen e d (λ i. ne (sym i))) (filled-next all bound seen rest e is) (let n = size-next all bound seen rest e is in omega arith)
+            (λ d h. length-filled all bound seen (e ∷ rest) d is) (λ d ne. filled-other all bound seen e d (λ i. ne (sym i))) (filled-next all bound seen rest e is) (let n = size-next all bound seen rest e is in omega arith)
             ∙ ap (λ (ds : List ℕ). flat_map (filled all bound (seen ++ e ∷ [])) ds) (sym same));
         cuts = ee ∙ p.cuts ∙ ap (λ (ds : List ℕ). ends_before ++ ends_of (length before) (map (rows_with all) ds)) (sym same);
         long = ap length es ∙ length-set slots e.1 (get_or slots e.1 0 + 1) ∙ p.long;
@@ -361,7 +361,7 @@ module _ (all : List (ℕ × ℕ)) (bound : ℕ) (before ends_before : List ℕ)
               let b = p.begun e.1 l listed in
               let o : offset (size all) (opened all bound (seen ++ e ∷ [])) c ≡ offset (size all) (opened all bound seen) e.1 = ap₂ (λ (ds : List ℕ) (z : ℕ). offset (size all) ds z) same i in
               let n : length (rows_with (seen ++ e ∷ []) c) ≡ length (rows_with seen e.1) + 1
-                  = ap (λ (z : ℕ). length (rows_with (seen ++ e ∷ []) z)) i ∙ ap length (rows_with-push seen e) ∙ length-append (rows_with seen e.1) (e.0 ∷ []) in
+              = ap (λ (z : ℕ). length (rows_with (seen ++ e ∷ []) z)) i ∙ ap length (rows_with-push seen e) ∙ length-append (rows_with seen e.1) (e.0 ∷ []) in
               omega arith
           by c m (inr ne) k =
               get_or-set_other slots e.1 c (get_or slots e.1 0 + 1) 0 ne

@@ -1,24 +1,24 @@
 -- The parts by codes of the groups of a partition, put in order, are a finer partition.
-use Rattle.std.proofs.Common.{inl, inr, ◌≡◌, ◌≢◌, ◌⊎◌, ℕ, zero, suc, ◌+◌, ◌-◌, ◌<◌, ◌≤◌, Bool, true, false, cond, ◌&&◌, eqb, ltb, leb, refl, sym, ap, ap₂, ◌∙◌, subst, arith, List, [], ◌∷◌, ◌++◌, length, get_or, map, take, drop, zip, slice_range, sum_by}
+use Rattle.std.proofs.Common.{inl, inr, ◌≡◌, ◌≢◌, ℕ, zero, suc, ◌+◌, ◌-◌, ◌<◌, ◌≤◌, Bool, true, false, cond, ◌&&◌, eqb, ltb, leb, refl, sym, ap, ap₂, ◌∙◌, subst, arith, List, [], ◌∷◌, ◌++◌, length, get_or, map, take, drop, zip}
 use Rattle.std.specs.List.{filter, flat_map, concat, All, Contains}
 use Rattle.std.proofs.lemmas.Bool.{leb-true, and_parts, cases_lt, cases_eq}
-use Rattle.std.proofs.lemmas.List.{take-map, drop-map, length-map, take_all, take-append-drop, get_or_default, get_or_past, length-append}
+use Rattle.std.proofs.lemmas.List.{take-map, drop-map, take-append-drop, get_or_default, get_or_past}
 use Rattle.std.proofs.lemmas.List.Concat.{concat_is}
-use Rattle.col_set.specs.ColSet.{has, with, union}
+use Rattle.col_set.specs.ColSet.{with, union}
 use Rattle.col_set.specs.Lists.{Listed, Listed-filter_parts, Listed-map, Listed-map_which, Listed-flat_map, Listed-flat_map_which}
 use Rattle.col_set.proofs.Places.{Contains-listed, Listed-contained, Listed-get_or}
 use Rattle.rel_base.specs.CodeTable.{CodeTable, code_at}
-use Rattle.rel_base.specs.Shows.{code_agree, live_numbers}
+use Rattle.rel_base.specs.Shows.{live_numbers}
 use Rattle.rel_base.proofs.States.{All-from, All-listed}
 use Rattle.stripped_partition.specs.Groups.{cut, EndsRise, IsCut, IsFlat}
-use Rattle.stripped_partition.specs.Stripped.{group_of, grouped, agree_on, stripped, IsPartitionOf}
-use Rattle.stripped_partition.specs.Order.{Ahead, Apart, IsInOrder}
+use Rattle.stripped_partition.specs.Stripped.{group_of, grouped, agree_on, stripped}
+use Rattle.stripped_partition.specs.Order.{Apart, IsInOrder}
 use Rattle.stripped_partition.specs.Splits.{firsts, rows_with, repeated_codes, parts}
 use Rattle.stripped_partition.specs.Codes.{IsRecoded, IsTable}
-use Rattle.stripped_partition.proofs.Grouped.{Ahead-Apart, IsSame, GroupOf, group_apart}
+use Rattle.stripped_partition.proofs.Grouped.{Ahead-Apart, group_apart}
 use Rattle.stripped_partition.proofs.Firsts.{with_code, repeated, code_parts}
 use Rattle.stripped_partition.proofs.Splitting.{Splits, Apart-all_parts, split_is}
-use Rattle.stripped_partition.proofs.Agreeing.{code_agree-parts, code_agree-from, agree_on-subset, agree_same, agree_on-with_parts, agree_on-with, agree_on-union_parts, agree_on-union}
+use Rattle.stripped_partition.proofs.Agreeing.{code_agree-parts, code_agree-from, agree_same, agree_on-with_parts, agree_on-with, agree_on-union_parts, agree_on-union}
 use Rattle.stripped_partition.proofs.Live.{Climbs-live, live_within}
 use Rattle.stripped_partition.proofs.Cuts.{length-cut, sum-cut}
 use Rattle.stripped_partition.proofs.PlacingStep.{long_pairs}
@@ -155,7 +155,7 @@ module _ (s : CodeTable) (x : ℕ) (rows ends : List ℕ) (is : IsCut rows ends)
   unfolding stripped
   finer_is z code bound codes made_rows made_ends new by coded flat order =
       let e : cut 0 made_rows made_ends ≡ flat_map (code_parts code bound) (grouped (agree_on s x) (live_numbers s)) =
-          flat-cut made_rows made_ends _ flat ∙ parts_are code bound rows codes ends coded ∙ ap (flat_map (code_parts code bound)) of in
+      flat-cut made_rows made_ends _ flat ∙ parts_are code bound rows codes ends coded ∙ ap (flat_map (code_parts code bound)) of in
       let apart = Apart-all_parts (agree_on s x) (agree_on s z) (live_numbers s) code bound (agree_same s x) (agree_same s z) (Climbs-live s) by in
       split_is (agree_on s x) (agree_on s z) (live_numbers s) code bound (agree_same s x) (agree_same s z) (Climbs-live s) by new (order.ahead (subst Apart (sym e) apart))
       (λ g h. subst (Listed g) e (order.only g h)) (λ g h. order.kept g (subst (Listed g) (sym e) h))
@@ -211,10 +211,12 @@ module _ (s : CodeTable) (x : ℕ) (rows ends : List ℕ) (is : IsCut rows ends)
         let w = t.kept g i h l in
         let e = get_or_default table i none 0 w.0 in
         let m : get_or table i none < length groups = (let b = w.1 in omega arith) in
-        let at = at_place i m in
-        (m, group_apart (agree_on s y) (agree_same s y) (live_numbers s) (get_or groups (get_or table i none) []) g i
-            (stripped-parts s y (get_or groups (get_or table i none) []) (subst (Listed (get_or groups (get_or table i none) [])) other (Listed-get_or groups (get_or table i none) [] m)))
-            (stripped-parts s y g (subst (Listed g) other h)) at l)
+        let at = at_place i m in (
+          m,
+          group_apart (agree_on s y) (agree_same s y) (live_numbers s) (get_or groups (get_or table i none) []) g i
+              (stripped-parts s y (get_or groups (get_or table i none) []) (subst (Listed (get_or groups (get_or table i none) [])) other (Listed-get_or groups (get_or table i none) [] m)))
+              (stripped-parts s y g (subst (Listed g) other h)) at l,
+        )
 
     table_splits : Splits (agree_on s x) (agree_on s (union x y)) (live_numbers s) (λ i. get_or table i none) (length groups)
     table_splits = record {

@@ -1,12 +1,11 @@
 -- One group after another is split.
-use Rattle.std.proofs.Common.{inl, inr, ◌≡◌, ◌⊎◌, ℕ, zero, suc, ◌+◌, ◌-◌, ◌<◌, ◌≤◌, refl, sym, ap, ap₂, ◌∙◌, subst, arith, List, [], ◌∷◌, ◌++◌, length, get_or, replicate, map, take, drop, zip, slice_range, append_assoc, append-nil}
+use Rattle.std.proofs.Common.{◌≡◌, ℕ, zero, suc, ◌+◌, ◌-◌, ◌<◌, ◌≤◌, refl, sym, ap, ap₂, ◌∙◌, subst, arith, List, [], ◌∷◌, ◌++◌, length, get_or, replicate, map, take, drop, zip, slice_range, append_assoc, append-nil}
 use Rattle.std.specs.List.{flat_map, concat}
 use Rattle.std.proofs.lemmas.List.{length-append, length-take, length-drop, take_more, take_all}
 use Rattle.std.proofs.lemmas.List.Concat.{flat_map-append}
 use Rattle.stripped_partition.specs.Groups.{cut, start_at, EndsRise, ends_of, IsFlat}
-use Rattle.stripped_partition.specs.Splits.{rows_with, repeated_codes, parts}
-use Rattle.stripped_partition.proofs.Firsts.{Once-filter, Once-firsts}
-use Rattle.stripped_partition.proofs.Cuts.{length-cut, get_or-cut, ends_at, Ends, length-slice}
+use Rattle.stripped_partition.specs.Splits.{rows_with, parts}
+use Rattle.stripped_partition.proofs.Cuts.{length-cut, get_or-cut, ends_at}
 use Rattle.stripped_partition.proofs.PlacingStep.{opened, Once-opened, few_rows, parts_is}
 
 -- ---- parts of lists side by side
@@ -42,7 +41,7 @@ ends_of-append_all start (g ∷ gs) hs =
     ∙ ap (λ (n : ℕ). ends_of (start + length g) gs ++ ends_of n hs) (let e = length-append g (concat gs) in let d : start + length g + length (concat gs) ≡ start + length (g ++ concat gs) = omega arith in d))
 
 pub few_parts : (bound : ℕ) (es : List (ℕ × ℕ)) → length (concat (parts bound es)) ≤ length es
-few_parts bound es = let e = ap (λ (gs : List (List ℕ)). length (concat gs)) (sym (parts_is es bound) ) in
+few_parts bound es = let e = ap (λ (gs : List (List ℕ)). length (concat gs)) (sym (parts_is es bound)) in
     let f = flat_length (opened es bound es) in
     let l = few_rows es (opened es bound es) (Once-opened es bound es) in omega arith
   where

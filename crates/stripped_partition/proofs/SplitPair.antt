@@ -1,14 +1,14 @@
 -- The pair of rows by which a column splits a group, and the groups that it does not split.
-use Rattle.std.proofs.Common.{inl, inr, ◌≡◌, ◌⊎◌, ℕ, ◌<◌, ◌≤◌, ◌+◌, ◌↔◌, Bool, true, false, cond, ◌||◌, refl, sym, ap, ◌∙◌, subst, arith, List, [], ◌∷◌, length, get_or, drop, suc, Option, Some, None, option_map, is_some, find, unwrap_or, IsNone}
-use Rattle.std.specs.List.{list_any, All, Contains}
+use Rattle.std.proofs.Common.{◌≡◌, ℕ, ◌<◌, ◌≤◌, ◌+◌, ◌↔◌, Bool, true, false, cond, ◌||◌, refl, sym, ap, ◌∙◌, subst, arith, List, [], ◌∷◌, length, get_or, drop, suc, Option, Some, None, option_map, is_some, find, unwrap_or, IsNone}
+use Rattle.std.specs.List.{list_any, All}
 use Rattle.std.proofs.lemmas.Bool.{true≢false}
 use Rattle.std.proofs.lemmas.List.{drop_all}
 use Rattle.std.proofs.Math.Seq.{drop-cons}
 use Rattle.col_set.specs.Lists.{Listed}
 use Rattle.col_set.proofs.Places.{Contains-listed, Listed-contained, Listed-get_or}
-use Rattle.rel_base.specs.CodeTable.{CodeTable, code_at}
+use Rattle.rel_base.specs.CodeTable.{CodeTable}
 use Rattle.rel_base.proofs.States.{All-from, All-listed}
-use Rattle.stripped_partition.specs.Stripped.{stripped, IsPartitionOf}
+use Rattle.stripped_partition.specs.Stripped.{IsPartitionOf}
 use Rattle.stripped_partition.specs.SplitBy.{least, differ, is_split, split_pair, split_by, AgreesOn}
 use Rattle.stripped_partition.proofs.Dependencies.{stripped-parts, split_by-none, none-split_by, together}
 use Rattle.stripped_partition.proofs.Live.{live_within}
@@ -63,7 +63,7 @@ module _ (s : CodeTable) (a : ℕ) where
   unfolding split_by
   split_here groups k g pair l e p some u =
       let there : find (is_split s a) groups ≡ Some (get_or groups k []) = u.same ∙ at_place groups k l ∙ ap (λ b. cond b (Some (get_or groups k [])) (find (is_split s a) (drop (k + 1) groups)))
-          (ap (is_split s a) (sym e) ∙ found_split g ∙ ap is_some (sym p) ∙ some) in
+      (ap (is_split s a) (sym e) ∙ found_split g ∙ ap is_some (sym p) ∙ some) in
       p ∙ pair_is g (ap is_some (sym p) ∙ some) ∙ ap (λ (h : List ℕ). Some (split_pair s a h)) e ∙ sym (ap (option_map (split_pair s a)) there)
 
   pub split_nowhere : (groups : List (List ℕ)) (k : ℕ) (pair : Option (ℕ × ℕ)) → length groups ≤ k → pair ≡ None → Unsplit groups k → pair ≡ split_by s a groups

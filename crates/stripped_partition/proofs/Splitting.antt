@@ -1,13 +1,13 @@
 -- The parts of the groups by one relation are the groups by a finer one.
-use Rattle.std.proofs.Common.{inl, inr, ◌≡◌, ◌≢◌, ◌⊎◌, ℕ, ◌<◌, ◌≤◌, Bool, true, false, eqb, refl, sym, ap, ◌∙◌, subst, arith, List, [], ◌∷◌, ◌++◌, length, get_or, map}
-use Rattle.std.specs.List.{filter, flat_map}
+use Rattle.std.proofs.Common.{inl, inr, ◌≡◌, ◌≢◌, ℕ, ◌<◌, ◌≤◌, Bool, true, eqb, refl, sym, ap, ◌∙◌, subst, arith, List, [], ◌∷◌, length, get_or}
+use Rattle.std.specs.List.{flat_map}
 use Rattle.std.proofs.lemmas.Bool.{eqb-true, eq-eqb, cases_eq}
 use Rattle.col_set.specs.Lists.{Listed, Listed-filter, Listed-filter_parts, Listed-flat_map, Listed-flat_map_which}
-use Rattle.col_set.proofs.Places.{Climbs, Listed-get_or}
+use Rattle.col_set.proofs.Places.{Climbs}
 use Rattle.rel_base.proofs.Valid.{Climbs-filter}
 use Rattle.stripped_partition.specs.Stripped.{group_of, grouped}
 use Rattle.stripped_partition.specs.Order.{Ahead, Apart}
-use Rattle.stripped_partition.proofs.Grouped.{same_climbing, another, Another, two_of, Apart-append, same_ahead, IsSame, GroupOf, Listed-grouped_parts, Listed-grouped, group_is, group_apart, Ahead-grouped}
+use Rattle.stripped_partition.proofs.Grouped.{same_climbing, another, two_of, Apart-append, same_ahead, IsSame, GroupOf, Listed-grouped_parts, Listed-grouped, group_is, group_apart, Ahead-grouped}
 use Rattle.stripped_partition.proofs.Firsts.{with_code, code_parts, PartOf, parts-listed, Listed-parts, part_first, Apart-parts}
 
 -- among rows that are the same by the coarse relation, the fine one says that codes are equal and below the bound

@@ -1,5 +1,5 @@
 -- What a stripped partition has to do with dependencies, and which rows it has.
-use Rattle.std.specs.Prelude.{◌≡◌, ◌<◌, ◌≤◌, ◌↔◌, ℕ, Bool, true, List, [], length, None, slice_index_or}
+use Rattle.std.specs.Prelude.{◌≡◌, ◌<◌, ◌≤◌, ◌↔◌, ℕ, Bool, true, [], length, None}
 use Rattle.std.specs.List.{All, AllPairs, Contains, concat, count_by}
 use Rattle.std.specs.List.Sorted.{IsStrictlyIncreasing}
 use Rattle.col_set.specs.declared.target.Target.TheVariants.{Col, RowId}

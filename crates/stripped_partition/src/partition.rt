@@ -6,9 +6,8 @@ ghost use Rattle.rel_base.specs.CodeTable.{CodeTable};
 ghost use Rattle.stripped_partition.specs.Stripped.{stripped, IsPartitionOf, error_of};
 ghost use Rattle.stripped_partition.specs.SplitBy.{split_by, AgreesOn};
 
-use crate::codes;
 use crate::groups::{self, Groups};
-use crate::order;
+use crate::{codes, order};
 use rel_base::{RowNo, Snapshot};
 use std::alloc::{AllocError, Global};
 use std::marker::Model;

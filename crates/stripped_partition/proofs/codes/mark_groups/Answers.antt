@@ -1,10 +1,8 @@
-use Rattle.std.proofs.Common.{◌≡◌, ◌<◌, ◌≤◌, ◌+◌, ◌-◌, [], ℕ, suc, List, length, get_or, cond, slice_range, refl, sym, ap, ap₂, ◌∙◌, subst, arith, rules}
-use Rattle.std.specs.List.{All}
+use Rattle.std.proofs.Common.{◌≡◌, ◌<◌, ◌≤◌, ◌+◌, [], ℕ, suc, List, length, get_or, cond, slice_range, refl, sym, ap, ◌∙◌, arith, rules}
 use Rattle.rel_base.proofs.States.{All-listed}
-use Rattle.col_set.specs.Lists.{Listed}
 use Rattle.stripped_partition.specs.Groups.{cut, start_at, IsCut}
-use Rattle.stripped_partition.proofs.Cuts.{length-cut, get_or-cut, ends_at, few_ends, length-slice}
-use Rattle.stripped_partition.proofs.Coding.{has_row, Tabled, tabled_none, tabled_more, tabled_all}
+use Rattle.stripped_partition.proofs.Cuts.{length-cut, get_or-cut, ends_at, few_ends}
+use Rattle.stripped_partition.proofs.Coding.{has_row, tabled_none, tabled_more, tabled_all}
 use Rattle.stripped_partition.proofs.Refining.{cut_listed}
 use Rattle.stripped_partition.proofs.codes.mark_groups.Goals as goal
 
@@ -44,11 +42,12 @@ pub loop-k-preserved : goal.loop-k-preserved
 loop-k-preserved c =
     let n = length-cut 0 c.args.rows.now c.args.ends.now in
     let l = c.loop-k-test.true in
-    let same = group_is c.args.rows.now c.args.ends.now c.loop-k.k c.loop-k.start c.loop-k-test.true c.loop-k.invariant.0 in
-    (ap (start_at c.args.ends.now) (let e : suc c.loop-k.k ≡ c.loop-k.k + 1 = omega arith in e),
-    tabled_more (cut 0 c.args.rows.now c.args.ends.now) c.loop-k.table c.mark.new.table c.loop-k.k (omega arith) c.loop-k.invariant.1 c.mark.auto.table
-        (λ i m. c.mark.ensures i m ∙ ap (λ (g : List ℕ). cond (has_row g i) c.loop-k.k (get_or c.loop-k.table i 0)) same)
-        (λ i h. let e = c.loop-k.auto.table in let r = All-listed (λ (row : ℕ). row < length c.args.table.now) i c.args.rows.now c.requires.within (cut_listed c.args.rows.now c.args.ends.now c.requires.cut c.loop-k.k c.loop-k-test.true i h) in omega arith))
+    let same = group_is c.args.rows.now c.args.ends.now c.loop-k.k c.loop-k.start c.loop-k-test.true c.loop-k.invariant.0 in (
+      ap (start_at c.args.ends.now) (let e : suc c.loop-k.k ≡ c.loop-k.k + 1 = omega arith in e),
+      tabled_more (cut 0 c.args.rows.now c.args.ends.now) c.loop-k.table c.mark.new.table c.loop-k.k (omega arith) c.loop-k.invariant.1 c.mark.auto.table
+          (λ i m. c.mark.ensures i m ∙ ap (λ (g : List ℕ). cond (has_row g i) c.loop-k.k (get_or c.loop-k.table i 0)) same)
+          (λ i h. let e = c.loop-k.auto.table in let r = All-listed (λ (row : ℕ). row < length c.args.table.now) i c.args.rows.now c.requires.within (cut_listed c.args.rows.now c.args.ends.now c.requires.cut c.loop-k.k c.loop-k-test.true i h) in omega arith),
+    )
 
 pub returns : goal.returns
 returns c =

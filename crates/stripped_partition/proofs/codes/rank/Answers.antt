@@ -1,4 +1,4 @@
-use Rattle.std.proofs.Common.{◌≡◌, ℕ, ltb, sym, rules}
+use Rattle.std.proofs.Common.{ltb, sym, rules}
 use Rattle.std.proofs.lemmas.List.Sorted.{IsPartitionPoint-from_clause, IsPartitionedBy-ltb}
 use Rattle.stripped_partition.proofs.Coding.{count_point}
 use Rattle.stripped_partition.proofs.codes.rank.Goals as goal

@@ -1,4 +1,4 @@
-use Rattle.std.proofs.Common.{◌≡◌, ◌+◌, ℕ, sym, ap, ◌∙◌, subst, List, replicate}
+use Rattle.std.proofs.Common.{◌+◌, ℕ, sym, ap, ◌∙◌, subst, List, replicate}
 use Rattle.stripped_partition.proofs.Counts.{Clears, clears_set, clears_skip, clears_all}
 use Rattle.stripped_partition.proofs.groups.clear.Goals as goal
 use Rattle.stripped_partition.proofs.groups.clear.Goals.{then-slot-slots, else-slot-slots}

@@ -1,5 +1,4 @@
-use Rattle.std.proofs.Common.{◌≡◌, ◌<◌, ◌≤◌, ◌+◌, ◌-◌, ◌^◌, ◌∷◌, ◌++◌, [], ℕ, List, length, take, drop, zip, map, get_or, count_by, eqb, refl, sym, ap, ◌∙◌, subst, subst₂, arith, vec_len}
-use Rattle.std.specs.List.{concat}
+use Rattle.std.proofs.Common.{◌≡◌, ◌≤◌, ◌+◌, ◌++◌, ℕ, List, length, take, drop, zip, get_or, count_by, eqb, refl, sym, ap, ◌∙◌, subst, subst₂, arith, vec_len}
 use Rattle.std.proofs.lemmas.List.{take_all, get_or_read}
 use Rattle.std.proofs.lemmas.Slice.Zip.{seconds-zip}
 use Rattle.stripped_partition.specs.Groups.{ends_of}
@@ -15,7 +14,7 @@ pub place-requires-clause-short : goal.place-requires-clause-short
 place-requires-clause-short c =
     let all : List (ℕ × ℕ) = zip c.args.rows.now c.args.codes.now in
     let s = short_rows all (length c.loop-i.slots) c.args.groups.now.rows.items c.args.groups.now.ends.items c.loop-i.groups.rows.items c.loop-i.groups.ends.items c.loop-i.slots _ _
-        (next_pair c.args.rows.now c.args.codes.now c.requires.coded c.loop-i.i c.loop-i-test.true) c.loop-i.invariant in
+    (next_pair c.args.rows.now c.args.codes.now c.requires.coded c.loop-i.i c.loop-i-test.true) c.loop-i.invariant in
     let n = long_pairs c.args.rows.now c.args.codes.now c.requires.coded in
     let m = c.requires.short in
     omega (arith, c.args.groups.now.rows.ok.0, c.loop-i.groups.rows.ok.0)
@@ -26,7 +25,7 @@ place-requires-clause-room c l g =
     let n = long_pairs c.args.rows.now c.args.codes.now c.requires.coded in
     let m = c.requires.short in
     let r = room all (length c.loop-i.slots) c.args.groups.now.rows.items c.args.groups.now.ends.items c.loop-i.groups.rows.items c.loop-i.groups.ends.items c.loop-i.slots _ _ _
-        (next_pair c.args.rows.now c.args.codes.now c.requires.coded c.loop-i.i c.loop-i-test.true) (omega arith) c.loop-i.invariant l g in
+    (next_pair c.args.rows.now c.args.codes.now c.requires.coded c.loop-i.i c.loop-i-test.true) (omega arith) c.loop-i.invariant l g in
     omega (arith, c.args.groups.now.rows.ok.0, c.loop-i.groups.rows.ok.0)
 
 pub place-requires-clause-within : goal.place-requires-clause-within
@@ -35,7 +34,7 @@ place-requires-clause-within c l g =
     let n = long_pairs c.args.rows.now c.args.codes.now c.requires.coded in
     let m = c.requires.short in
     let r = within all (length c.loop-i.slots) c.args.groups.now.rows.items c.args.groups.now.ends.items c.loop-i.groups.rows.items c.loop-i.groups.ends.items c.loop-i.slots _ _ _
-        (next_pair c.args.rows.now c.args.codes.now c.requires.coded c.loop-i.i c.loop-i-test.true) (omega arith) c.loop-i.invariant l g in
+    (next_pair c.args.rows.now c.args.codes.now c.requires.coded c.loop-i.i c.loop-i-test.true) (omega arith) c.loop-i.invariant l g in
     omega (arith, c.args.groups.now.rows.ok.0, c.loop-i.groups.rows.ok.0)
 
 pub loop-i-preserved : goal.loop-i-preserved
@@ -46,9 +45,9 @@ loop-i-preserved c =
     let row : c.index-rows-i.result ≡ get_or c.args.rows.now c.loop-i.i 0 = get_or_read c.args.rows.now c.loop-i.i c.index-rows-i.result c.loop-i-test.true c.index-rows-i.is 0 in
     let at = c.loop-i.groups in
     let q : Places (get_or c.args.rows.now c.loop-i.i 0) (get_or c.args.codes.now c.loop-i.i 0) at.rows.items at.ends.items c.loop-i.slots c.place.new.groups.rows.items c.place.new.groups.ends.items c.place.new.slots
-        = subst (λ (r : ℕ). Places r (get_or c.args.codes.now c.loop-i.i 0) at.rows.items at.ends.items c.loop-i.slots c.place.new.groups.rows.items c.place.new.groups.ends.items c.place.new.slots) row c.in_ok-place.ensures in
+    = subst (λ (r : ℕ). Places r (get_or c.args.codes.now c.loop-i.i 0) at.rows.items at.ends.items c.loop-i.slots c.place.new.groups.rows.items c.place.new.groups.ends.items c.place.new.slots) row c.in_ok-place.ensures in
     let p = step all (length c.loop-i.slots) c.args.groups.now.rows.items c.args.groups.now.ends.items at.rows.items at.ends.items c.loop-i.slots (take c.loop-i.i all) (drop (c.loop-i.i + 1) all) (get_or c.args.rows.now c.loop-i.i 0, get_or c.args.codes.now c.loop-i.i 0)
-        (next_pair c.args.rows.now c.args.codes.now c.requires.coded c.loop-i.i c.loop-i-test.true) (omega arith) c.loop-i.invariant c.place.new.groups.rows.items c.place.new.groups.ends.items c.place.new.slots q in
+    (next_pair c.args.rows.now c.args.codes.now c.requires.coded c.loop-i.i c.loop-i-test.true) (omega arith) c.loop-i.invariant c.place.new.groups.rows.items c.place.new.groups.ends.items c.place.new.slots q in
     subst₂ (λ (b : ℕ) (es : List (ℕ × ℕ)). Placing all b c.args.groups.now.rows.items c.args.groups.now.ends.items c.place.new.groups.rows.items c.place.new.groups.ends.items c.place.new.slots es)
     (sym c.place.auto.slots) (sym (more_pairs c.args.rows.now c.args.codes.now c.requires.coded c.loop-i.i c.loop-i-test.true)) p
 

@@ -1,4 +1,4 @@
-use Rattle.std.proofs.Common.{◌≡◌, ◌<◌, ◌≤◌, ◌+◌, ◌-◌, ◌∷◌, ◌++◌, [], ℕ, List, length, take, drop, zip, get_or, replicate, slice_range, refl, sym, ap, ap₂, ◌∙◌, subst, subst₂, arith, rules, vec_len}
+use Rattle.std.proofs.Common.{◌≡◌, ◌<◌, ◌≤◌, ◌+◌, ◌++◌, ℕ, List, length, zip, get_or, replicate, slice_range, refl, sym, ap, ap₂, ◌∙◌, subst, subst₂, arith, rules, vec_len}
 use Rattle.std.specs.List.{concat, flat_map}
 use Rattle.stripped_partition.specs.Groups.{cut, ends_of, EndsRise, IsCut, IsFlat}
 use Rattle.stripped_partition.specs.Splits.{parts}

@@ -1,15 +1,15 @@
-use Rattle.std.proofs.Common.{◌≡◌, ◌<◌, ◌≤◌, ◌%◌, ◌^◌, [], ℕ, List, length, get_or, map, sum_by, vec_len, IfOk, IsPermutation, sym, ap, ◌∙◌, subst, arith}
-use Rattle.std.specs.List.{All, concat}
+use Rattle.std.proofs.Common.{◌≡◌, ◌<◌, ◌≤◌, ◌%◌, ◌^◌, ℕ, List, length, map, sum_by, vec_len, IsPermutation, sym, ap, ◌∙◌, subst, arith}
+use Rattle.std.specs.List.{All}
 use Rattle.std.specs.List.Sorted.{IsNonDecreasing}
 use Rattle.std.proofs.lemmas.Result.{IfOk-weaker}
 use Rattle.std.proofs.lemmas.List.Elements.{All-same}
 use Rattle.col_set.specs.ColSet.{upto}
 use Rattle.rel_base.proofs.States.{All-from}
 use Rattle.stripped_partition.specs.Groups.{cut, IsCut, IsFlat}
-use Rattle.stripped_partition.specs.Order.{Ahead, IsInOrder, key_of, group_at}
+use Rattle.stripped_partition.specs.Order.{IsInOrder, key_of, group_at}
 use Rattle.stripped_partition.proofs.Cuts.{length-cut, few_ends}
 use Rattle.stripped_partition.proofs.Flat.{flat-cut, flat-rise, group_positive, sum_groups}
-use Rattle.stripped_partition.proofs.Ordering.{IsKey, is_key, sum_sorted, sorted_order, kept_order, sum_by-map}
+use Rattle.stripped_partition.proofs.Ordering.{is_key, sum_sorted, sorted_order, sum_by-map}
 use Rattle.stripped_partition.proofs.OrderLoops.{length-concat}
 use Rattle.stripped_partition.proofs.order.in_order.Goals as goal
 
@@ -57,12 +57,12 @@ returns-clause-cut c =
     let g = c.args.groups in
     IfOk-weaker c.laid_out.result (λ laid. IsFlat laid.rows.items laid.ends.items (map (group_at (cut 0 g.rows.items g.ends.items)) c.deref.result.now)) (λ new. IsCut new.rows.items new.ends.items)
     (λ new f. is_cut g.rows.items g.ends.items c.in_ok-keys.keys.items new.rows.items new.ends.items (vec_len g.ends) c.requires (omega (arith, g.ends.ok.0)) c.in_ok-keys.ensures.permutation c.in_ok-keys.ensures.sorted
-        (subst (λ (keys : List ℕ). IsFlat new.rows.items new.ends.items (map (group_at (cut 0 g.rows.items g.ends.items)) keys)) c.deref.ensures.value f)) c.laid_out.ensures
+    (subst (λ (keys : List ℕ). IsFlat new.rows.items new.ends.items (map (group_at (cut 0 g.rows.items g.ends.items)) keys)) c.deref.ensures.value f)) c.laid_out.ensures
 
 pub returns-clause-order : goal.returns-clause-order
 returns-clause-order c =
     let g = c.args.groups in
     IfOk-weaker c.laid_out.result (λ laid. IsFlat laid.rows.items laid.ends.items (map (group_at (cut 0 g.rows.items g.ends.items)) c.deref.result.now)) (λ new. IsInOrder (cut 0 g.rows.items g.ends.items) (cut 0 new.rows.items new.ends.items))
     (λ new f. subst (λ (gs : List (List ℕ)). IsInOrder (cut 0 g.rows.items g.ends.items) gs)
-        (sym (flat-cut new.rows.items new.ends.items _ (subst (λ (keys : List ℕ). IsFlat new.rows.items new.ends.items (map (group_at (cut 0 g.rows.items g.ends.items)) keys)) c.deref.ensures.value f)))
-        (is_order g.rows.items g.ends.items c.in_ok-keys.keys.items (vec_len g.ends) c.requires (omega (arith, g.ends.ok.0)) c.in_ok-keys.ensures.permutation c.in_ok-keys.ensures.sorted)) c.laid_out.ensures
+    (sym (flat-cut new.rows.items new.ends.items _ (subst (λ (keys : List ℕ). IsFlat new.rows.items new.ends.items (map (group_at (cut 0 g.rows.items g.ends.items)) keys)) c.deref.ensures.value f)))
+    (is_order g.rows.items g.ends.items c.in_ok-keys.keys.items (vec_len g.ends) c.requires (omega (arith, g.ends.ok.0)) c.in_ok-keys.ensures.permutation c.in_ok-keys.ensures.sorted)) c.laid_out.ensures

@@ -1,7 +1,7 @@
-use Rattle.std.proofs.Common.{◌≡◌, ◌<◌, ◌≤◌, ℕ, List, length, ◌∙◌, arith}
+use Rattle.std.proofs.Common.{◌∙◌, arith}
 use Rattle.stripped_partition.specs.Groups.{cut}
 use Rattle.stripped_partition.proofs.Cuts.{length-cut}
-use Rattle.stripped_partition.proofs.OrderLoops.{Rising, rising_more, rising_all}
+use Rattle.stripped_partition.proofs.OrderLoops.{rising_more, rising_all}
 use Rattle.stripped_partition.proofs.order.is_in_order.Goals as goal
 
 pub loop-k-preserved : goal.loop-k-preserved

@@ -1,7 +1,5 @@
-use Rattle.std.proofs.Common.{◌≡◌, ◌<◌, ◌≤◌, ◌+◌, ◌*◌, ◌^◌, ◌∷◌, ◌++◌, [], ℕ, List, length, get_or, map, sym, ap, ap₂, ◌∙◌, arith}
-use Rattle.col_set.specs.ColSet.{upto}
+use Rattle.std.proofs.Common.{◌+◌, ◌*◌, ◌^◌, ℕ, ap, ◌∙◌, arith}
 use Rattle.stripped_partition.specs.Groups.{cut}
-use Rattle.stripped_partition.specs.Order.{key_of}
 use Rattle.stripped_partition.proofs.Cuts.{few_ends}
 use Rattle.stripped_partition.proofs.OrderLoops.{keys_more}
 use Rattle.stripped_partition.proofs.order.keys_of.Goals as goal

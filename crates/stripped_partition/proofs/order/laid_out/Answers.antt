@@ -1,6 +1,5 @@
-use Rattle.std.proofs.Common.{◌≡◌, ◌<◌, ◌≤◌, ◌+◌, ◌∷◌, ◌++◌, [], ℕ, List, length, get_or, map, take, sum_by, sym, ap, ◌∙◌, arith, vec_len}
+use Rattle.std.proofs.Common.{arith, vec_len}
 use Rattle.stripped_partition.specs.Groups.{cut}
-use Rattle.stripped_partition.specs.Order.{group_at}
 use Rattle.stripped_partition.proofs.OrderLoops.{flat_none, copied_short, flat_more, flat_all}
 use Rattle.stripped_partition.proofs.order.laid_out.Goals as goal
 

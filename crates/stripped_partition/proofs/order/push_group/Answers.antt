@@ -1,7 +1,7 @@
-use Rattle.std.proofs.Common.{◌≡◌, ◌<◌, ◌≤◌, ◌+◌, ◌-◌, ◌∷◌, ◌++◌, ℕ, List, [], length, get_or, slice_range, sym, ap, ap₂, ◌∙◌, rules, arith, vec_len}
-use Rattle.std.proofs.lemmas.List.{get_or_read, length-append}
+use Rattle.std.proofs.Common.{◌≡◌, ◌<◌, ◌≤◌, ◌+◌, ◌∷◌, ◌++◌, ℕ, List, [], length, get_or, slice_range, sym, ap, ap₂, ◌∙◌, rules, arith, vec_len}
+use Rattle.std.proofs.lemmas.List.{get_or_read}
 use Rattle.stripped_partition.specs.Groups.{cut, start_at, IsCut}
-use Rattle.stripped_partition.proofs.Cuts.{get_or-cut, ends_at, length-slice}
+use Rattle.stripped_partition.proofs.Cuts.{get_or-cut, ends_at}
 use Rattle.stripped_partition.proofs.order.push_group.Goals as goal
 
 -- a group lies within the rows

@@ -1,4 +1,4 @@
-use Rattle.std.proofs.Common.{◌≡◌, ℕ, List, sym, ap, ◌∙◌, arith}
+use Rattle.std.proofs.Common.{ap, arith}
 use Rattle.stripped_partition.specs.Stripped.{error_of}
 use Rattle.stripped_partition.proofs.Cuts.{few_ends, error_of-cut}
 use Rattle.stripped_partition.proofs.partition.Partition.error_count.Goals as goal

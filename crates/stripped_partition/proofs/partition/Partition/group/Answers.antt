@@ -1,4 +1,4 @@
-use Rattle.std.proofs.Common.{◌≡◌, ◌<◌, ◌≤◌, ℕ, List, [], length, get_or, take, drop, slice_range, sym, ap, ap₂, ◌∙◌, subst, rules, arith}
+use Rattle.std.proofs.Common.{◌≡◌, ◌<◌, ◌≤◌, ℕ, List, [], length, get_or, slice_range, sym, ap, ap₂, ◌∙◌, rules, arith}
 use Rattle.std.proofs.lemmas.List.{get_or_read}
 use Rattle.stripped_partition.specs.Groups.{cut, start_at, IsCut}
 use Rattle.stripped_partition.proofs.Cuts.{length-cut, get_or-cut, ends_at, Ends}

@@ -1,4 +1,4 @@
-use Rattle.std.proofs.Common.{◌≡◌, length, ap, arith}
+use Rattle.std.proofs.Common.{length, ap, arith}
 use Rattle.stripped_partition.proofs.Cuts.{length-cut}
 use Rattle.stripped_partition.proofs.partition.Partition.group_count.Goals as goal
 

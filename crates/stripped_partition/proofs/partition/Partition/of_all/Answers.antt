@@ -1,4 +1,4 @@
-use Rattle.std.proofs.Common.{◌≡◌, ◌<◌, ◌≤◌, ◌∷◌, ◌++◌, [], ℕ, List, length, ap, sym, ◌∙◌, arith}
+use Rattle.std.proofs.Common.{◌≡◌, ◌≤◌, ◌∷◌, ◌++◌, [], ℕ, List, ap, ◌∙◌, arith}
 use Rattle.col_set.specs.ColSet.{empty}
 use Rattle.stripped_partition.proofs.Whole.{nothing_cut, whole_cut, whole_is_cut}
 use Rattle.stripped_partition.proofs.partition.Partition.of_all.Goals as goal

@@ -1,4 +1,4 @@
-use Rattle.std.proofs.Common.{◌≡◌, ◌<◌, ◌≤◌, ℕ, List, length, map, zip, slice_index_or, sym, ap, ap₂, ◌∙◌, subst, subst₂, arith}
+use Rattle.std.proofs.Common.{◌≡◌, ◌≤◌, ℕ, List, length, map, zip, slice_index_or, sym, ap, ap₂, ◌∙◌, subst, subst₂, arith}
 use Rattle.std.specs.List.{flat_map}
 use Rattle.std.proofs.lemmas.List.{length-map}
 use Rattle.stripped_partition.specs.Groups.{cut, IsCut, IsFlat}
@@ -31,7 +31,7 @@ in_order-requires c =
     split_cut c.len.result rows c.in_ok-codes.codes.items ends c.in_ok-groups.groups.rows.items c.in_ok-groups.groups.ends.items c.self.invariant
     (as_many (λ row. slice_index_or c.in_ok-table.table.items row 4294967295) rows c.in_ok-codes.codes.items places)
     (same_flat c.len.result rows c.deref-5.result.now ends c.deref-6.result.now c.in_ok-codes.codes.items c.deref-7.result.now c.in_ok-groups.groups.rows.items c.in_ok-groups.groups.ends.items
-        c.deref-5.ensures.value c.deref-6.ensures.value c.deref-7.ensures.value c.in_ok-groups.ensures)
+    c.deref-5.ensures.value c.deref-6.ensures.value c.deref-7.ensures.value c.in_ok-groups.ensures)
 
 pub returns : goal.returns
 returns c s x y e f =
@@ -44,6 +44,6 @@ returns c s x y e f =
     c.in_ok-codes.codes.items c.in_ok-groups.groups.rows.items c.in_ok-groups.groups.ends.items (cut 0 c.in_ok-rows.field-0.rows.items c.in_ok-rows.field-0.ends.items)
     (gathered rows c.deref-4.result.now c.in_ok-table.table.items c.deref-3.result.now c.in_ok-codes.codes.items c.deref-4.ensures.value c.deref-3.ensures.value c.in_ok-codes.ensures)
     (flat c.len.result (length theirs) rows ends c.in_ok-codes.codes.items c.in_ok-groups.groups.rows.items c.in_ok-groups.groups.ends.items (n ∙ sym (length-cut 0 c.other.inside.rows.items c.other.inside.ends.items))
-        (same_flat c.len.result rows c.deref-5.result.now ends c.deref-6.result.now c.in_ok-codes.codes.items c.deref-7.result.now c.in_ok-groups.groups.rows.items c.in_ok-groups.groups.ends.items
-        c.deref-5.ensures.value c.deref-6.ensures.value c.deref-7.ensures.value c.in_ok-groups.ensures))
+    (same_flat c.len.result rows c.deref-5.result.now ends c.deref-6.result.now c.in_ok-codes.codes.items c.deref-7.result.now c.in_ok-groups.groups.rows.items c.in_ok-groups.groups.ends.items
+    c.deref-5.ensures.value c.deref-6.ensures.value c.deref-7.ensures.value c.in_ok-groups.ensures))
     c.in_ok-rows.ensures.order

@@ -1,11 +1,10 @@
-use Rattle.std.proofs.Common.{◌≡◌, ◌<◌, ◌≤◌, ℕ, List, length, map, zip, sym, ap, ◌∙◌, subst, arith}
-use Rattle.std.specs.List.{All, flat_map}
+use Rattle.std.proofs.Common.{◌≡◌, ◌<◌, ℕ, List, length, map, sym, ap, ◌∙◌, subst, arith}
+use Rattle.std.specs.List.{All}
 use Rattle.std.proofs.lemmas.List.{length-map}
 use Rattle.col_set.specs.ColSet.{with}
 use Rattle.rel_base.specs.CodeTable.{code_at}
-use Rattle.stripped_partition.specs.Groups.{cut, IsFlat}
+use Rattle.stripped_partition.specs.Groups.{cut}
 use Rattle.stripped_partition.specs.Codes.{IsRecoded}
-use Rattle.stripped_partition.specs.Splits.{parts}
 use Rattle.stripped_partition.proofs.Refining.{rows_given, split_cut, refined, same_flat}
 use Rattle.stripped_partition.proofs.partition.Partition.refine.Goals as goal
 
@@ -35,9 +34,9 @@ in_order-requires c =
     let codes = gathered (λ row. code_at c.args.snapshot.now row c.args.column) c.self.inside.rows.items c.deref.result.now c.in_ok-codes.codes.items c.deref.ensures.value c.in_ok-codes.ensures in
     split_cut c.in_ok-codes-2.bound c.self.inside.rows.items c.in_ok-codes-2.codes.items c.self.inside.ends.items c.in_ok-groups.groups.rows.items c.in_ok-groups.groups.ends.items c.self.invariant
     (recoded c.in_ok-codes.codes.items c.in_ok-codes-2.codes.items c.in_ok-codes-2.bound c.in_ok-codes-2.ensures
-        ∙ as_many (λ row. code_at c.args.snapshot.now row c.args.column) c.self.inside.rows.items c.in_ok-codes.codes.items codes)
+    ∙ as_many (λ row. code_at c.args.snapshot.now row c.args.column) c.self.inside.rows.items c.in_ok-codes.codes.items codes)
     (same_flat c.in_ok-codes-2.bound c.self.inside.rows.items c.deref-2.result.now c.self.inside.ends.items c.deref-3.result.now c.in_ok-codes-2.codes.items c.deref-4.result.now
-        c.in_ok-groups.groups.rows.items c.in_ok-groups.groups.ends.items c.deref-2.ensures.value c.deref-3.ensures.value c.deref-4.ensures.value c.in_ok-groups.ensures)
+    c.in_ok-groups.groups.rows.items c.in_ok-groups.groups.ends.items c.deref-2.ensures.value c.deref-3.ensures.value c.deref-4.ensures.value c.in_ok-groups.ensures)
 
 pub returns-clause-value : goal.returns-clause-value
 returns-clause-value c x e =
@@ -46,7 +45,7 @@ returns-clause-value c x e =
     (gathered (λ row. code_at c.args.snapshot.now row c.args.column) c.self.inside.rows.items c.deref.result.now c.in_ok-codes.codes.items c.deref.ensures.value c.in_ok-codes.ensures)
     c.in_ok-codes-2.ensures c.in_ok-groups.groups.rows.items c.in_ok-groups.groups.ends.items (cut 0 c.in_ok-rows.field-0.rows.items c.in_ok-rows.field-0.ends.items)
     (same_flat c.in_ok-codes-2.bound c.self.inside.rows.items c.deref-2.result.now c.self.inside.ends.items c.deref-3.result.now c.in_ok-codes-2.codes.items c.deref-4.result.now
-        c.in_ok-groups.groups.rows.items c.in_ok-groups.groups.ends.items c.deref-2.ensures.value c.deref-3.ensures.value c.deref-4.ensures.value c.in_ok-groups.ensures)
+    c.in_ok-groups.groups.rows.items c.in_ok-groups.groups.ends.items c.deref-2.ensures.value c.deref-3.ensures.value c.deref-4.ensures.value c.in_ok-groups.ensures)
     c.in_ok-rows.ensures.order
 
 pub returns-clause-of : goal.returns-clause-of

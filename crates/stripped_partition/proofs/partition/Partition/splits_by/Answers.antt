@@ -1,4 +1,4 @@
-use Rattle.std.proofs.Common.{◌≡◌, ◌<◌, ◌≤◌, ℕ, length, refl, ap, sym, ◌∙◌, arith}
+use Rattle.std.proofs.Common.{refl, sym, ◌∙◌, arith}
 use Rattle.stripped_partition.proofs.SplitPair.{unsplit_more, split_here, split_nowhere, none_agrees, given}
 use Rattle.stripped_partition.proofs.partition.Partition.splits_by.Goals as goal
 

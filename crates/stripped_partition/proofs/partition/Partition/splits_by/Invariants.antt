@@ -1,4 +1,3 @@
-use Rattle.rel_base.specs.CodeTable.{CodeTable}
 use Rattle.stripped_partition.proofs.SplitPair.{Unsplit}
 use Rattle.stripped_partition.proofs.partition.Partition.splits_by.Given as goal
 
