@@ -1,0 +1,7 @@
+pub mod Groups
+pub mod Stripped
+pub mod SplitBy
+pub mod Order
+pub mod Splits
+pub mod Codes
+pub mod Laws

@@ -1,0 +1,30 @@
+-- The parts of a group of rows by a code of each row.
+use Rattle.std.specs.Prelude.{◌≡◌, ◌==◌, ◌+◌, ◌-◌, ◌^◌, ◌<◌, ◌≤◌, ℕ, nat_lt, nat_le, not, ◌&&◌, List, [], ◌∷◌, ◌++◌, length, map, replicate, slice_index, slice_set}
+use Rattle.std.specs.List.{filter}
+
+-- each number once, first seen first
+unfoldable pub firsts : List ℕ → List ℕ
+firsts [] = []
+firsts (x ∷ xs) = x ∷ filter (λ y. not (x == y)) (firsts xs)
+
+-- the rows that stand with a code in these pairs of a row and its code
+unfoldable pub rows_with : List (ℕ × ℕ) → ℕ → List ℕ
+rows_with entries c = map (λ e. e.0) (filter (λ e. e.1 == c) entries)
+
+-- the codes below a bound that stand with two rows or more
+unfoldable pub repeated_codes : ℕ → List (ℕ × ℕ) → List ℕ
+repeated_codes bound entries = filter (λ c. nat_lt c bound && nat_le 2 (length (rows_with entries c))) (firsts (map (λ e. e.1) entries))
+
+-- the rows of each of those codes
+unfoldable pub parts : ℕ → List (ℕ × ℕ) → List (List ℕ)
+parts bound entries = map (rows_with entries) (repeated_codes bound entries)
+
+-- A row is put into the part of its code. A slot holds how many rows have its code, until the first of them makes room for
+-- them all; then it holds 2 ^ 31 and the place of the next one.
+pub record Places (row code : ℕ) (rows ends slots rows_after ends_after slots_after : List ℕ) : Type 0 where
+  pub outside : length slots ≤ code → (rows_after ≡ rows) × (ends_after ≡ ends) × (slots_after ≡ slots)
+  pub alone : slice_index slots code < 2 → (rows_after ≡ rows) × (ends_after ≡ ends) × (slots_after ≡ slots)
+  pub opened : code < length slots → 2 ≤ slice_index slots code → slice_index slots code < 2 ^ 31
+      → (rows_after ≡ rows ++ replicate (slice_index slots code) row) × (ends_after ≡ ends ++ (length rows + slice_index slots code) ∷ []) × (slots_after ≡ slice_set slots code (2 ^ 31 + length rows + 1))
+  pub filled : code < length slots → 2 ^ 31 ≤ slice_index slots code
+      → (rows_after ≡ slice_set rows (slice_index slots code - 2 ^ 31) row) × (ends_after ≡ ends) × (slots_after ≡ slice_set slots code (slice_index slots code + 1))

@@ -1,0 +1,146 @@
+// Groups of rows by code, by counting.
+ghost use Rattle.std.specs.Prelude.{◌≡◌, ◌<◌, ◌≤◌, ◌+◌, ◌-◌, ◌^◌, ◌==◌, ◌++◌, [], ℕ, length, slice_index, replicate, count_by, zip, flat_map, vec_len, OnOk, IfOk};
+ghost use Rattle.std.specs.List.{concat};
+ghost use Rattle.stripped_partition.specs.Groups.{cut, start_at, ends_of, IsCut, IsFlat};
+ghost use Rattle.stripped_partition.specs.Splits.{parts, Places};
+
+use rel_base::RowNo;
+use std::alloc::{AllocError, Global};
+
+// Groups of rows, one after another.
+#[derive(Drop)]
+pub(crate) struct Groups {
+    pub(crate) rows: Vec<RowNo>,
+    pub(crate) ends: Vec<u32>,
+}
+
+// From here on a slot holds the place of the next row with its code, and below it how many rows have the code.
+const PLACED: u32 = 1 << 31;
+
+// Where a group begins: where the one before it ends.
+pub(crate) fn start_of(ends: &[u32], k: usize) -> usize
+    requires { k ≤ length ends.now }
+    ensures { result ≡ start_at ends.now k }
+{
+    if k == 0 { 0 } else { ends[k - 1] as usize }
+}
+
+// Counts each code that has a slot.
+fn count(slots: &mut [u32], codes: &[u32])
+    requires short { length codes.now < 2 ^ 31 }
+    requires clear { slots.old ≡ replicate (length slots.old) 0 }
+    ensures { (c : ℕ) → c < length slots.new → slice_index slots.new c ≡ count_by (λ d. d == c) codes.now }
+{
+    for code in codes {
+        let slot = *code as usize;
+        if slot < slots.len() {
+            slots[slot] += 1;
+        }
+    }
+}
+
+// Clears the slots of these codes.
+fn clear(slots: &mut [u32], codes: &[u32])
+    requires { (c : ℕ) → c < length slots.old → count_by (λ d. d == c) codes.now ≡ 0 → slice_index slots.old c ≡ 0 }
+    ensures { slots.new ≡ replicate (length slots.old) 0 }
+{
+    for code in codes {
+        let slot = *code as usize;
+        if slot < slots.len() {
+            slots[slot] = 0;
+        }
+    }
+}
+
+// Puts a row into the part of its code. The first row of a part makes room for all of it.
+fn place(groups: &mut Groups, slots: &mut [u32], row: RowNo, code: u32) -> Result<(), AllocError>
+    requires short { vec_len groups.old.rows < 2 ^ 31 }
+    requires room { code < length slots.old → slice_index slots.old code < 2 ^ 31 → vec_len groups.old.rows + slice_index slots.old code < 2 ^ 31 }
+    requires within { code < length slots.old → 2 ^ 31 ≤ slice_index slots.old code → slice_index slots.old code - 2 ^ 31 < vec_len groups.old.rows }
+    ensures { OnOk result (Places row code groups.old.rows.items groups.old.ends.items slots.old groups.new.rows.items groups.new.ends.items slots.new) }
+{
+    let slot = code as usize;
+    if slot >= slots.len() {
+        return Ok(());
+    }
+    let held = slots[slot];
+    if held >= PLACED {
+        groups.rows[(held - PLACED) as usize] = row;
+        slots[slot] = held + 1;
+    } else if held >= 2 {
+        let start = groups.rows.len() as u32;
+        let end = start + held;
+        groups.rows.resize(end as usize, row)?;
+        groups.ends.push(end)?;
+        slots[slot] = PLACED + start + 1;
+    }
+    Ok(())
+}
+
+// Adds the parts of a group.
+fn split_group(
+    groups: &mut Groups,
+    slots: &mut [u32],
+    rows: &[RowNo],
+    codes: &[u32],
+) -> Result<(), AllocError>
+    requires short { vec_len groups.old.rows + length rows.now ≤ 1000000 }
+    requires coded { length codes.now ≡ length rows.now }
+    requires clear { slots.old ≡ replicate (length slots.old) 0 }
+    ensures rows { OnOk result (groups.new.rows.items ≡ groups.old.rows.items ++ concat (parts (length slots.old) (zip rows.now codes.now))) }
+    ensures ends { OnOk result (groups.new.ends.items ≡ groups.old.ends.items ++ ends_of (vec_len groups.old.rows) (parts (length slots.old) (zip rows.now codes.now))) }
+    ensures slots { OnOk result ((c : ℕ) → c < length slots.new → count_by (λ d. d == c) codes.now ≡ 0 → slice_index slots.new c ≡ 0) }
+{
+    count(slots, codes);
+    for (i, row) in rows.iter().enumerate() {
+        place(groups, slots, *row, codes[i])?;
+    }
+    Ok(())
+}
+
+// Adds the parts of each group.
+fn split_groups(
+    groups: &mut Groups,
+    slots: &mut [u32],
+    rows: &[RowNo],
+    ends: &[u32],
+    codes: &[u32],
+) -> Result<(), AllocError>
+    requires cut { IsCut rows.now ends.now }
+    requires coded { length codes.now ≡ length rows.now }
+    requires none { (groups.old.rows.items ≡ []) × (groups.old.ends.items ≡ []) }
+    requires clear { slots.old ≡ replicate (length slots.old) 0 }
+    ensures { OnOk result (IsFlat groups.new.rows.items groups.new.ends.items (flat_map (parts (length slots.old)) (cut 0 (zip rows.now codes.now) ends.now))) }
+{
+    let mut start = 0;
+    for end in ends {
+        let end = *end as usize;
+        split_group(groups, slots, &rows[start..end], &codes[start..end])?;
+        if end < rows.len() {
+            clear(slots, &codes[start..end]);
+        }
+        start = end;
+    }
+    Ok(())
+}
+
+// The parts of two rows or more of each group by the codes of its rows. A code at or beyond the bound makes no part.
+pub(crate) fn split(
+    alloc: Global,
+    rows: &[RowNo],
+    ends: &[u32],
+    codes: &[u32],
+    bound: usize,
+) -> Result<Groups, AllocError>
+    requires cut { IsCut rows.now ends.now }
+    requires coded { length codes.now ≡ length rows.now }
+    ensures { IfOk result (λ g. IsFlat g.rows.items g.ends.items (flat_map (parts bound) (cut 0 (zip rows.now codes.now) ends.now))) }
+{
+    let mut slots = vec![in alloc; 0u32; bound]?;
+    let mut groups = Groups {
+        rows: Vec::with_capacity(alloc, rows.len())?,
+        ends: Vec::new(alloc),
+    };
+    split_groups(&mut groups, &mut slots, rows, ends, codes)?;
+    Ok(groups)
+}
