@@ -1,0 +1,197 @@
+-- Which rows are live after a batch, and what the witnesses that are left leave.
+use Rattle.std.proofs.Common.{inl, inr, ◌≡◌, ◌≢◌, ◌⊎◌, ℕ, zero, suc, ◌+◌, ◌<◌, ◌≤◌, eqb, Bool, true, false, cond, not, ◌&&◌, ◌||◌, refl, sym, ap, ap₂, ◌∙◌, subst, arith, List, [], ◌∷◌, ◌++◌, length, map, Result, Ok, Err}
+use Rattle.std.specs.List.{All, filter, list_any}
+use Rattle.std.proofs.lemmas.Bool.{true≢false, false≢true, eqb-true, eq-eqb, ne_eqb, and_parts, cases_eq, false_from_ne_true}
+use Rattle.std.proofs.lemmas.List.{length-append}
+use Rattle.col_set.specs.declared.target.Target.{Target}
+use Rattle.col_set.specs.ColSet.{subset}
+use Rattle.col_set.specs.Target.{has_target}
+use Rattle.col_set.specs.Evidence.{refuted, least}
+use Rattle.col_set.specs.Lists.{Listed, Listed-append_left, Listed-append_right, Listed-append_cases, Listed-filter, Listed-filter_parts, Listed-map, Listed-map_which, filter_same, list_any_at, list_any_which}
+use Rattle.col_set.proofs.Least.{IsLeast-listed}
+use Rattle.col_set.proofs.More.{least_of_same}
+use Rattle.col_set.proofs.Places.{Listed-contained, Contains-listed}
+use Rattle.rel_base.specs.declared.batch.Op.{Op}
+use Rattle.rel_base.specs.declared.batch.Op.TheVariants.{Insert, Delete, Update}
+use Rattle.rel_base.specs.declared.why.Why.{Why}
+use Rattle.rel_base.specs.declared.why.Why.TheVariants.{Rows, Missing}
+use Rattle.rel_base.specs.Cells.{Row}
+use Rattle.rel_base.specs.RowState.{RowState, IsRowState, next}
+use Rattle.rel_base.specs.Batches.{is_live, is_full, inserted, deleted, applied, go_on, after_from}
+use Rattle.rel_base.proofs.States.{All-listed, live_numbered}
+use Rattle.cover_steps.specs.declared.types.Witness.{Witness}
+use Rattle.cover_steps.specs.Core.{sets_of, standing}
+use Rattle.cover_steps.specs.Sound.{IsWitness}
+use Rattle.cover_steps.proofs.Exact.{least-same}
+use Rattle.cover_core.specs.Ended.{ended}
+
+-- whether a row is one of these
+abbrev pub is_among : List ℕ → ℕ → Bool
+is_among rows row = list_any (λ d. eqb d row) rows
+
+-- ---- live rows
+is_live-inserted : (r : RowState) (new : Row) (i : ℕ) → i < next r → is_live (inserted r new) i ≡ is_live r i
+is_live-inserted r new i l = by r.live
+  where
+    last : (eqb i (next r) || false) ≡ false
+    last = ap (λ (b : Bool). b || false) (ne_eqb i (next r) (λ e. absurd (omega arith)))
+
+    by : (xs : List ℕ) → list_any (eqb i) (xs ++ next r ∷ []) ≡ list_any (eqb i) xs
+    by [] = last
+    by (x ∷ xs) = ap (λ (b : Bool). eqb i x || b) (by xs)
+
+is_live-deleted : (r : RowState) (n i : ℕ) → is_live (deleted r n) i ≡ (is_live r i && not (eqb n i))
+is_live-deleted r n i = by r.live
+  where
+    at : (x : ℕ) (c : Bool) (rest : Bool) → eqb n x ≡ c → list_any (eqb i) (cond (not c) (x ∷ []) []) ≡ (eqb i x && not (eqb n i))
+    at x true rest e = elim (cases_eq i x) as (λ _. false ≡ (eqb i x && not (eqb n i))) [
+      | inl s ↦ ap₂ (λ (a b : Bool). a && not b) (sym (eq-eqb i x s)) (sym (ap (eqb n) s ∙ e))
+      | inr ne ↦ ap (λ (a : Bool). a && not (eqb n i)) (sym (ne_eqb i x ne))
+    ]
+    at x false rest e = elim (cases_eq i x) as (λ _. (eqb i x || false) ≡ (eqb i x && not (eqb n i))) [
+      | inl s ↦ ap (λ (a : Bool). a || false) (eq-eqb i x s) ∙ ap₂ (λ (a b : Bool). a && not b) (sym (eq-eqb i x s)) (sym (ap (eqb n) s ∙ e))
+      | inr ne ↦ ap (λ (a : Bool). a || false) (ne_eqb i x ne) ∙ ap (λ (a : Bool). a && not (eqb n i)) (sym (ne_eqb i x ne))
+    ]
+
+    join : (a b c : Bool) → ((a && c) || (b && c)) ≡ ((a || b) && c)
+    join true true true = refl
+    join true true false = refl
+    join true false true = refl
+    join true false false = refl
+    join false b c = refl
+
+    kept : (x : ℕ) (xs : List ℕ) (c : Bool) → list_any (eqb i) (cond (not c) (x ∷ filter (λ j. not (eqb n j)) xs) (filter (λ j. not (eqb n j)) xs)) ≡ (list_any (eqb i) (cond (not c) (x ∷ []) []) || list_any (eqb i) (filter (λ j. not (eqb n j)) xs))
+    kept x xs true = refl
+    kept x xs false = assoc (eqb i x) (list_any (eqb i) (filter (λ j. not (eqb n j)) xs))
+      where
+        assoc : (a b : Bool) → (a || b) ≡ ((a || false) || b)
+        assoc true b = refl
+        assoc false b = refl
+
+    by : (xs : List ℕ) → list_any (eqb i) (filter (λ j. not (eqb n j)) xs) ≡ (list_any (eqb i) xs && not (eqb n i))
+    by [] = refl
+    by (x ∷ xs) = kept x xs (eqb n x) ∙ ap₂ (λ (a b : Bool). a || b) (at x (eqb n x) true refl) (by xs) ∙ join (eqb i x) (list_any (eqb i) xs) (not (eqb n i))
+
+module _ {X E : Type 0} where
+  same_Ok : {x y : X} → (let ok : X → Result X E = λ z. Ok z in ok x ≡ ok y) → x ≡ y
+  same_Ok e = cc
+
+  refused_or : (b : Bool) (w : E) (x y : X) → cond b (Err w) (Ok x) ≡ Ok y → x ≡ y
+  refused_or true w x y e = absurd (cc)
+  refused_or false w x y e = same_Ok e
+
+  passed_or : (b : Bool) (w : E) (r : Result X E) (y : X) → cond b r (Err w) ≡ Ok y → r ≡ Ok y
+  passed_or true w r y e = e
+  passed_or false w r y e = absurd (cc)
+
+-- one operation ends the row that it deletes or updates, of those that there were
+is_live-applied : (r s : RowState) (op : Op) (i : ℕ) → i < next r → applied r op ≡ Ok s → (is_live s i ≡ (is_live r i && not (is_among (ended (op ∷ [])) i))) × (i < next s)
+is_live-applied r s (Insert new) i l e =
+    let m : inserted r new ≡ s = refused_or (is_full r) Rows (inserted r new) s e in
+    subst (λ (s : RowState). (is_live s i ≡ (is_live r i && not (is_among [] i))) × (i < next s)) m
+    (is_live-inserted r new i l ∙ and_true (is_live r i), (let k = length-append r.given (new ∷ []) in omega arith))
+  where
+    and_true : (a : Bool) → a ≡ (a && true)
+    and_true true = refl
+    and_true false = refl
+is_live-applied r s (Delete n) i l e =
+    let m : deleted r n ≡ s = same_Ok (passed_or (is_live r n) Missing (Ok (deleted r n)) s e) in
+    subst (λ (s : RowState). (is_live s i ≡ (is_live r i && not (is_among (n ∷ []) i))) × (i < next s)) m
+    (is_live-deleted r n i ∙ ap (λ (b : Bool). is_live r i && not b) (or_false (eqb n i)), l)
+  where
+    or_false : (a : Bool) → a ≡ (a || false)
+    or_false true = refl
+    or_false false = refl
+is_live-applied r s (Update n new) i l e =
+    let v = passed_or (is_live r n) Missing (cond (is_full r) (Err Rows) (Ok (inserted (deleted r n) new))) s e in
+    let m : inserted (deleted r n) new ≡ s = refused_or (is_full r) Rows (inserted (deleted r n) new) s v in
+    subst (λ (s : RowState). (is_live s i ≡ (is_live r i && not (is_among (n ∷ []) i))) × (i < next s)) m
+    (is_live-inserted (deleted r n) new i l ∙ is_live-deleted r n i ∙ ap (λ (b : Bool). is_live r i && not b) (or_false (eqb n i)), (let k = length-append r.given (new ∷ []) in omega arith))
+  where
+    or_false : (a : Bool) → a ≡ (a || false)
+    or_false true = refl
+    or_false false = refl
+
+is_among-ended : (op : Op) (ops : List Op) (i : ℕ) → is_among (ended (op ∷ ops)) i ≡ (is_among (ended (op ∷ [])) i || is_among (ended ops) i)
+is_among-ended (Insert new) ops i = refl
+is_among-ended (Delete n) ops i = by (eqb n i) (is_among (ended ops) i)
+  where
+    by : (a b : Bool) → (a || b) ≡ ((a || false) || b)
+    by true b = refl
+    by false b = refl
+is_among-ended (Update n new) ops i = by (eqb n i) (is_among (ended ops) i)
+  where
+    by : (a b : Bool) → (a || b) ≡ ((a || false) || b)
+    by true b = refl
+    by false b = refl
+
+-- Of the rows that there were, a batch leaves those live that were live, and that it does not end.
+pub is_live-after : (k : ℕ) (r s : RowState) (ops : List Op) (i : ℕ) → i < next r → after_from k r ops ≡ Ok s → is_live s i ≡ (is_live r i && not (is_among (ended ops) i))
+is_live-after k r s [] i l e = ap (λ (m : RowState). is_live m i) (sym (same_Ok e)) ∙ and_true (is_live r i)
+  where
+    and_true : (a : Bool) → a ≡ (a && true)
+    and_true true = refl
+    and_true false = refl
+is_live-after k r s (op ∷ ops) i l e = by (applied r op) refl e (λ m l g. is_live-after (k + 1) m s ops i l g)
+  where
+    both : (a b c : Bool) → ((a && not b) && not c) ≡ (a && not (b || c))
+    both true true c = refl
+    both true false c = refl
+    both false b c = refl
+
+    by : (a : Result RowState Why) → applied r op ≡ a → go_on a k (λ m. after_from (k + 1) m ops) ≡ Ok s
+        → ((m : RowState) → i < next m → after_from (k + 1) m ops ≡ Ok s → is_live s i ≡ (is_live m i && not (is_among (ended ops) i)))
+        → is_live s i ≡ (is_live r i && not (is_among (ended (op ∷ ops)) i))
+    by (Ok m) j g rest =
+        let w = is_live-applied r m op i l j in
+        rest m w.1 g ∙ ap (λ (b : Bool). b && not (is_among (ended ops) i)) w.0 ∙ both (is_live r i) (is_among (ended (op ∷ [])) i) (is_among (ended ops) i) ∙ ap (λ (b : Bool). is_live r i && not b) (sym (is_among-ended op ops i))
+    by (Err why) j g rest = absurd (cc)
+
+-- ---- witnesses
+-- those without a dead row are those whose rows are both live afterwards
+pub standing-live_of : (r s : RowState) (ops : List Op) (k : ℕ) (ws : List Witness) → IsRowState r → after_from k r ops ≡ Ok s → All (IsWitness r) ws
+    → filter (λ w. not (is_among (ended ops) w.i || is_among (ended ops) w.j)) ws ≡ standing s ws
+standing-live_of r s ops k ws is e all = filter_same (λ w. not (is_among (ended ops) w.i || is_among (ended ops) w.j)) (λ w. is_live s w.i && is_live s w.j) ws (λ w h. each w (All-listed (IsWitness r) w ws all h))
+  where
+    live : (i : ℕ) → Listed i r.live → is_live s i ≡ not (is_among (ended ops) i)
+    live i h = is_live-after k r s ops i (live_numbered r i is h) e ∙ ap (λ (b : Bool). b && not (is_among (ended ops) i)) (list_any_at (eqb i) i r.live h (eq-eqb i i refl))
+
+    neither : (a b : Bool) → not (a || b) ≡ (not a && not b)
+    neither true b = refl
+    neither false b = refl
+
+    each : (w : Witness) → IsWitness r w → not (is_among (ended ops) w.i || is_among (ended ops) w.j) ≡ (is_live s w.i && is_live s w.j)
+    each w is = neither (is_among (ended ops) w.i) (is_among (ended ops) w.j) ∙ ap₂ (λ (a b : Bool). a && b) (sym (live w.i (Listed-contained w.i r.live is.first))) (sym (live w.j (Listed-contained w.j r.live is.second)))
+
+-- the sets of those that a test leaves, and of the others, are together those of all
+pub least-parted : (n : ℕ) (t : Target) (p : Witness → Bool) (ws : List Witness) → least n (sets_of ws) t ≡ least n (sets_of (filter (λ w. not (p w)) ws) ++ sets_of (filter p ws)) t
+least-parted n t p ws = least_of_same n (sets_of ws) (sets_of (filter (λ w. not (p w)) ws) ++ sets_of (filter p ws)) t there back
+  where
+    there : (z : ℕ) → Listed z (sets_of ws) → Listed z (sets_of (filter (λ w. not (p w)) ws) ++ sets_of (filter p ws))
+    there z h = let w = Listed-map_which (λ (w : Witness). w.agree) z ws h in by w.0 w.1 w.2 (p w.0) refl
+      where
+        by : (w : Witness) → Listed w ws → z ≡ w.agree → (b : Bool) → p w ≡ b → Listed z (sets_of (filter (λ w. not (p w)) ws) ++ sets_of (filter p ws))
+        by w g e true i = Listed-append_right z (sets_of (filter (λ w. not (p w)) ws)) (sets_of (filter p ws)) (subst (λ (z : ℕ). Listed z (sets_of (filter p ws))) (sym e) (Listed-map (λ (w : Witness). w.agree) w (filter p ws) (Listed-filter p w ws g i)))
+        by w g e false i = Listed-append_left z (sets_of (filter (λ w. not (p w)) ws)) (sets_of (filter p ws)) (subst (λ (z : ℕ). Listed z (sets_of (filter (λ w. not (p w)) ws))) (sym e) (Listed-map (λ (w : Witness). w.agree) w (filter (λ w. not (p w)) ws) (Listed-filter (λ w. not (p w)) w ws g (ap not i))))
+
+    of_part : (q : Witness → Bool) (z : ℕ) → Listed z (sets_of (filter q ws)) → Listed z (sets_of ws)
+    of_part q z h =
+        let w = Listed-map_which (λ (w : Witness). w.agree) z (filter q ws) h in
+        subst (λ (z : ℕ). Listed z (sets_of ws)) (sym w.2) (Listed-map (λ (w : Witness). w.agree) w.0 ws (Listed-filter_parts q w.0 ws w.1).0)
+
+    back : (z : ℕ) → Listed z (sets_of (filter (λ w. not (p w)) ws) ++ sets_of (filter p ws)) → Listed z (sets_of ws)
+    back z h = elim (Listed-append_cases z (sets_of (filter (λ w. not (p w)) ws)) (sets_of (filter p ws)) h) as (λ _. Listed z (sets_of ws)) [
+      | inl g ↦ of_part (λ w. not (p w)) z g
+      | inr g ↦ of_part p z g
+    ]
+
+-- where each withdrawn set has the target, the rest leaves what all left
+pub least-idle : (n : ℕ) (rest gone : List ℕ) (t : Target) → ((z : ℕ) → Listed z gone → has_target z t ≡ true) → least n (rest ++ gone) t ≡ least n rest t
+unfolding refuted
+least-idle n rest gone t f = sym (least-same n rest (rest ++ gone) t
+    (λ x e. let w = list_any_which (λ w. subset x w && not (has_target w t)) rest e in list_any_at (λ w. subset x w && not (has_target w t)) w.0 (rest ++ gone) (Listed-append_left w.0 rest gone w.1) w.2)
+    (λ x h. false_from_ne_true _ (λ e. let w = list_any_which (λ w. subset x w && not (has_target w t)) (rest ++ gone) e in by x h w.0 w.2 (Listed-append_cases w.0 rest gone w.1))))
+  where
+    by : (x : ℕ) → Listed x (least n rest t) → (w : ℕ) → (subset x w && not (has_target w t)) ≡ true → Listed w rest ⊎ Listed w gone → ⊥
+    by x h w e (inl g) = true≢false (sym (list_any_at (λ w. subset x w && not (has_target w t)) w rest g e) ∙ (IsLeast-listed n rest t x h).stands)
+    by x h w e (inr g) = true≢false (sym (and_parts (subset x w) (not (has_target w t)) e).1 ∙ ap not (f w g))

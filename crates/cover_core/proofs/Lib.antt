@@ -1,0 +1,4 @@
+pub mod Searching
+pub mod Ending
+pub mod Putting
+pub mod Measure

@@ -1,0 +1,9 @@
+pub mod Lists
+pub mod Kept
+pub mod Found
+pub mod Fitting
+pub mod Keeping
+pub mod Exact
+pub mod Counting
+pub mod Renewing
+pub mod Whole

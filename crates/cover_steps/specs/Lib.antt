@@ -1,0 +1,6 @@
+pub mod Candidates
+pub mod Core
+pub mod Steps
+pub mod Sound
+pub mod Histories
+pub mod Laws

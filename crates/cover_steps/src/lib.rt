@@ -1,0 +1,9 @@
+//! The shared cover as a machine: its state, its steps, what keeps it sound, and the laws over whole lists of steps.
+#![tactic(auto)]
+
+pub mod laws;
+mod step;
+mod types;
+
+pub use step::{Call, Reply};
+pub use types::{Cand, Witness};
