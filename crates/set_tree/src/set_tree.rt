@@ -1,0 +1,186 @@
+// A map from column sets to values, which is kept as a sorted list.
+ghost use Rattle.std.specs.Prelude.{◌≡◌, [], Bool, OnOk, OnErr, IfOk, length};
+ghost use Rattle.std.specs.List.{find, list_any};
+ghost use Rattle.col_set.specs.ColSet.{Columns, subset};
+ghost use Rattle.set_tree.specs.Pairs.{IsInOrder, is_key, value_at, inserted, with_value, without_key, inside, not_inside};
+
+use crate::place::place_of;
+use col_set::ColSet;
+use std::alloc::{AllocError, Global};
+use std::marker::Model;
+
+/// Column sets with a value each.
+///
+/// Contracts see the list of pairs in report order. It is kept as that list in one piece of memory: a look-up takes the
+/// logarithm of its length, an insert or a removal moves what follows, and a scan for subsets reads the whole list.
+#[derive(Drop)]
+pub struct SetTree<V: Copy> {
+    pairs: Vec<(ColSet, V)>,
+}
+
+impl<V: Copy> Model for SetTree<V> {
+    ghost use Rattle.std.specs.Prelude.{List};
+    ghost use Rattle.col_set.specs.ColSet.{Columns};
+    ghost use Rattle.set_tree.specs.Pairs.{IsInOrder};
+
+    ghost Value = { List (Columns × V) };
+
+    ghost view = { λ t. t.pairs.items };
+
+    ghost invariant = { λ t. IsInOrder t.pairs.items };
+}
+
+impl<V: Copy> SetTree<V> {
+    /// No column sets.
+    pub fn new(alloc: Global) -> SetTree<V>
+        ensures { result ≡ [] }
+    {
+        SetTree {
+            pairs: Vec::new(alloc),
+        }
+    }
+
+    /// The tree of these pairs, which takes no memory.
+    pub fn of_list(pairs: Vec<(ColSet, V)>) -> SetTree<V>
+        requires { IsInOrder pairs.items }
+        ensures { result ≡ pairs.items }
+    {
+        SetTree { pairs }
+    }
+
+    /// The pairs in report order, which takes no memory.
+    pub fn into_list(self) -> Vec<(ColSet, V)>
+        ensures pairs { result.items ≡ self }
+        ensures order { IsInOrder self }
+    {
+        self.pairs
+    }
+
+    /// The pairs in report order.
+    pub fn list(&self, alloc: Global) -> Result<Vec<(ColSet, V)>, AllocError>
+        ensures pairs { IfOk result (λ list. list.items ≡ self.now) }
+        ensures order { IsInOrder self.now }
+    {
+        let mut list = Vec::with_capacity(alloc, self.pairs.len())?;
+        list.extend_from_slice(self.pairs.as_slice())?;
+        Ok(list)
+    }
+
+    /// How many column sets there are.
+    pub fn len(&self) -> usize
+        ensures len { result ≡ length self.now }
+        ensures order { IsInOrder self.now }
+    {
+        self.pairs.len()
+    }
+
+    /// Gives x this value, in place of the one that it has. After want of memory the tree is as before.
+    pub fn insert(&mut self, x: ColSet, v: V) -> Result<(), AllocError>
+        ensures pairs { OnOk result (self.new ≡ inserted self.old x v) }
+        ensures refused { OnErr result (self.new ≡ self.old) }
+    {
+        match place_of(self.pairs.as_slice(), x) {
+            Ok(place) => self.pairs[place] = (x, v),
+            Err(place) => self.pairs.insert(place, (x, v))?,
+        }
+        Ok(())
+    }
+
+    /// Gives x this value if it is there, and answers whether it is.
+    pub fn set(&mut self, x: ColSet, v: V) -> bool
+        ensures found { result ≡ is_key self.old x }
+        ensures pairs { self.new ≡ with_value self.old x v }
+    {
+        match place_of(self.pairs.as_slice(), x) {
+            Ok(place) => {
+                self.pairs[place] = (x, v);
+                true
+            }
+            Err(_) => false,
+        }
+    }
+
+    /// The value of x.
+    pub fn get(&self, x: ColSet) -> Option<V>
+        ensures { result ≡ value_at self.now x }
+    {
+        match place_of(self.pairs.as_slice(), x) {
+            Ok(place) => Some(self.pairs[place].1),
+            Err(_) => None,
+        }
+    }
+
+    /// Whether x is there.
+    pub fn has(&self, x: ColSet) -> bool
+        ensures { result ≡ is_key self.now x }
+    {
+        place_of(self.pairs.as_slice(), x).is_ok()
+    }
+
+    /// Takes x out, and answers whether it was there.
+    pub fn remove(&mut self, x: ColSet) -> bool
+        ensures found { result ≡ is_key self.old x }
+        ensures pairs { self.new ≡ without_key self.old x }
+    {
+        match place_of(self.pairs.as_slice(), x) {
+            Ok(place) => {
+                self.pairs.remove(place);
+                true
+            }
+            Err(_) => false,
+        }
+    }
+
+    /// Whether a column set of the tree lies inside x.
+    pub fn any_subset_of(&self, x: ColSet) -> bool
+        ensures { result ≡ list_any (λ p. subset p.0 x) self.now }
+    {
+        self.pairs.iter().any(|pair| pair.0.subset_of(x))
+    }
+
+    /// Takes out the column sets that lie inside z, and answers them with their values in report order.
+    /// After want of memory the tree is as before.
+    pub fn take_subsets_of(
+        &mut self,
+        alloc: Global,
+        z: ColSet,
+    ) -> Result<Vec<(ColSet, V)>, AllocError>
+        ensures taken { IfOk result (λ taken. taken.items ≡ inside self.old z) }
+        ensures left { OnOk result (self.new ≡ not_inside self.old z) }
+        ensures refused { OnErr result (self.new ≡ self.old) }
+    {
+        let taken = subsets_of(alloc, self.pairs.as_slice(), z)?;
+        self.pairs.retain(|pair| !pair.0.subset_of(z));
+        Ok(taken)
+    }
+
+    /// The first pair in report order that meets the test.
+    pub fn first<F: Fn(ColSet, V) -> bool>(&self, test: F) -> Option<(ColSet, V)>
+        requires { F.IsAlwaysCallable test }
+        ensures { (p : Columns × V → Bool) → ((x : Columns) (v : V) (b : Bool) → F.post test x v b → b ≡ p (x, v)) → result ≡ find p self.now }
+    {
+        for pair in self.pairs.as_slice() {
+            if test(pair.0, pair.1) {
+                return Some(*pair);
+            }
+        }
+        None
+    }
+}
+
+// The pairs whose column sets lie inside z.
+fn subsets_of<V: Copy>(
+    alloc: Global,
+    pairs: &[(ColSet, V)],
+    z: ColSet,
+) -> Result<Vec<(ColSet, V)>, AllocError>
+    ensures { IfOk result (λ taken. taken.items ≡ inside pairs.now z) }
+{
+    let mut taken = Vec::new(alloc);
+    for pair in pairs {
+        if pair.0.subset_of(z) {
+            taken.push(*pair)?;
+        }
+    }
+    Ok(taken)
+}
