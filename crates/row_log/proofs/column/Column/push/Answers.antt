@@ -1,0 +1,39 @@
+use Rattle.std.proofs.Common.{◌≡◌, ◌<◌, ◌≤◌, ◌∷◌, [], ◌++◌, ℕ, List, length, map, sym, ap, ap₂, ◌∙◌, arith}
+use Rattle.column_dict.specs.Coding.{Coding}
+use Rattle.row_log.specs.Column.{ColumnCells, column_of, IsKept}
+use Rattle.row_log.proofs.Columns.{cell_of, pushed}
+use Rattle.row_log.proofs.column.Column.push.Goals as goal
+use Rattle.row_log.proofs.column.Column.push.Goals.{After-append-2, then-known-len, else-known-len}
+
+-- the codes and their first places, whether the cell was new or not
+done : (c : After-append-2) → IsKept c.if-known-len.self-inside.dict c.append-2.new.list.items c.if-known-len.self-inside.firsts.items
+    × (column_of c.if-known-len.self-inside.dict c.append-2.new.list.items
+    ≡ record { nulls = c.self.inside.dict.nulls; cells = map (cell_of c.self.inside.dict.cells) c.self.inside.codes.items ++ c.args.bytes.now ∷ [] })
+done c =
+    let known = c.len-known.ensures.len in
+    let after = c.len.ensures.len in
+    elim c.if-known-len.branch [
+      | then-known-len w ↦
+          let grew = w.if-known-len.true in
+          pushed c.self.inside.dict c.code_of.new.self c.if-known-len.self-inside.dict c.self.inside.codes.items c.self.inside.firsts.items c.append-2.new.list.items c.if-known-len.self-inside.firsts.items
+          c.args.bytes.now c.in_ok-code.code c.self.invariant c.in_ok-code.ensures.cells c.in_ok-code.ensures.cell c.in_ok-code.ensures.agrees
+          (ap (λ i. i.dict) w.self-inside-is)
+          (c.append-2.ensures ∙ ap (λ i. i.codes.items ++ c.in_ok-code.code ∷ []) w.self-inside-is ∙ ap (λ (xs : List ℕ). xs ++ c.in_ok-code.code ∷ []) c.reserve.ensures.items)
+          (λ l. ap (λ i. i.firsts.items) w.self-inside-is ∙ w.append.ensures
+          ∙ ap₂ (λ (xs : List ℕ) (n : ℕ). xs ++ n ∷ []) c.reserve-2.ensures.items (w.len-then-known-len.ensures ∙ c.reserve.new.self.ok.0 ∙ ap length c.reserve.ensures.items))
+          (λ l. absurd (omega arith))
+      | else-known-len w ↦
+          let same = w.if-known-len.false in
+          pushed c.self.inside.dict c.code_of.new.self c.if-known-len.self-inside.dict c.self.inside.codes.items c.self.inside.firsts.items c.append-2.new.list.items c.if-known-len.self-inside.firsts.items
+          c.args.bytes.now c.in_ok-code.code c.self.invariant c.in_ok-code.ensures.cells c.in_ok-code.ensures.cell c.in_ok-code.ensures.agrees
+          (ap (λ i. i.dict) w.self-inside-is)
+          (c.append-2.ensures ∙ ap (λ i. i.codes.items ++ c.in_ok-code.code ∷ []) w.self-inside-is ∙ ap (λ (xs : List ℕ). xs ++ c.in_ok-code.code ∷ []) c.reserve.ensures.items)
+          (λ l. absurd (omega arith))
+          (λ l. ap (λ i. i.firsts.items) w.self-inside-is ∙ c.reserve-2.ensures.items)
+    ]
+
+pub invariant_of-self-2 : goal.invariant_of-self-2
+invariant_of-self-2 c = (done c).0
+
+pub returns-clause-pushed : goal.returns-clause-pushed
+returns-clause-pushed c = (done c).1 ∙ ap (λ (v : ColumnCells). let x : ColumnCells = record { nulls = v.nulls; cells = v.cells ++ c.args.bytes.now ∷ [] } in x) c.self.view_is

@@ -1,0 +1,38 @@
+-- What a row log answers to an operation and to a batch.
+use Rattle.std.specs.Prelude.{◌≡◌, ℕ, List, Result, Ok, Err}
+use Rattle.rel_base.specs.declared.batch.Op.{Op}
+use Rattle.rel_base.specs.declared.why.Why.{Why}
+use Rattle.rel_base.specs.RowState.{RowState, IsRowState}
+use Rattle.rel_base.specs.Batches.{applied, after, insert_count, delete_count}
+use Rattle.row_log.specs.declared.applying.Applying.{Applying}
+use Rattle.row_log.specs.declared.applying.Applying.TheVariants.{Applied, Refused, NoMemory}
+use Rattle.row_log.specs.declared.applying.Halt.{Halt}
+use Rattle.row_log.specs.declared.applying.Halt.TheVariants.{Failed, Starved}
+
+-- The batch leads from r to s, and so many operations of it bring a row and end one.
+pub record Leads (r : RowState) (ops : List Op) (s : RowState) (more fewer : ℕ) : Type 0 where
+  pub after : after r ops ≡ Ok s
+  pub inserted : more ≡ insert_count ops
+  pub deleted : fewer ≡ delete_count ops
+
+-- The batch fails at this operation, and nothing changes.
+pub record Fails (r : RowState) (ops : List Op) (s : RowState) (at : ℕ) (why : Why) : Type 0 where
+  pub after : after r ops ≡ Err (at, why)
+  pub same : s ≡ r
+
+-- what an answer to a batch says of the row states before and after it
+abbrev pub Answers : RowState → List Op → RowState → Applying → Type 0
+Answers r ops s (Applied more fewer) = Leads r ops s more fewer
+Answers r ops s (Refused at why) = Fails r ops s at why
+Answers r ops s NoMemory = s ≡ r
+
+-- what an answer to one operation says, whose outcome is given
+abbrev pub Outcome : RowState → Result RowState Why → RowState → Result (Unit {0}) Halt → Type 0
+Outcome r outcome s (Ok u) = outcome ≡ Ok s
+Outcome r outcome s (Err (Failed why)) = (outcome ≡ Err why) × (s ≡ r)
+Outcome r outcome s (Err Starved) = s ≡ r
+
+-- r is a row state that the batch leads from to s
+pub record IsBefore (ops : List Op) (s r : RowState) : Type 0 where
+  pub is : IsRowState r
+  pub after : after r ops ≡ Ok s

@@ -1,0 +1,136 @@
+// The cells of one column, as codes.
+ghost use Rattle.std.specs.Prelude.{◌≡◌, ◌<◌, ◌≤◌, ◌-◌, ◌∷◌, [], ◌++◌, ℕ, OnOk, OnErr, IfOk, length, map, take, slice_index, slice_index_or, vec_len, vec_capacity};
+ghost use Rattle.std.specs.List.{All};
+ghost use Rattle.rel_base.specs.Agreement.{Agrees};
+ghost use Rattle.rel_base.specs.Cells.{cell};
+ghost use Rattle.row_log.specs.Column.{AreCodes};
+
+use column_dict::Dict;
+use rel_base::{Cell, Nulls, Row};
+use std::alloc::{AllocError, Global};
+use std::marker::Model;
+
+/// The cells of one column, of all rows in order, as codes.
+///
+/// Beside the codes it is kept for each code which row brought it, so that the last rows go in the time that they took to come.
+/// It costs 4 bytes a row, and some 64 bytes and the cell for each code.
+#[derive(Drop)]
+pub struct Column {
+    dict: Dict,
+    codes: Vec<u32>,
+    firsts: Vec<u32>,
+}
+
+impl Model for Column {
+    ghost use Rattle.row_log.specs.Column.{ColumnCells, column_of, IsKept};
+
+    ghost Value = { ColumnCells };
+
+    ghost view = { λ c. column_of c.dict c.codes.items };
+
+    ghost invariant = { λ c. IsKept c.dict c.codes.items c.firsts.items };
+}
+
+impl Column {
+    /// A column without rows.
+    pub fn new(alloc: Global, nulls: Nulls) -> Column
+        ensures { result ≡ record { nulls = nulls; cells = [] } }
+    {
+        Column {
+            dict: Dict::with_nulls(alloc, nulls),
+            codes: Vec::new(alloc),
+            firsts: Vec::new(alloc),
+        }
+    }
+
+    /// The column at this place of these rows.
+    pub fn coded(
+        alloc: Global,
+        nulls: Nulls,
+        rows: &[Row],
+        place: usize,
+    ) -> Result<Column, AllocError>
+        requires wide { All (λ row. place < length row) rows.now }
+        requires few { length rows.now ≤ 1000000 }
+        ensures { IfOk result (λ c. c ≡ record { nulls = nulls; cells = map (λ row. cell row place) rows.now }) }
+    {
+        let mut column = Column::new(alloc, nulls);
+        column.reserve(rows.len())?;
+        for row in rows {
+            column.push(row.cell(place))?;
+        }
+        Ok(column)
+    }
+
+    // Makes room for so many more codes.
+    fn reserve(&mut self, rows: usize) -> Result<(), AllocError>
+        ensures { self.new ≡ self.old }
+    {
+        self.codes.reserve(rows)
+    }
+
+    /// Codes the cell of one more row.
+    pub fn push(&mut self, bytes: &[u8]) -> Result<(), AllocError>
+        requires { length self.old.cells < 1000000 }
+        ensures pushed { OnOk result (self.new ≡ record { nulls = self.old.nulls; cells = self.old.cells ++ bytes.now ∷ [] }) }
+        ensures refused { OnErr result (self.new ≡ self.old) }
+    {
+        self.codes.reserve(1)?;
+        self.firsts.reserve(1)?;
+        let known = self.dict.len();
+        let code = self.dict.code_of(bytes)?;
+        if known < self.dict.len() {
+            append(&mut self.firsts, self.codes.len() as u32);
+        }
+        append(&mut self.codes, code);
+        Ok(())
+    }
+
+    /// Drops the rows from this place on, and the codes that they brought. It takes a step a row and a code dropped, and no memory.
+    pub fn truncate(&mut self, rows: usize)
+        ensures { self.new ≡ record { nulls = self.old.nulls; cells = take rows self.old.cells } }
+    {
+        // `len` is called for its clause that a code fits 32 bits.
+        let _codes = self.dict.len();
+        let left = codes_left(&self.firsts, rows);
+        self.dict.keep(left as u32);
+        self.firsts.truncate(left);
+        self.codes.truncate(rows);
+    }
+
+    /// The codes of all rows.
+    pub fn codes(&self) -> &[u32]
+        ensures { AreCodes self.now result.now }
+    {
+        self.codes.as_slice()
+    }
+
+    /// The cell of the row at this place.
+    pub fn cell(&self, place: usize) -> &Cell
+        requires { place < length self.now.cells }
+        ensures { result.now ≡ slice_index_or self.now.cells place [] }
+    {
+        self.dict.cell(self.codes[place])
+    }
+}
+
+// Appends to a list that has room.
+fn append(list: &mut Vec<u32>, item: u32)
+    requires { vec_len list.old < vec_capacity list.old }
+    ensures { list.new.items ≡ list.old.items ++ item ∷ [] }
+{
+    let _ = list.push(item);
+}
+
+// How many codes the rows before this place brought.
+fn codes_left(firsts: &[u32], rows: usize) -> usize
+    ensures some { result ≤ length firsts.now }
+    ensures dropped { (c : ℕ) → result ≤ c → c < length firsts.now → rows ≤ slice_index firsts.now c }
+    ensures last { 0 < result → slice_index firsts.now (result - 1) < rows }
+{
+    let mut left = firsts.len();
+    while left > 0 && firsts[left - 1] as usize >= rows {
+        left -= 1;
+    }
+    left
+}

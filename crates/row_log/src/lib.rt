@@ -1,0 +1,10 @@
+//! The rows of a relation under batches, each cell as a code.
+#![tactic(auto)]
+
+mod applying;
+mod column;
+mod row_log;
+mod table;
+
+pub use applying::Applying;
+pub use row_log::RowLog;

@@ -1,0 +1,89 @@
+// The columns and the flags of the live rows.
+ghost use Rattle.std.specs.Prelude.{◌≡◌, ◌≢◌, ◌<◌, ◌≤◌, ◌+◌, ◌-◌, ◌∷◌, [], ◌++◌, ◌↔◌, ℕ, true, OnOk, OnErr, IfOk, length, map, take, slice_index_or, slice_set, replicate};
+ghost use Rattle.std.specs.List.{All};
+ghost use Rattle.col_set.specs.ColSet.{has};
+ghost use Rattle.rel_base.specs.Agreement.{agree};
+ghost use Rattle.rel_base.specs.Cells.{cell};
+ghost use Rattle.row_log.specs.Column.{AreCodes};
+ghost use Rattle.row_log.specs.Table.{row_at, IsColumnOf, HasRow, column_at};
+
+use crate::column::Column;
+use agree_sets::agree_codes;
+use rel_base::{Codes, ColSet, Nulls, Row};
+use std::alloc::{AllocError, Global};
+
+/// The columns of these rows, coded one after another.
+pub fn columns_of(
+    alloc: Global,
+    nulls: Nulls,
+    rows: &[Row],
+    width: usize,
+) -> Result<Vec<Column>, AllocError>
+    requires wide { All (λ row. length row ≡ width) rows.now }
+    requires few { length rows.now ≤ 1000000 }
+    ensures long { IfOk result (λ columns. length columns.items ≡ width) }
+    ensures each { IfOk result (λ columns. (j : ℕ) → j < width → column_at columns.items j ≡ record { nulls = nulls; cells = map (λ row. cell row j) rows.now }) }
+{
+    let mut columns = Vec::with_capacity(alloc, width)?;
+    for place in 0..width {
+        columns.push(Column::coded(alloc, nulls, rows, place)?)?;
+    }
+    Ok(columns)
+}
+
+/// Codes the cells of one more row. After want of memory the columns, of so many rows, are as before.
+pub fn push_row(columns: &mut [Column], rows: usize, row: &Row) -> Result<(), AllocError>
+    requires wide { length row.now ≡ length columns.old }
+    requires even { All (λ c. length c.cells ≡ rows) columns.old }
+    requires room { rows < 1000000 }
+    ensures pushed { OnOk result (HasRow columns.old row.now columns.new) }
+    ensures refused { OnErr result (columns.new ≡ columns.old) }
+{
+    for place in 0..columns.len() {
+        if let Err(refused) = columns[place].push(row.cell(place)) {
+            truncate_rows(columns, rows);
+            return Err(refused);
+        }
+    }
+    Ok(())
+}
+
+/// Drops the rows from this place on.
+pub fn truncate_rows(columns: &mut [Column], rows: usize)
+    ensures { columns.new ≡ map (λ c. record { nulls = c.nulls; cells = take rows c.cells }) columns.old }
+{
+    for column in columns.iter_mut() {
+        column.truncate(rows);
+    }
+}
+
+/// The columns in which the rows at these places agree.
+pub fn agreement(columns: &[Column], nulls: Nulls, i: usize, j: usize) -> ColSet
+    requires narrow { length columns.now ≤ 128 }
+    requires read { All (λ c. c.nulls ≡ nulls) columns.now }
+    requires first { All (λ c. i < length c.cells) columns.now }
+    requires second { All (λ c. j < length c.cells) columns.now }
+    requires apart { i ≢ j }
+    ensures { result ≡ agree nulls (length columns.now) (row_at columns.now i) (row_at columns.now j) }
+{
+    let mut first = [0; 128];
+    let mut second = [0; 128];
+    for (place, column) in columns.iter().enumerate() {
+        let codes = column.codes();
+        first[place] = codes[i];
+        second[place] = codes[j];
+    }
+    agree_codes(&first[..columns.len()], &second[..columns.len()])
+}
+
+/// Copies of the codes of each column.
+pub fn copied_codes(alloc: Global, columns: &[Column]) -> Result<Vec<Codes>, AllocError>
+    ensures long { IfOk result (λ codes. length codes.items ≡ length columns.now) }
+    ensures each { IfOk result (λ codes. (j : ℕ) → j < length columns.now → AreCodes (column_at columns.now j) (slice_index_or codes.items j [])) }
+{
+    let mut codes = Vec::with_capacity(alloc, columns.len())?;
+    for column in columns {
+        codes.push(Codes::of(Vec::from_slice(alloc, column.codes())?))?;
+    }
+    Ok(codes)
+}
