@@ -19,8 +19,9 @@ use Rattle.rel_base.specs.Cells.{Row}
 use Rattle.rel_base.specs.RowState.{RowState, IsRowState, next}
 use Rattle.rel_base.specs.Batches.{is_live, is_full, inserted, deleted, applied, go_on, after_from}
 use Rattle.rel_base.proofs.States.{All-listed, live_numbered}
-use Rattle.cover_steps.specs.declared.types.Witness.{Witness}
-use Rattle.cover_steps.specs.Core.{sets_of, standing}
+use Rattle.negative_cover.specs.declared.negative_cover.Witness.{Witness}
+use Rattle.cover_steps.specs.Core.{standing}
+use Rattle.negative_cover.specs.Witnesses.{sets_of}
 use Rattle.cover_steps.specs.Sound.{IsWitness}
 use Rattle.cover_steps.proofs.Exact.{least-same}
 use Rattle.cover_core.specs.Ended.{ended}

@@ -15,7 +15,8 @@ use Rattle.rel_base.specs.RowState.{RowState, width, next}
 use Rattle.rel_base.specs.Validity.{agree_sets}
 use Rattle.cover_steps.specs.declared.types.Cand.{Cand}
 use Rattle.cover_steps.specs.Candidates.{lefts, marked_at, held_at}
-use Rattle.cover_steps.specs.Core.{Core, targets, cands, sets_of, is_unfinished, with_cands}
+use Rattle.cover_steps.specs.Core.{Core, targets, cands, is_unfinished, with_cands}
+use Rattle.negative_cover.specs.Witnesses.{sets_of}
 use Rattle.cover_steps.specs.Sound.{Sound}
 use Rattle.cover_steps.specs.Laws.{different}
 use Rattle.cover_steps.proofs.Found.{targets_within, Listed-targets}

@@ -9,12 +9,13 @@ use Rattle.rel_base.specs.JobParts.{JobParts}
 use Rattle.rel_base.specs.RowState.{RowState}
 use Rattle.rel_base.specs.Validity.{agree_sets}
 use Rattle.rel_base.specs.Batches.{after, kept_or_after}
-use Rattle.cover_steps.specs.declared.types.Witness.{Witness}
+use Rattle.negative_cover.specs.declared.negative_cover.Witness.{Witness}
 use Rattle.cover_steps.specs.declared.step.Call.{Call}
 use Rattle.cover_steps.specs.declared.step.Call.TheVariants.{Draw, Refute, Mark, Release, Apply, Settle}
 use Rattle.cover_steps.specs.declared.step.Reply.{Reply}
 use Rattle.cover_steps.specs.declared.step.Reply.TheVariants.{Job, Busy, Settled, Gone, Known, Booked, Marked, Dropped, Released, Applied, Refused, Ready, NotYet, NoMemory}
-use Rattle.cover_steps.specs.Core.{Core, sets_of, witness_of}
+use Rattle.cover_steps.specs.Core.{Core, witness_of}
+use Rattle.negative_cover.specs.Witnesses.{sets_of}
 use Rattle.cover_steps.specs.Steps.{Drawing, Refuting, Marking, Releasing, Applying, Settling, Step}
 use Rattle.cover_steps.specs.Sound.{Sound}
 use Rattle.cover_steps.specs.Histories.{rows_after_call, is_accepted, is_booked}

@@ -21,10 +21,11 @@ use Rattle.rel_base.specs.Laws.{least_covers}
 use Rattle.rel_base.proofs.States.{All-listed, live_climbs, live_numbered}
 use Rattle.rel_base.proofs.Valid.{Listed-agree_sets, holds-true, holds-refuted}
 use Rattle.rel_base.proofs.Minima.{covers-least}
-use Rattle.cover_steps.specs.declared.types.Witness.{Witness}
+use Rattle.negative_cover.specs.declared.negative_cover.Witness.{Witness}
 use Rattle.cover_steps.specs.declared.types.Cand.{Cand}
 use Rattle.cover_steps.specs.Candidates.{lefts}
-use Rattle.cover_steps.specs.Core.{Core, cands, sets_of, first_unfinished, listed_covers}
+use Rattle.cover_steps.specs.Core.{Core, cands, first_unfinished, listed_covers}
+use Rattle.negative_cover.specs.Witnesses.{sets_of}
 use Rattle.cover_steps.specs.Sound.{IsWitness, Sound}
 use Rattle.cover_steps.proofs.Lists.{flat_map_same}
 use Rattle.cover_steps.proofs.Found.{all_finished}

@@ -25,14 +25,15 @@ use Rattle.rel_base.specs.Batches.{is_live, after}
 use Rattle.rel_base.specs.Laws.{Follows, IsAsWide}
 use Rattle.rel_base.proofs.States.{All-listed, All-from, live_positive, live_numbered}
 use Rattle.rel_base.proofs.Changes.{after-follows, agree_of-follows}
-use Rattle.cover_steps.specs.declared.types.Witness.{Witness}
+use Rattle.negative_cover.specs.declared.negative_cover.Witness.{Witness}
 use Rattle.cover_steps.specs.declared.types.Cand.{Cand}
 use Rattle.cover_steps.specs.declared.step.Call.{Call}
 use Rattle.cover_steps.specs.declared.step.Call.TheVariants.{Draw, Refute, Mark, Release, Apply, Settle}
 use Rattle.cover_steps.specs.declared.step.Reply.{Reply}
 use Rattle.cover_steps.specs.declared.step.Reply.TheVariants.{Job, Busy, Settled, Gone, Known, Booked, Marked, Dropped, Released, Applied, Refused, Ready, NotYet, NoMemory}
 use Rattle.cover_steps.specs.Candidates.{CandLists, cands_of, with_list, lefts, fresh, kept_or_fresh, is_listed, marked_at, held_at, one_each}
-use Rattle.cover_steps.specs.Core.{Core, opened_core, cands, sets_of, refutes_some, with_cands, renewed, renewed_list, witness_of, booked, standing, with_rows}
+use Rattle.cover_steps.specs.Core.{Core, opened_core, cands, refutes_some, with_cands, renewed, renewed_list, witness_of, booked, standing, with_rows}
+use Rattle.negative_cover.specs.Witnesses.{sets_of}
 use Rattle.cover_steps.specs.Steps.{Draws, Drawing, Refuting, AreLive, Marking, Releasing, Accepts, Applying, Settling, Step}
 use Rattle.cover_steps.specs.Sound.{IsWitness, IsMarked, Sound, Fits, SoundWith}
 use Rattle.cover_steps.specs.Histories.{May, drawn}

@@ -11,7 +11,8 @@ use Rattle.rel_base.specs.RowState.{RowState, width, next}
 use Rattle.rel_base.specs.Validity.{agree_of}
 use Rattle.rel_base.specs.Covers.{CoverLists, fds_to}
 use Rattle.rel_base.specs.Batches.{is_live}
-use Rattle.cover_steps.specs.declared.types.Witness.{Witness}
+use Rattle.negative_cover.specs.declared.negative_cover.Witness.{Witness}
+use Rattle.negative_cover.specs.Witnesses.{sets_of}
 use Rattle.cover_steps.specs.declared.types.Cand.{Cand}
 use Rattle.cover_steps.specs.Candidates.{CandLists, cands_of, with_list, lefts, kept_or_fresh, one_each}
 
@@ -31,13 +32,12 @@ targets n = RowId ∷ map (λ a. Col a) (upto n)
 abbrev pub cands : Core → Target → List Cand
 cands s t = cands_of s.candidates t
 
--- the agree sets of witnesses
-abbrev pub sets_of : List Witness → List Columns
-sets_of ws = map (λ w. w.agree) ws
+-- each candidate of n columns with its target: by target, and in report order
+abbrev pub entries_in : ℕ → CandLists → List (Target × Cand)
+entries_in n c = flat_map (λ t. map (λ k. (t, k)) (cands_of c t)) (targets n)
 
--- each candidate with its target: by target, and in report order
 abbrev pub entries : Core → List (Target × Cand)
-entries s = flat_map (λ t. map (λ c. (t, c)) (cands s t)) (targets (width s.rows))
+entries s = entries_in (width s.rows) s.candidates
 
 -- whether a candidate is known to hold below this number only
 abbrev pub is_unfinished : ℕ → Cand → Bool

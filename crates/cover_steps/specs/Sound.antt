@@ -10,10 +10,11 @@ use Rattle.rel_base.specs.JobParts.{JobParts}
 use Rattle.rel_base.specs.RowState.{RowState, IsRowState, width, next}
 use Rattle.rel_base.specs.Validity.{agree_of, HoldsBelow}
 use Rattle.rel_base.specs.Shows.{HoldsInBelow}
-use Rattle.cover_steps.specs.declared.types.Witness.{Witness}
+use Rattle.negative_cover.specs.declared.negative_cover.Witness.{Witness}
 use Rattle.cover_steps.specs.declared.types.Cand.{Cand}
 use Rattle.cover_steps.specs.Candidates.{lefts}
-use Rattle.cover_steps.specs.Core.{Core, cands, sets_of}
+use Rattle.cover_steps.specs.Core.{Core, cands}
+use Rattle.negative_cover.specs.Witnesses.{sets_of}
 
 -- two different live rows, and what they agree on
 pub record IsWitness (r : RowState) (w : Witness) : Type 0 where

@@ -6,4 +6,4 @@ mod step;
 mod types;
 
 pub use step::{Call, Reply};
-pub use types::{Cand, Witness};
+pub use types::Cand;

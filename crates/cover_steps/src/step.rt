@@ -42,7 +42,7 @@ pub enum Reply {
     /// To a batch: how many operations brought a row, and how many ended one.
     Applied(u32, u32),
     /// To a batch: the number of the first operation that fails, and why. Nothing changed.
-    Refused(u32, Why),
+    Refused(u64, Why),
     /// To a settle: the covers of the rows.
     Ready(Covers),
     /// To a settle: the first unfinished candidate, and the number below which it is known to hold.

@@ -1,13 +1,6 @@
 use rel_base::{ColSet, RowNo};
 
 #[derive(Clone, Copy)]
-pub struct Witness {
-    pub i: RowNo,
-    pub j: RowNo,
-    pub agree: ColSet,
-}
-
-#[derive(Clone, Copy)]
 pub struct Cand {
     pub left: ColSet,
     pub upto: RowNo,

@@ -1,0 +1,26 @@
+-- New lists of candidates, before they are put in place.
+use Rattle.std.specs.Prelude.{◌≡◌, ◌<◌, ℕ, List, length, slice_index_or, Option, Some, None}
+use Rattle.col_set.specs.declared.target.Target.{Target}
+use Rattle.col_set.specs.declared.target.Target.TheVariants.{Col, RowId}
+use Rattle.col_set.specs.ColSet.{Columns}
+use Rattle.col_set.specs.Target.{IsColumnTarget}
+use Rattle.col_set.specs.Evidence.{least}
+use Rattle.candidate_cover.specs.declared.cand.Cand.{Cand}
+use Rattle.candidate_cover.specs.Lists.{CandLists}
+use Rattle.candidate_cover.specs.Cands.{cands_of, lefts}
+use Rattle.cover_steps.specs.Core.{renewed_list}
+
+-- for each target of n columns, the left sides are what these agree sets leave
+pub record AreLeast (n : ℕ) (ws : List Columns) (c : CandLists) : Type 0 where
+  pub each : (t : Target) → IsColumnTarget n t → lefts (cands_of c t) ≡ least n ws t
+
+-- the list that these agree sets leave for a target, or none where that is the list that there is
+abbrev pub IsPart : ℕ → List Columns → CandLists → Target → Option (List Cand) → Type 0
+IsPart n ws c t None = renewed_list n ws c t ≡ cands_of c t
+IsPart n ws c t (Some part) = part ≡ renewed_list n ws c t
+
+-- the parts of the row's identity and of the columns
+pub record AreParts (n : ℕ) (ws : List Columns) (c : CandLists) (rows : Option (List Cand)) (columns : List (Option (List Cand))) : Type 0 where
+  pub rows : IsPart n ws c RowId rows
+  pub count : length columns ≡ n
+  pub columns : (a : ℕ) → a < n → IsPart n ws c (Col a) (slice_index_or columns a None)
