@@ -2,3 +2,5 @@ pub mod Columns
 pub mod Rows
 pub mod Flags
 pub mod Log
+pub mod Changing
+pub mod Batch

@@ -1,9 +1,11 @@
 -- What a row log answers to an operation and to a batch.
-use Rattle.std.specs.Prelude.{◌≡◌, ℕ, List, Result, Ok, Err}
+use Rattle.std.specs.Prelude.{◌≡◌, ◌<◌, ℕ, true, List, Result, Ok, Err}
+use Rattle.std.specs.List.{All}
+use Rattle.std.specs.List.Sorted.{IsStrictlyIncreasing}
 use Rattle.rel_base.specs.declared.batch.Op.{Op}
 use Rattle.rel_base.specs.declared.why.Why.{Why}
-use Rattle.rel_base.specs.RowState.{RowState, IsRowState}
-use Rattle.rel_base.specs.Batches.{applied, after, insert_count, delete_count}
+use Rattle.rel_base.specs.RowState.{RowState, IsRowState, next}
+use Rattle.rel_base.specs.Batches.{is_live, deleted, applied, after, insert_count, delete_count}
 use Rattle.row_log.specs.declared.applying.Applying.{Applying}
 use Rattle.row_log.specs.declared.applying.Applying.TheVariants.{Applied, Refused, NoMemory}
 use Rattle.row_log.specs.declared.applying.Halt.{Halt}
@@ -36,3 +38,25 @@ Outcome r outcome s (Err Starved) = s ≡ r
 pub record IsBefore (ops : List Op) (s r : RowState) : Type 0 where
   pub is : IsRowState r
   pub after : after r ops ≡ Ok s
+
+-- The live numbers of r ascend and were given: what an operation keeps, whatever its rows.
+pub record IsNumbered (r : RowState) : Type 0 where
+  pub ascending : IsStrictlyIncreasing r.live
+  pub positive : All (λ number. 0 < number) r.live
+  pub numbered : All (λ number. number < next r) r.live
+
+-- the operations lead from r to s
+pub record LeadsFrom (ops : List Op) (s r : RowState) : Type 0 where
+  pub is : IsNumbered r
+  pub after : after r ops ≡ Ok s
+
+-- the operation leads from r to s
+pub record IsFrom (op : Op) (s r : RowState) : Type 0 where
+  pub is : IsNumbered r
+  pub applied : applied r op ≡ Ok s
+
+-- s is r without a row that is live in r
+pub record IsEnded (r : RowState) (number : ℕ) (s : RowState) : Type 0 where
+  pub is : IsNumbered r
+  pub live : is_live r number ≡ true
+  pub ended : deleted r number ≡ s

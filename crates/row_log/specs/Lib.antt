@@ -1,3 +1,4 @@
 pub mod Column
 pub mod Table
 pub mod Applying
+pub mod Halting

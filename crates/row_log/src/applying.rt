@@ -1,4 +1,7 @@
 // What applying a batch answers.
+ghost use Rattle.std.specs.Prelude.{◌≡◌, ◌<◌, ◌+◌, ◌^◌};
+ghost use Rattle.row_log.specs.Halting.{answer_at};
+
 use rel_base::Why;
 
 /// What applying a batch answers.
@@ -29,4 +32,20 @@ pub enum Halt {
     Failed(Why),
     // Memory ran out.
     Starved,
+}
+
+impl Halt {
+    // The answer to a batch whose operation at this place, counted from 0, was not applied.
+    pub fn at(self, place: usize) -> Applying
+        requires { place + 1 < 2 ^ 64 }
+        ensures { result ≡ answer_at self place }
+    {
+        match self {
+            Halt::Failed(why) => Applying::Refused {
+                at: place as u64 + 1,
+                why,
+            },
+            Halt::Starved => Applying::NoMemory,
+        }
+    }
 }

@@ -1,5 +1,5 @@
 // The log.
-ghost use Rattle.std.specs.Prelude.{◌≡◌, ◌≢◌, ◌<◌, ◌≤◌, ◌-◌, ◌∷◌, [], ◌++◌, ℕ, true, Ok, Err, IfOk, OnOk, OnErr, IsTrue, length, slice_index_or, cond};
+ghost use Rattle.std.specs.Prelude.{◌≡◌, ◌≢◌, ◌<◌, ◌≤◌, ◌-◌, ◌∷◌, [], ◌++◌, ℕ, true, false, Ok, Err, IfOk, OnOk, OnErr, IsTrue, length, slice_index_or, cond};
 ghost use Rattle.std.specs.List.{All};
 ghost use Rattle.rel_base.specs.Cells.{cell};
 ghost use Rattle.rel_base.specs.RowState.{RowState, IsRowState, opened, width, next, row};
@@ -7,11 +7,13 @@ ghost use Rattle.rel_base.specs.Validity.{agree_of};
 ghost use Rattle.rel_base.specs.Batches.{is_live, is_full, inserted, deleted, applied, after};
 ghost use Rattle.rel_base.specs.Laws.{IsAsWide};
 ghost use Rattle.rel_base.specs.Shows.{Shows};
-ghost use Rattle.row_log.specs.Applying.{Answers, Outcome, IsBefore};
+ghost use Rattle.rel_base.specs.declared.batch.Op.TheVariants.{Insert, Delete, Update};
+ghost use Rattle.rel_base.specs.Cells.{Row as Row_};
+ghost use Rattle.row_log.specs.Applying.{Answers, Outcome, IsBefore, LeadsFrom, IsFrom, IsEnded};
 
 use crate::applying::{Applying, Halt};
 use crate::column::Column;
-use crate::table::{agreement, columns_of, copied_codes, push_row, truncate_rows};
+use crate::table::{agreement, append_live, columns_of, copied_codes, push_row, truncate_rows};
 use rel_base::{Batch, Cell, ColSet, Limits, Nulls, Op, Relation, Row, RowNo, Snapshot, Why};
 use std::alloc::{AllocError, Global};
 use std::marker::Model;
@@ -112,6 +114,7 @@ impl RowLog {
     /// How many rows are live.
     pub fn live_len(&self) -> u32
         ensures value { result ≡ length self.now.live }
+        ensures few { result < next self.now }
         ensures state { IsRowState self.now }
     {
         self.live_len
@@ -119,7 +122,8 @@ impl RowLog {
 
     /// Whether the row is live: one that was never given is not.
     pub fn is_live(&self, number: RowNo) -> bool
-        ensures { result ≡ is_live self.now number }
+        ensures value { result ≡ is_live self.now number }
+        ensures given { result ≡ true → number < next self.now }
     {
         let place = (number.number() - 1) as usize;
         place < self.live.len() && self.live[place]
@@ -156,5 +160,164 @@ impl RowLog {
         let codes = copied_codes(alloc, &self.columns)?;
         let live = Vec::from_slice(alloc, &self.live)?;
         Ok(Arc::new(alloc, Snapshot::of(codes, live, self.next()))?)
+    }
+
+    /// Applies a batch, all of it or nothing.
+    ///
+    /// The operations are applied one after another. Where one fails or memory runs out, those before it are taken back, newest first,
+    /// and so are the codes of their cells. It takes a step a cell of the batch, whatever the relation has.
+    pub fn apply(&mut self, batch: &Batch) -> Applying
+        requires { All (IsAsWide (width self.old)) batch.now }
+        ensures { Answers self.old batch.now self.new result }
+    {
+        let ops = batch.ops();
+        let next = self.next().number();
+        let live = self.live_len();
+        for (k, op) in ops.iter().enumerate() {
+            if let Err(halt) = self.apply_one(op) {
+                self.take_back(&ops[..k]);
+                return halt.at(k);
+            }
+        }
+        let inserted = self.next().number() - next;
+        Applying::Applied {
+            inserted,
+            deleted: live + inserted - self.live_len(),
+        }
+    }
+
+    /// Takes back the batch that was applied last: the row state before it stands again.
+    ///
+    /// It takes a step a cell of the batch, and no memory.
+    pub fn undo(&mut self, batch: &Batch)
+        requires { (r : RowState) × IsBefore batch.now self.old r }
+        ensures { (r : RowState) → IsBefore batch.now self.old r → self.new ≡ r }
+    {
+        self.take_back(batch.ops());
+    }
+
+    // Applies one operation, or changes nothing.
+    fn apply_one(&mut self, op: &Op) -> Result<(), Halt>
+        requires { IsAsWide (width self.old) op.now }
+        ensures { Outcome self.old (applied self.old op.now) self.new result }
+    {
+        match op {
+            Op::Insert(row) => self.insert(row),
+            Op::Delete(number) => self.delete(*number),
+            Op::Update(number, row) => self.update(*number, row),
+        }
+    }
+
+    fn insert(&mut self, row: &Row) -> Result<(), Halt>
+        requires { length row.now ≡ width self.old }
+        ensures { Outcome self.old (applied self.old (Insert row.now)) self.new result }
+    {
+        if self.is_full() {
+            return Err(Halt::Failed(Why::Rows));
+        }
+        match self.push(row) {
+            Ok(()) => Ok(()),
+            Err(_) => Err(Halt::Starved),
+        }
+    }
+
+    fn delete(&mut self, number: RowNo) -> Result<(), Halt>
+        ensures { Outcome self.old (applied self.old (Delete number)) self.new result }
+    {
+        if !self.is_live(number) {
+            return Err(Halt::Failed(Why::Missing));
+        }
+        self.end(number);
+        Ok(())
+    }
+
+    // The new row comes first, which is the step that can want memory.
+    fn update(&mut self, number: RowNo, row: &Row) -> Result<(), Halt>
+        requires { length row.now ≡ width self.old }
+        ensures { Outcome self.old (applied self.old (Update number row.now)) self.new result }
+    {
+        if !self.is_live(number) {
+            return Err(Halt::Failed(Why::Missing));
+        }
+        self.insert(row)?;
+        self.end(number);
+        Ok(())
+    }
+
+    // Whether no number is left.
+    fn is_full(&self) -> bool
+        ensures { result ≡ is_full self.now }
+    {
+        self.live.len() >= self.limit as usize
+    }
+
+    // A row with the next number comes.
+    fn push(&mut self, row: &Row) -> Result<(), AllocError>
+        requires wide { length row.now ≡ width self.old }
+        requires room { is_full self.old ≡ false }
+        ensures pushed { OnOk result (self.new ≡ inserted self.old row.now) }
+        ensures refused { OnErr result (self.new ≡ self.old) }
+    {
+        self.live.reserve(1)?;
+        push_row(&mut self.columns, self.live.len(), row)?;
+        append_live(&mut self.live);
+        self.live_len += 1;
+        Ok(())
+    }
+
+    // A live row ends.
+    fn end(&mut self, number: RowNo)
+        requires { is_live self.old number ≡ true }
+        ensures { self.new ≡ deleted self.old number }
+    {
+        self.live[(number.number() - 1) as usize] = false;
+        self.live_len -= 1;
+    }
+
+    // Takes back operations that were applied, the last one first.
+    fn take_back(&mut self, ops: &[Op])
+        requires { (r : RowState) × LeadsFrom ops.now self.old r }
+        ensures { (r : RowState) → LeadsFrom ops.now self.old r → self.new ≡ r }
+    {
+        let mut left = ops;
+        while let Some((op, before)) = left.split_last() {
+            self.take_back_one(op);
+            left = before;
+        }
+    }
+
+    // Takes back the operation that was applied last.
+    fn take_back_one(&mut self, op: &Op)
+        requires { (r : RowState) × IsFrom op.now self.old r }
+        ensures { (r : RowState) → IsFrom op.now self.old r → self.new ≡ r }
+    {
+        match op {
+            Op::Insert(_) => self.pop(),
+            Op::Delete(number) => self.revive(*number),
+            Op::Update(number, _) => {
+                self.pop();
+                self.revive(*number);
+            }
+        }
+    }
+
+    // The row that came last goes, and its number is free again.
+    fn pop(&mut self)
+        requires { (r : RowState) × (row : Row_) × (inserted r row ≡ self.old) }
+        ensures { (r : RowState) (row : Row_) → inserted r row ≡ self.old → self.new ≡ r }
+    {
+        let rows = self.live.len() - 1;
+        truncate_rows(&mut self.columns, rows);
+        self.live.truncate(rows);
+        self.live_len -= 1;
+    }
+
+    // The row that ended last is live again.
+    fn revive(&mut self, number: RowNo)
+        requires { (r : RowState) × IsEnded r number self.old }
+        ensures { (r : RowState) → IsEnded r number self.old → self.new ≡ r }
+    {
+        self.live[(number.number() - 1) as usize] = true;
+        self.live_len += 1;
     }
 }

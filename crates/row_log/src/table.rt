@@ -1,5 +1,5 @@
 // The columns and the flags of the live rows.
-ghost use Rattle.std.specs.Prelude.{◌≡◌, ◌≢◌, ◌<◌, ◌≤◌, ◌+◌, ◌-◌, ◌∷◌, [], ◌++◌, ◌↔◌, ℕ, true, OnOk, OnErr, IfOk, length, map, take, slice_index_or, slice_set, replicate};
+ghost use Rattle.std.specs.Prelude.{◌≡◌, ◌≢◌, ◌<◌, ◌≤◌, ◌+◌, ◌-◌, ◌∷◌, [], ◌++◌, ◌↔◌, ℕ, true, OnOk, OnErr, IfOk, length, map, take, slice_index_or, vec_len, vec_capacity};
 ghost use Rattle.std.specs.List.{All};
 ghost use Rattle.col_set.specs.ColSet.{has};
 ghost use Rattle.rel_base.specs.Agreement.{agree};
@@ -86,4 +86,12 @@ pub fn copied_codes(alloc: Global, columns: &[Column]) -> Result<Vec<Codes>, All
         codes.push(Codes::of(Vec::from_slice(alloc, column.codes())?))?;
     }
     Ok(codes)
+}
+
+/// Appends the flag of a live row to a list that has room.
+pub fn append_live(flags: &mut Vec<bool>)
+    requires { vec_len flags.old < vec_capacity flags.old }
+    ensures { flags.new.items ≡ flags.old.items ++ true ∷ [] }
+{
+    let _ = flags.push(true);
 }
