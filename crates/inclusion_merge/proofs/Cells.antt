@@ -1,0 +1,63 @@
+-- Values are equal where their cells are, and the values of a column.
+use Rattle.std.proofs.Common.{◌≡◌, ◌∙◌, ◌<◌, ◌+◌, inl, inr, ℕ, arith, Bool, true, false, cond, not, eqb, refl, sym, ap, subst, List, [], ◌∷◌, ◌++◌, length, take, get_or, append-nil, filter, Contains, Ordering, Less}
+use Rattle.std.specs.Prelude.{nat_eq}
+use Rattle.std.specs.List.{AllByRecursion, dedup}
+use Rattle.std.specs.List.Sorted.{IsPermutation, IsSorted, IsStrictlySortedBy}
+use Rattle.std.specs.Cmp.Lexicographic.{nat_list_eq_equiv, pointwise, same_text}
+use Rattle.std.proofs.lemmas.Bool.{false≢true, ne_eqb, eqb-false, not-true}
+use Rattle.std.proofs.lemmas.List.Elements.{filter_more}
+use Rattle.std.proofs.lemmas.List.Kept.{Contains-dedup, Contains-from_dedup, IsStrictlySortedBy-dedup}
+use Rattle.std.proofs.lemmas.List.Sorted.{Contains-permutation, IsPermutation-sym}
+use Rattle.col_set.specs.Lists.{Listed, Listed-filter, Listed-filter_parts, Rises}
+use Rattle.col_set.proofs.Places.{Contains-listed, Listed-contained}
+use Rattle.rel_base.specs.Cells.{Cell}
+use Rattle.inclusion_merge.specs.Values.{IsValuesOf, is_filled, prefix_of, value_cmp}
+use Rattle.inclusion_merge.specs.Order.{value_ties, value_total}
+
+-- cells whose first bytes differ are not equal
+pub prefix_apart : (x y : Cell) (p q : ℕ) → p ≡ prefix_of x → q ≡ prefix_of y → (p ≡ q → ⊥) → nat_eq p q ≡ pointwise nat_eq x y
+prefix_apart x y p q e f other = go (pointwise nat_eq x y) refl
+  where
+    go : (b : Bool) → pointwise nat_eq x y ≡ b → nat_eq p q ≡ b
+    go true h = absurd (other (e ∙ ap prefix_of (same_text x y (sym h)) ∙ sym f))
+    go false h = ne_eqb p q other
+
+-- ---- in order, each once
+Listed-all : {X : Type 0} (P : X → Type 0) (xs : List X) → AllByRecursion P xs → (y : X) → Listed y xs → P y
+Listed-all P [] all y h = absurd h
+Listed-all P (x ∷ xs) all y (inl e) = subst P (sym e) all.0
+Listed-all P (x ∷ xs) all y (inr h) = Listed-all P xs all.1 y h
+
+Rises-sorted : {X : Type 0} (R : X → X → Ordering) (xs : List X) → IsStrictlySortedBy R xs → Rises R xs
+unfolding IsStrictlySortedBy
+Rises-sorted R [] s = tt
+Rises-sorted R (x ∷ xs) s = (Listed-all (λ y. R x y ≡ Less) xs s.0, Rises-sorted R xs s.1)
+
+pub Rises-dedup : (xs : List Cell) → IsSorted value_cmp xs → Rises value_cmp (dedup (pointwise nat_eq) xs)
+Rises-dedup xs s = Rises-sorted value_cmp _ (IsStrictlySortedBy-dedup value_total value_ties xs s)
+
+pub Listed-kept : (xs ys : List Cell) → IsPermutation xs ys → (a : Cell) → Listed a xs → Listed a (dedup (pointwise nat_eq) ys)
+Listed-kept xs ys moved a h =
+    Listed-contained a _ (Contains-dedup nat_list_eq_equiv (λ x y e. same_text x y (sym e)) ys a (Contains-permutation xs ys a moved (Contains-listed a xs h)))
+
+pub Listed-from_kept : (xs ys : List Cell) → IsPermutation xs ys → (a : Cell) → Listed a (dedup (pointwise nat_eq) ys) → Listed a xs
+Listed-from_kept xs ys moved a h =
+    Listed-contained a xs (Contains-permutation ys xs a (IsPermutation-sym xs ys moved) (Contains-from_dedup (pointwise nat_eq) ys a (Contains-listed a _ h)))
+
+-- ---- the cells that are not NULL
+is_filled-false : (a : Cell) → is_filled a ≡ true → a ≡ [] → ⊥
+is_filled-false a e none = false≢true (sym (ap is_filled none) ∙ e)
+
+filled : (a : Cell) → (a ≡ [] → ⊥) → is_filled a ≡ true
+filled [] some = absurd (some refl)
+filled (b ∷ bs) some = ap not (ne_eqb (length (b ∷ bs)) 0 (λ e. omega arith))
+
+pub IsValuesOf-filter : (cells values kept : List Cell) → kept ≡ filter is_filled cells → Rises value_cmp values
+    → ((a : Cell) → (Listed a values → Listed a kept) × (Listed a kept → Listed a values)) → IsValuesOf cells values
+IsValuesOf-filter cells values kept is rises each = record {
+  rises = rises;
+  each = λ a. (
+    (λ h. let w = Listed-filter_parts is_filled a cells (subst (λ (xs : List Cell). Listed a xs) is ((each a).0 h)) in (w.0, is_filled-false a w.1)),
+    (λ h. (each a).1 (subst (λ (xs : List Cell). Listed a xs) (sym is) (Listed-filter is_filled a cells h.0 (filled a h.1)))),
+  );
+}

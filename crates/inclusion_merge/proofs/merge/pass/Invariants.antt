@@ -1,0 +1,14 @@
+use Rattle.std.proofs.Common.{◌≡◌, length}
+use Rattle.inclusion_merge.specs.Candidates.{may}
+use Rattle.inclusion_merge.specs.Sharing.{lists_of}
+use Rattle.inclusion_merge.proofs.Merging.{Merged, total}
+use Rattle.inclusion_merge.proofs.merge.pass.Given as goal
+
+abbrev pub invariant-loop-least : goal.invariant-loop-least
+invariant-loop-least l = record {
+  columns : l.kept.columns ≡ l.initial.kept.columns;
+  merged : Merged (lists_of l.initial.rests) (lists_of l.rests) (may l.kept);
+}
+
+abbrev pub decreases-loop-least : goal.decreases-loop-least
+decreases-loop-least l = total (lists_of l.rests)

@@ -1,0 +1,16 @@
+use Rattle.std.proofs.Common.{◌≡◌, ◌∙◌, ap, List, Result, Vec, Ok, Err, IfOk}
+use Rattle.std.specs.declared.alloc.Global.{Global}
+use Rattle.std.specs.declared.alloc.AllocError.{AllocError}
+use Rattle.rayon.proofs.ToStd.{slice-AllZip}
+use Rattle.rel_base.specs.Cells.{Cell}
+use Rattle.inclusion_merge.specs.Values.{IsValuesOf}
+use Rattle.inclusion_merge.proofs.Pairing.{values_made}
+use Rattle.inclusion_merge.proofs.value_lists.Goals as goal
+
+pub returns : goal.returns
+returns g c =
+    let made = c.in_ok-lists.ensures in
+    let slice = ap (λ it. it.base.slice.now) c.map.ensures.base ∙ ap (λ it. it.slice.now) c.with_min_len.ensures.base ∙ c.par_iter.ensures in
+    let chain = made.1 in
+    let zip = slice-AllZip chain.0 c.args.columns.now (chain.1 ∙ slice) (λ column r. IfOk r (λ values. IsValuesOf column values.items)) made.0 chain.2 in
+    values_made c.args.columns.now made.0 c.in_ok-lists.lists zip made.2

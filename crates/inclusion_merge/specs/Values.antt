@@ -1,0 +1,24 @@
+-- The values of a column: its distinct cells that are not NULL, in an order of their own.
+use Rattle.std.specs.Prelude.{◌≡◌, ◌≢◌, ◌↔◌, ℕ, ◌+◌, ◌*◌, ◌%◌, ◌^◌, ◌==◌, Bool, not, List, [], fold, length, take}
+use Rattle.std.specs.declared.cmp.Ordering.{Ordering}
+use Rattle.std.specs.Ordering.{nat_cmp, on, then_cmp}
+use Rattle.std.specs.Cmp.Lexicographic.{slice_cmp}
+use Rattle.col_set.specs.Lists.{Listed, Rises}
+use Rattle.rel_base.specs.Cells.{Cell}
+
+-- the first bytes of a cell as one number
+abbrev pub prefix_of : Cell → ℕ
+prefix_of cell = fold (λ prefix byte. (prefix * 256 % 2 ^ 128 + byte) % 2 ^ 128) 0 (take 16 cell)
+
+-- the order of values: by the first bytes, then by length, then byte by byte
+abbrev pub value_cmp : Cell → Cell → Ordering
+value_cmp = then_cmp (on prefix_of nat_cmp) (then_cmp (on length nat_cmp) (slice_cmp nat_cmp))
+
+-- whether a cell is not NULL
+abbrev pub is_filled : Cell → Bool
+is_filled cell = not (length cell == 0)
+
+-- the values of a column, in order
+pub record IsValuesOf (cells values : List Cell) : Type 0 where
+  pub rises : Rises value_cmp values
+  pub each : (a : Cell) → Listed a values ↔ (Listed a cells × (a ≢ []))

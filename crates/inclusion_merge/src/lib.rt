@@ -1,0 +1,58 @@
+//! Unary inclusions among the columns of relations.
+#![tactic(auto)]
+
+ghost use Rattle.std.specs.Prelude.{◌≡◌, IfOk, length};
+ghost use Rattle.std.specs.List.{AllZip};
+ghost use Rattle.rel_base.specs.Inclusion.{inclusions};
+ghost use Rattle.inclusion_merge.specs.Sharing.{values_behind};
+ghost use Rattle.inclusion_merge.specs.Values.{IsValuesOf};
+
+mod candidates;
+mod merge;
+mod pairs;
+#[cfg(test)]
+mod tests;
+mod value;
+mod values;
+
+use crate::merge::merged;
+use crate::pairs::pairs_of;
+use crate::value::Value;
+use crate::values::values_of;
+use rayon::prelude::*;
+use rel_base::Row;
+use std::alloc::{AllocError, Global};
+use std::thread::Threads;
+
+/// Every inclusion among these columns.
+pub fn included<R: Threads + Sync>(
+    rt: &R,
+    alloc: Global,
+    columns: &[Row],
+) -> Result<Vec<(usize, usize)>, AllocError>
+    ensures { IfOk result (λ pairs. pairs.items ≡ inclusions columns.now) }
+{
+    let lists = value_lists(rt, alloc, columns)?;
+    let kept = merged(alloc, &lists)?;
+    pairs_of(alloc, &kept)
+}
+
+// The values of each column, from as many threads as there are processors.
+fn value_lists<'a, R: Threads + Sync>(
+    rt: &R,
+    alloc: Global,
+    columns: &'a [Row],
+) -> Result<Vec<Vec<Value<'a>>>, AllocError>
+    ensures { IfOk result (λ lists. AllZip IsValuesOf columns.now (values_behind lists.items)) }
+{
+    let lists: Result<Vec<Vec<Value<'a>>>, AllocError> = columns
+        .par_iter()
+        .with_min_len(1)
+        .map(
+            move |column: &Row| -> Result<Vec<Value>, AllocError>
+                ensures { IfOk result (λ values. IsValuesOf column.now values.items) }
+            { values_of(alloc, column) },
+        )
+        .collect(rt, alloc)?;
+    lists
+}

@@ -1,0 +1,121 @@
+// Lists of values merged, all at once.
+ghost use Rattle.std.specs.Prelude.{◌≡◌, ◌↔◌, ◌<◌, ◌&&◌, if◌then◌else◌, ℕ, Bool, true, false, length, map, slice_index_or, IfOk, IsTrue, MatchOption, vec_len};
+ghost use Rattle.std.specs.Prelude.{drop};
+ghost use Rattle.inclusion_merge.specs.Candidates.{may};
+ghost use Rattle.inclusion_merge.specs.Sharing.{AllRise, BeginsWith, IsFirstOf, IsLeastFirst, AllEnded, lesser_of, TellsParts, list_at, lists_of, values_behind};
+
+use crate::candidates::Candidates;
+use crate::value::Value;
+use std::alloc::{AllocError, Global};
+
+/// Which lists of values are parts of which, by one pass over all of them from their least values upwards. At each value, the lists that have it
+/// may be parts of these lists alone.
+pub(crate) fn merged(alloc: Global, lists: &[Vec<Value>]) -> Result<Candidates, AllocError>
+    requires { AllRise (values_behind lists.now) }
+    ensures size { IfOk result (λ kept. kept.columns ≡ length lists.now) }
+    ensures tells { IfOk result (λ kept. TellsParts (values_behind lists.now) (may kept)) }
+{
+    let mut rests = slices_of(alloc, lists)?;
+    let mut kept = Candidates::all(alloc, lists.len())?;
+    let mut shared = vec![in alloc; false; lists.len()]?;
+    pass(&mut rests, &mut shared, &mut kept);
+    Ok(kept)
+}
+
+// Takes all values off these lists, from the least one upwards.
+fn pass(rests: &mut [&[Value]], shared: &mut [bool], kept: &mut Candidates)
+    requires rise { AllRise (lists_of rests.old) }
+    requires shared { length shared.old ≡ length rests.old }
+    requires columns { kept.old.columns ≡ length rests.old }
+    requires all { (c d : ℕ) → c < length rests.old → d < length rests.old → may kept.old c d ≡ true }
+    ensures columns { kept.new.columns ≡ kept.old.columns }
+    ensures tells { TellsParts (lists_of rests.old) (may kept.new) }
+{
+    while let Some(least) = least_of(rests) {
+        mark(rests, least, shared);
+        advance(rests, shared, kept);
+    }
+}
+
+fn slices_of<'a, 'b>(
+    alloc: Global,
+    lists: &'a [Vec<Value<'b>>],
+) -> Result<Vec<&'a [Value<'b>]>, AllocError>
+    ensures { IfOk result (λ slices. lists_of slices.items ≡ values_behind lists.now) }
+{
+    let mut slices = Vec::with_capacity(alloc, lists.len())?;
+    for list in lists {
+        slices.push(list.as_slice())?;
+    }
+    Ok(slices)
+}
+
+// The least of the first values of these lists, where some list has one.
+fn least_of<'a, 'b>(rests: &[&'a [Value<'b>]]) -> Option<&'a Value<'b>>
+    ensures { MatchOption result (AllEnded (lists_of rests.now) (length rests.now)) (λ least. IsLeastFirst least.now (lists_of rests.now) (length rests.now)) }
+{
+    let mut least: Option<&'a Value<'b>> = None;
+    for place in 0..rests.len() {
+        least = lesser(least, first_of(rests[place]));
+    }
+    least
+}
+
+fn first_of<'a, 'b>(rest: &'a [Value<'b>]) -> Option<&'a Value<'b>>
+    ensures { IsFirstOf result rest.now }
+{
+    rest.first()
+}
+
+fn lesser<'a, 'b>(a: Option<&'a Value<'b>>, b: Option<&'a Value<'b>>) -> Option<&'a Value<'b>>
+    ensures { result ≡ lesser_of a.entry b.entry }
+{
+    match (a, b) {
+        (Some(x), Some(y)) => Some(if y < x { y } else { x }),
+        (None, _) => b,
+        (_, None) => a,
+    }
+}
+
+fn begins_with(rest: &[Value], value: &Value) -> bool
+    ensures { IsTrue result ↔ BeginsWith value.now rest.now }
+{
+    match rest.first() {
+        Some(first) => first == value,
+        None => false,
+    }
+}
+
+// Marks the lists that begin with this value.
+fn mark(rests: &[&[Value]], value: &Value, shared: &mut [bool])
+    requires { length shared.old ≡ length rests.now }
+    ensures { (place : ℕ) → place < length rests.now → (slice_index_or shared.new place false ≡ true) ↔ BeginsWith value.now (list_at (lists_of rests.now) place) }
+{
+    for place in 0..rests.len() {
+        shared[place] = begins_with(rests[place], value);
+    }
+}
+
+// Takes the first value off the lists that are marked, and leaves each of them the marked lists alone that it may be a part of.
+fn advance(rests: &mut [&[Value]], shared: &[bool], kept: &mut Candidates)
+    requires lists { length shared.now ≡ length rests.old }
+    requires kept { kept.old.columns ≡ length rests.old }
+    ensures rests { (place : ℕ) → place < length rests.old
+        → list_at (lists_of rests.new) place ≡ (if slice_index_or shared.now place false then drop 1 (list_at (lists_of rests.old) place) else list_at (lists_of rests.old) place) }
+    ensures size { kept.new.columns ≡ kept.old.columns }
+    ensures kept { (c d : ℕ) → c < kept.old.columns → d < kept.old.columns
+        → may kept.new c d ≡ (may kept.old c d && (if slice_index_or shared.now c false then slice_index_or shared.now d false else true)) }
+{
+    for place in 0..rests.len() {
+        if shared[place] {
+            rests[place] = behind_first(rests[place]);
+            kept.keep(place, shared);
+        }
+    }
+}
+
+fn behind_first<'a, 'b>(rest: &'a [Value<'b>]) -> &'a [Value<'b>]
+    ensures { result.now ≡ drop 1 rest.now }
+{
+    if rest.is_empty() { rest } else { &rest[1..] }
+}
