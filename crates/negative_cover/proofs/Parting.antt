@@ -1,6 +1,6 @@
 -- Looking a row up by halves, and going over witnesses one after another.
-use Rattle.std.proofs.Common.{inl, inr, ◌≡◌, ◌⊎◌, ℕ, ◌+◌, ◌<◌, ◌≤◌, Bool, true, false, cond, not, ◌&&◌, ◌||◌, eqb, refl, sym, ap, ◌∙◌, subst, arith, List, [], ◌∷◌, ◌++◌, length, get_or, take, map, Result, Ok, Err, is_ok, append-nil}
-use Rattle.std.specs.List.{Contains, filter, list_any}
+use Rattle.std.proofs.Common.{inl, inr, ◌≡◌, ℕ, ◌+◌, ◌<◌, ◌≤◌, Bool, true, false, cond, not, ◌&&◌, ◌||◌, eqb, refl, sym, ap, ◌∙◌, arith, List, [], ◌∷◌, ◌++◌, length, get_or, take, map, Result, Ok, Err, is_ok, append-nil}
+use Rattle.std.specs.List.{filter, list_any}
 use Rattle.std.specs.List.Sorted.{IsNonDecreasing, IsBinarySearchResult}
 use Rattle.std.specs.Ordering.{nat_cmp}
 use Rattle.std.specs.Result.{MatchResult}
@@ -13,7 +13,7 @@ use Rattle.col_set.specs.declared.target.Target.{Target}
 use Rattle.col_set.specs.ColSet.{subset}
 use Rattle.col_set.specs.Target.{has_target}
 use Rattle.col_set.specs.Evidence.{refuted}
-use Rattle.col_set.specs.Lists.{Listed, list_any_at as any_listed, list_any_which}
+use Rattle.col_set.specs.Lists.{list_any_at as any_listed, list_any_which}
 use Rattle.col_set.proofs.Places.{Contains-listed, Listed-get_or}
 use Rattle.negative_cover.specs.declared.negative_cover.Witness.{Witness}
 use Rattle.negative_cover.specs.Witnesses.{sets_of, is_among, IsRefutation}

@@ -1,2 +1,4 @@
 pub mod Cuts
 pub mod Places
+pub mod Merging
+pub mod Added

@@ -22,13 +22,13 @@ use Rattle.set_tree.proofs.Cuts.{kept_front, kept_back, kept_but, kept_all, set-
 pub same_from_equal : (x y : ℕ) → report_cmp x y ≡ Equal → x ≡ y
 same_from_equal x y e = eqb-true x y (report_matches_eq x y ∙ ap is_eq e)
 
-apart_from_less : (x y : ℕ) → report_cmp x y ≡ Less → eqb x y ≡ false
+pub apart_from_less : (x y : ℕ) → report_cmp x y ≡ Less → eqb x y ≡ false
 apart_from_less x y e = report_matches_eq x y ∙ ap is_eq e
 
 apart_from_greater : (x y : ℕ) → report_cmp y x ≡ Less → eqb x y ≡ false
 apart_from_greater x y e = report_matches_eq x y ∙ ap is_eq (report_total.antisymm x y ∙ ap ordering_reverse e)
 
-less_is : (x y : ℕ) → report_cmp x y ≡ Less → is_lt (report_cmp x y) ≡ true
+pub less_is : (x y : ℕ) → report_cmp x y ≡ Less → is_lt (report_cmp x y) ≡ true
 less_is x y e = ap is_lt e
 
 less_from : (o : Ordering) → is_lt o ≡ true → o ≡ Less
@@ -36,7 +36,7 @@ less_from Less e = refl
 less_from Equal e = absurd (true≢false (sym e))
 less_from Greater e = absurd (true≢false (sym e))
 
-not_less : (x y : ℕ) → report_cmp y x ≡ Less → is_lt (report_cmp x y) ≡ false
+pub not_less : (x y : ℕ) → report_cmp y x ≡ Less → is_lt (report_cmp x y) ≡ false
 not_less x y e = ap is_lt (report_total.antisymm x y ∙ ap ordering_reverse e)
 
 not_less_same : (x y : ℕ) → x ≡ y → is_lt (report_cmp x y) ≡ false

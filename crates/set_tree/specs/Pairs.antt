@@ -1,5 +1,5 @@
 -- Column sets with a value each, as a list of pairs in report order.
-use Rattle.std.specs.Prelude.{if◌then◌else◌, ◌==◌, Bool, not, List, ◌∷◌, ◌++◌, map, Option}
+use Rattle.std.specs.Prelude.{if◌then◌else◌, ◌==◌, Bool, not, List, [], ◌∷◌, ◌++◌, map, Option}
 use Rattle.std.specs.List.{filter, find, list_any}
 use Rattle.std.specs.Option.{option_map}
 use Rattle.std.specs.Ordering.{is_lt}
@@ -39,3 +39,8 @@ module _ {V : Type 0} where
 
   abbrev pub not_inside : List (Columns × V) → Columns → List (Columns × V)
   not_inside ps z = filter (λ p. not (subset p.0 z)) ps
+
+  -- the pairs, with the value v for each of these column sets that is no key
+  abbrev pub added : List (Columns × V) → List Columns → V → List (Columns × V)
+  added ps [] v = ps
+  added ps (x ∷ xs) v = added (if is_key ps x then ps else inserted ps x v) xs v

@@ -1,8 +1,9 @@
 // A map from column sets to values, which is kept as a sorted list.
 ghost use Rattle.std.specs.Prelude.{◌≡◌, [], Bool, OnOk, OnErr, IfOk, length};
 ghost use Rattle.std.specs.List.{find, list_any};
-ghost use Rattle.col_set.specs.ColSet.{Columns, subset};
-ghost use Rattle.set_tree.specs.Pairs.{IsInOrder, is_key, value_at, inserted, with_value, without_key, inside, not_inside};
+ghost use Rattle.col_set.specs.ColSet.{Columns, subset, report_cmp};
+ghost use Rattle.col_set.specs.Lists.{Rises};
+ghost use Rattle.set_tree.specs.Pairs.{IsInOrder, is_key, value_at, inserted, with_value, without_key, inside, not_inside, added};
 
 use crate::place::place_of;
 use col_set::ColSet;
@@ -86,6 +87,18 @@ impl<V: Copy> SetTree<V> {
         Ok(())
     }
 
+    /// Gives each of these column sets that is not there the value, and leaves the others as they are.
+    ///
+    /// They stand in report order, so that one pass over the tree serves for all. After want of memory the tree is as before.
+    pub fn add_all(&mut self, alloc: Global, sets: &[ColSet], v: V) -> Result<(), AllocError>
+        requires { Rises report_cmp sets.now }
+        ensures pairs { OnOk result (self.new ≡ added self.old sets.now v) }
+        ensures refused { OnErr result (self.new ≡ self.old) }
+    {
+        self.pairs = merged(alloc, self.pairs.as_slice(), sets, v)?;
+        Ok(())
+    }
+
     /// Gives x this value if it is there, and answers whether it is.
     pub fn set(&mut self, x: ColSet, v: V) -> bool
         ensures found { result ≡ is_key self.old x }
@@ -166,6 +179,37 @@ impl<V: Copy> SetTree<V> {
         }
         None
     }
+}
+
+// These pairs and those of the column sets that are no keys among them, in report order.
+fn merged<V: Copy>(
+    alloc: Global,
+    pairs: &[(ColSet, V)],
+    sets: &[ColSet],
+    v: V,
+) -> Result<Vec<(ColSet, V)>, AllocError>
+    requires pairs { IsInOrder pairs.now }
+    requires sets { Rises report_cmp sets.now }
+    ensures { IfOk result (λ made. made.items ≡ added pairs.now sets.now v) }
+{
+    let mut made = Vec::new(alloc);
+    made.reserve(pairs.len())?;
+    let mut rest = pairs;
+    for x in sets {
+        match place_of(rest, *x) {
+            Ok(place) => {
+                made.extend_from_slice(&rest[..place])?;
+                rest = &rest[place..];
+            }
+            Err(place) => {
+                made.extend_from_slice(&rest[..place])?;
+                made.push((*x, v))?;
+                rest = &rest[place..];
+            }
+        }
+    }
+    made.extend_from_slice(rest)?;
+    Ok(made)
 }
 
 // The pairs whose column sets lie inside z.

@@ -8,11 +8,11 @@ use Rattle.negative_cover.proofs.negative_cover.NegativeCover.refutes.Goals as g
 pub returns-then-parts-clause-none : goal.returns-then-parts-clause-none
 returns-then-parts-clause-none c =
     let e = ap (λ ws. refuted (sets_of ws) c.args.target c.args.x) (sym (c.as_slice-witness-items.ensures.value ∙ c.self.view_is))
-        ∙ told_refuted c.args.target c.args.x c.as_slice-witness-items.result.now c.loop-witness.witness-index c.witness-item.result c.loop-witness-test.true c.witness-item.is (sym c.if-parts.ensures) in
+    ∙ told_refuted c.args.target c.args.x c.as_slice-witness-items.result.now c.loop-witness.witness-index c.witness-item.result c.loop-witness-test.true c.witness-item.is (sym c.if-parts.ensures) in
     ((λ h. absurd (true≢false h)), (λ h. absurd (true≢false (sym e ∙ h))))
 
 pub returns-clause-none : goal.returns-clause-none
 returns-clause-none c =
     let e : refuted (sets_of c.args.self.now) c.args.target c.args.x ≡ false = ap (λ ws. refuted (sets_of ws) c.args.target c.args.x) (sym (c.as_slice-witness-items.ensures.value ∙ c.self.view_is))
-        ∙ untold c.args.target c.args.x c.as_slice-witness-items.result.now c.loop-witness.witness-index c.loop-witness-test.false c.loop-witness.invariant in
+    ∙ untold c.args.target c.args.x c.as_slice-witness-items.result.now c.loop-witness.witness-index c.loop-witness-test.false c.loop-witness.invariant in
     ((λ h. e), (λ h. refl))
