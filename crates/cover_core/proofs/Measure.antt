@@ -13,8 +13,8 @@ use Rattle.col_set.specs.Evidence.{refuted, least}
 use Rattle.col_set.specs.Lists.{Listed}
 use Rattle.rel_base.specs.RowState.{RowState, width, next}
 use Rattle.rel_base.specs.Validity.{agree_sets}
-use Rattle.cover_steps.specs.declared.types.Cand.{Cand}
-use Rattle.cover_steps.specs.Candidates.{lefts, marked_at, held_at}
+use Rattle.candidate_cover.specs.declared.cand.Cand.{Cand}
+use Rattle.candidate_cover.specs.Cands.{lefts, marked, holding}
 use Rattle.cover_steps.specs.Core.{Core, targets, cands, is_unfinished, with_cands}
 use Rattle.negative_cover.specs.Witnesses.{sets_of}
 use Rattle.cover_steps.specs.Sound.{Sound}
@@ -140,50 +140,57 @@ module _ (s : Core) (sound : Sound s) (t : Target) (target : IsColumnTarget (wid
       let h = unfinished_here in
       let m = sum_by-less (unfinished_of (with_cands s t cs)) (unfinished_of s) (targets (width s.rows)) t (λ u h. each u) (Listed-targets (width s.rows) t target) (omega arith) in omega arith
 
+-- what becomes of a candidate where the one with this left side is marked, or held or not
+abbrev pub mark_of : ℕ → ℕ → Cand → Cand
+mark_of x n c = cond (eqb c.left x) (record { left = x; upto = max c.upto n; held = false }) c
+
+abbrev pub hold_of : ℕ → Bool → Cand → Cand
+hold_of x held c = cond (eqb c.left x) (record { left = x; upto = c.upto; held = held }) c
+
 -- marks up to n leave no more candidates unfinished below n, and fewer where one of the marked was unfinished
-count-marked : (n x : ℕ) (c : Cand) → one_if (is_unfinished n (marked_at x n c)) ≤ one_if (is_unfinished n c)
+count-marked : (n x : ℕ) (c : Cand) → one_if (is_unfinished n (mark_of x n c)) ≤ one_if (is_unfinished n c)
 count-marked n x c = by (eqb c.left x)
   where
     none : ltb (max c.upto n) n ≡ false
     none = le-ltb (max c.upto n) n (omega arith)
 
-    by : (b : Bool) → one_if (ltb (cond b (record { left = c.left; upto = max c.upto n; held = false }) c).upto n) ≤ one_if (is_unfinished n c)
+    by : (b : Bool) → one_if (ltb (cond b (record { left = x; upto = max c.upto n; held = false }) c).upto n) ≤ one_if (is_unfinished n c)
     by true = let e : one_if (ltb (max c.upto n) n) ≡ 0 = ap one_if none in omega (arith, e)
     by false = omega arith
 
-pub marked-no_more : (n x : ℕ) (cs : List Cand) → count_by (is_unfinished n) (map (marked_at x n) cs) ≤ count_by (is_unfinished n) cs
+pub marked-no_more : (n x : ℕ) (cs : List Cand) → count_by (is_unfinished n) (marked cs x n) ≤ count_by (is_unfinished n) cs
 marked-no_more n x [] = omega arith
 marked-no_more n x (c ∷ cs) =
-    let a = count_by-cons (is_unfinished n) (marked_at x n c) (map (marked_at x n) cs) in
+    let a = count_by-cons (is_unfinished n) (mark_of x n c) (marked cs x n) in
     let b = count_by-cons (is_unfinished n) c cs in
     let l = count-marked n x c in
     let m = marked-no_more n x cs in omega arith
 
-pub marked-fewer : (n x : ℕ) (c : Cand) (cs : List Cand) → Listed c cs → c.left ≡ x → c.upto < n → count_by (is_unfinished n) (map (marked_at x n) cs) < count_by (is_unfinished n) cs
+pub marked-fewer : (n x : ℕ) (c : Cand) (cs : List Cand) → Listed c cs → c.left ≡ x → c.upto < n → count_by (is_unfinished n) (marked cs x n) < count_by (is_unfinished n) cs
 marked-fewer n x c [] h e l = absurd h
 marked-fewer n x c (d ∷ cs) (inl i) e l =
-    let a = count_by-cons (is_unfinished n) (marked_at x n d) (map (marked_at x n) cs) in
+    let a = count_by-cons (is_unfinished n) (mark_of x n d) (marked cs x n) in
     let b = count_by-cons (is_unfinished n) d cs in
     let m = marked-no_more n x cs in
     let same : d.left ≡ x = ap (λ (c : Cand). c.left) (sym i) ∙ e in
     let u : d.upto < n = subst (λ (c : Cand). c.upto < n) i l in
     let was : one_if (is_unfinished n d) ≡ 1 = ap one_if (lt-ltb d.upto n u) in
-    let is : one_if (is_unfinished n (marked_at x n d)) ≡ 0 = ap (λ (b : Bool). one_if (ltb (cond b (record { left = d.left; upto = max d.upto n; held = false }) d).upto n)) (eq-eqb d.left x same) ∙ ap one_if (le-ltb (max d.upto n) n (omega arith)) in
+    let is : one_if (is_unfinished n (mark_of x n d)) ≡ 0 = ap (λ (b : Bool). one_if (ltb (cond b (record { left = x; upto = max d.upto n; held = false }) d).upto n)) (eq-eqb d.left x same) ∙ ap one_if (le-ltb (max d.upto n) n (omega arith)) in
     omega arith
 marked-fewer n x c (d ∷ cs) (inr h) e l =
-    let a = count_by-cons (is_unfinished n) (marked_at x n d) (map (marked_at x n) cs) in
+    let a = count_by-cons (is_unfinished n) (mark_of x n d) (marked cs x n) in
     let b = count_by-cons (is_unfinished n) d cs in
     let k = count-marked n x d in
     let m = marked-fewer n x c cs h e l in omega arith
 
-pub held-same : (n x : ℕ) (held : Bool) (cs : List Cand) → count_by (is_unfinished n) (map (held_at x held) cs) ≡ count_by (is_unfinished n) cs
+pub held-same : (n x : ℕ) (held : Bool) (cs : List Cand) → count_by (is_unfinished n) (holding cs x held) ≡ count_by (is_unfinished n) cs
 held-same n x held [] = refl
 held-same n x held (c ∷ cs) =
-    let a = count_by-cons (is_unfinished n) (held_at x held c) (map (held_at x held) cs) in
+    let a = count_by-cons (is_unfinished n) (hold_of x held c) (holding cs x held) in
     let b = count_by-cons (is_unfinished n) c cs in
-    let k : one_if (is_unfinished n (held_at x held c)) ≡ one_if (is_unfinished n c) = by (eqb c.left x) in
+    let k : one_if (is_unfinished n (hold_of x held c)) ≡ one_if (is_unfinished n c) = by (eqb c.left x) in
     let m = held-same n x held cs in omega arith
   where
-    by : (b : Bool) → one_if (ltb (cond b (record { left = c.left; upto = c.upto; held = held }) c).upto n) ≡ one_if (is_unfinished n c)
+    by : (b : Bool) → one_if (ltb (cond b (record { left = x; upto = c.upto; held = held }) c).upto n) ≡ one_if (is_unfinished n c)
     by true = refl
     by false = refl

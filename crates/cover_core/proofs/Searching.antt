@@ -7,17 +7,19 @@ use Rattle.std.proofs.lemmas.List.Folds.{find-append}
 use Rattle.col_set.specs.declared.target.Target.{Target}
 use Rattle.col_set.specs.declared.target.Target.TheVariants.{Col, RowId}
 use Rattle.col_set.specs.ColSet.{upto}
-use Rattle.cover_steps.specs.declared.types.Cand.{Cand}
-use Rattle.cover_steps.specs.Candidates.{CandLists, cands_of}
+use Rattle.candidate_cover.specs.declared.cand.Cand.{Cand}
+use Rattle.candidate_cover.specs.Lists.{CandLists}
+use Rattle.candidate_cover.specs.Cands.{cands_of}
 use Rattle.cover_steps.specs.Core.{targets, entries_in}
+use Rattle.cover_core.specs.Searching.{on_cand}
 
 -- the entries of a target
 abbrev pub entries_of : CandLists → Target → List (Target × Cand)
 entries_of s t = map (λ (c : Cand). (t, c)) (cands_of s t)
 
--- a test of entries that looks at the candidate alone
-abbrev pub on_cand : (Cand → Bool) → (Target × Cand) → Bool
-on_cand p e = p e.1
+
+
+
 
 find-entries_of : (s : CandLists) (t : Target) (p : Cand → Bool) (cs : List Cand) → find (on_cand p) (map (λ (c : Cand). (t, c)) cs) ≡ option_map (λ (c : Cand). (t, c)) (find p cs)
 find-entries_of s t p [] = refl

@@ -1,5 +1,4 @@
 pub mod Ended
-pub mod Kept
 pub mod Searching
+pub mod Kept
 pub mod Parts
-pub mod Replies

@@ -20,7 +20,7 @@ IsPart n ws c t None = renewed_list n ws c t ≡ cands_of c t
 IsPart n ws c t (Some part) = part ≡ renewed_list n ws c t
 
 -- the parts of the row's identity and of the columns
-pub record AreParts (n : ℕ) (ws : List Columns) (c : CandLists) (rows : Option (List Cand)) (columns : List (Option (List Cand))) : Type 0 where
-  pub rows : IsPart n ws c RowId rows
-  pub count : length columns ≡ n
-  pub columns : (a : ℕ) → a < n → IsPart n ws c (Col a) (slice_index_or columns a None)
+pub record AreParts (n : ℕ) (ws : List Columns) (c : CandLists) (first : Option (List Cand)) (others : List (Option (List Cand))) : Type 0 where
+  pub rows : IsPart n ws c RowId first
+  pub count : length others ≡ n
+  pub columns : (a : ℕ) → a < n → IsPart n ws c (Col a) (slice_index_or others a None)

@@ -1,17 +1,7 @@
-//! The book: the rows of a relation, the witnesses that refute dependencies, and the candidates that they leave, in one
-//! object. Each call is one step of the shared cover (HyFD, Papenbrock and Naumann, 2016; DynFD, Schirmer and others, 2019).
+//! The book.
 #![tactic(auto)]
 
 mod answers;
-mod book;
 mod ended;
-mod finish;
-mod parts;
-mod searching;
-#[cfg(test)]
-mod tests;
 
 pub use answers::{Draw, Refutation, Release, Settling};
-pub use book::Book;
-pub use candidate_cover::Marking;
-pub use row_log::Applying;

@@ -22,8 +22,8 @@ use Rattle.rel_base.proofs.States.{All-listed, live_climbs, live_numbered}
 use Rattle.rel_base.proofs.Valid.{Listed-agree_sets, holds-true, holds-refuted}
 use Rattle.rel_base.proofs.Minima.{covers-least}
 use Rattle.negative_cover.specs.declared.negative_cover.Witness.{Witness}
-use Rattle.cover_steps.specs.declared.types.Cand.{Cand}
-use Rattle.cover_steps.specs.Candidates.{lefts}
+use Rattle.candidate_cover.specs.declared.cand.Cand.{Cand}
+use Rattle.candidate_cover.specs.Cands.{lefts}
 use Rattle.cover_steps.specs.Core.{Core, cands, first_unfinished, listed_covers}
 use Rattle.negative_cover.specs.Witnesses.{sets_of}
 use Rattle.cover_steps.specs.Sound.{IsWitness, Sound}

@@ -10,7 +10,7 @@ use Rattle.col_set.specs.Subsets.{IsSubset, subset-true, true-subset}
 use Rattle.col_set.specs.AllSets.{Listed-upto, Listed-upto_within}
 use Rattle.col_set.specs.Lists.{Listed, Listed-map, Listed-map_which, Listed-flat_map, Listed-flat_map_which, list_any_at, list_any_which}
 use Rattle.rel_base.specs.RowState.{width, next}
-use Rattle.cover_steps.specs.declared.types.Cand.{Cand}
+use Rattle.candidate_cover.specs.declared.cand.Cand.{Cand}
 use Rattle.cover_steps.specs.Core.{Core, targets, cands, entries, is_unfinished, is_drawable, first_unfinished, first_drawable, refutes_some}
 use Rattle.cover_steps.proofs.Lists.{find-Some, find-None}
 

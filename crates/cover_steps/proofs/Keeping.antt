@@ -26,12 +26,14 @@ use Rattle.rel_base.specs.Laws.{Follows, IsAsWide}
 use Rattle.rel_base.proofs.States.{All-listed, All-from, live_positive, live_numbered}
 use Rattle.rel_base.proofs.Changes.{after-follows, agree_of-follows}
 use Rattle.negative_cover.specs.declared.negative_cover.Witness.{Witness}
-use Rattle.cover_steps.specs.declared.types.Cand.{Cand}
+use Rattle.candidate_cover.specs.declared.cand.Cand.{Cand}
 use Rattle.cover_steps.specs.declared.step.Call.{Call}
 use Rattle.cover_steps.specs.declared.step.Call.TheVariants.{Draw, Refute, Mark, Release, Apply, Settle}
 use Rattle.cover_steps.specs.declared.step.Reply.{Reply}
 use Rattle.cover_steps.specs.declared.step.Reply.TheVariants.{Job, Busy, Settled, Gone, Known, Booked, Marked, Dropped, Released, Applied, Refused, Ready, NotYet, NoMemory}
-use Rattle.cover_steps.specs.Candidates.{CandLists, cands_of, with_list, lefts, fresh, kept_or_fresh, is_listed, marked_at, held_at, one_each}
+use Rattle.candidate_cover.specs.Lists.{CandLists}
+use Rattle.candidate_cover.specs.Cands.{cands_of, with_list, lefts, fresh, kept_or_fresh, is_listed, marked, holding}
+use Rattle.cover_steps.specs.Core.{one_each}
 use Rattle.cover_steps.specs.Core.{Core, opened_core, cands, refutes_some, with_cands, renewed, renewed_list, witness_of, booked, standing, with_rows}
 use Rattle.negative_cover.specs.Witnesses.{sets_of}
 use Rattle.cover_steps.specs.Steps.{Draws, Drawing, Refuting, AreLive, Marking, Releasing, Accepts, Applying, Settling, Step}
@@ -138,7 +140,7 @@ live-Contains r i e = let w = list_any_which (eqb i) r.live e in Contains-listed
 Follows-itself : (r : RowState) → Follows r r
 Follows-itself r = record { names = refl; nulls = refl; limit = refl; more = omega arith; rows = λ number p l. refl; live = λ number l h. h }
 
-Sound-booked : (s : Core) (i j : ℕ) → Sound s → i ≢ j → AreLive s.rows i j → refutes_some s (agree_of s.rows i j) ≡ true → Sound (booked s i j)
+pub Sound-booked : (s : Core) (i j : ℕ) → Sound s → i ≢ j → AreLive s.rows i j → refutes_some s (agree_of s.rows i j) ≡ true → Sound (booked s i j)
 unfolding refuted
 Sound-booked s i j sound ne live e = Sound-renewed s s.rows (s.witnesses ++ witness_of s.rows i j ∷ []) sound sound.rows (Follows-itself s.rows)
     (All-from (IsWitness s.rows) (s.witnesses ++ witness_of s.rows i j ∷ []) (λ w h. named w (Listed-append_cases w s.witnesses (witness_of s.rows i j ∷ []) h)))
@@ -157,7 +159,7 @@ Sound-booked s i j sound ne live e = Sound-renewed s s.rows (s.witnesses ++ witn
         let g = Listed-map (λ (w : Witness). w.agree) w s.witnesses h in
         false≢true (sym l.stands ∙ list_any_at (λ z. subset d.cand.left z && not (has_target z d.target)) w.agree (sets_of s.witnesses) g (ap (λ (z : ℕ). subset d.cand.left z && not (has_target z d.target)) m ∙ d.lacks))
 
-Sound-with_rows : (s : Core) (r : RowState) → Sound s → IsRowState r → Follows s.rows r → Sound (with_rows s r)
+pub Sound-with_rows : (s : Core) (r : RowState) → Sound s → IsRowState r → Follows s.rows r → Sound (with_rows s r)
 Sound-with_rows s r sound is f = Sound-renewed s r (standing r s.witnesses) sound is f
     (All-from (IsWitness r) (standing r s.witnesses) (λ w h. named w (Listed-filter_parts (λ w. is_live r w.i && is_live r w.j) w s.witnesses h)))
     (AllPairs-filter (λ v w. v.agree ≢ w.agree) (λ w. is_live r w.i && is_live r w.j) s.witnesses sound.once)
@@ -200,38 +202,38 @@ stays s new jobs h e = subst (λ (m : Core). SoundWith m (jobs ++ [])) (sym e) (
 same_rows : (s m new : Core) (jobs : List JobParts) → All (Fits s.rows) jobs → Sound m → m.rows ≡ s.rows → new ≡ m → SoundWith new (jobs ++ [])
 same_rows s m new jobs fits sound rows e = subst (λ (m : Core). SoundWith m (jobs ++ [])) (sym e) (subst (SoundWith m) (sym (append-nil jobs)) (record { sound = sound; fits = subst (λ (r : RowState). All (Fits r) jobs) (sym rows) fits }))
 
-left-marked : (x to : ℕ) (c : Cand) → (cond (eqb c.left x) (record { left = c.left; upto = max c.upto to; held = false }) c).left ≡ c.left
-left-marked x to c = by (eqb c.left x)
+left-marked : (x to : ℕ) (c : Cand) → (cond (eqb c.left x) (record { left = x; upto = max c.upto to; held = false }) c).left ≡ c.left
+left-marked x to c = by (eqb c.left x) refl
   where
-    by : (b : Bool) → (cond b (record { left = c.left; upto = max c.upto to; held = false }) c).left ≡ c.left
-    by true = refl
-    by false = refl
+    by : (b : Bool) → eqb c.left x ≡ b → (cond b (record { left = x; upto = max c.upto to; held = false }) c).left ≡ c.left
+    by true e = sym (eqb-true c.left x e)
+    by false e = refl
 
-left-held_as : (x : ℕ) (held : Bool) (c : Cand) → (cond (eqb c.left x) (record { left = c.left; upto = c.upto; held = held }) c).left ≡ c.left
-left-held_as x held c = by (eqb c.left x)
+left-holding : (x : ℕ) (held : Bool) (c : Cand) → (cond (eqb c.left x) (record { left = x; upto = c.upto; held = held }) c).left ≡ c.left
+left-holding x held c = by (eqb c.left x) refl
   where
-    by : (b : Bool) → (cond b (record { left = c.left; upto = c.upto; held = held }) c).left ≡ c.left
-    by true = refl
-    by false = refl
+    by : (b : Bool) → eqb c.left x ≡ b → (cond b (record { left = x; upto = c.upto; held = held }) c).left ≡ c.left
+    by true e = sym (eqb-true c.left x e)
+    by false e = refl
 
-Sound-held_as : (s : Core) (t : Target) (x : ℕ) (held : Bool) → Sound s → IsColumnTarget (width s.rows) t → Sound (with_cands s t (map (held_at x held) (cands s t)))
-Sound-held_as s t x held sound l = Sound-remarked s sound t l (λ c. cond (eqb c.left x) (record { left = c.left; upto = c.upto; held = held }) c) (left-held_as x held) (λ c h m. by c (eqb c.left x) m)
+pub Sound-holding : (s : Core) (t : Target) (x : ℕ) (held : Bool) → Sound s → IsColumnTarget (width s.rows) t → Sound (with_cands s t (holding (cands s t) x held))
+Sound-holding s t x held sound l = Sound-remarked s sound t l (λ c. cond (eqb c.left x) (record { left = x; upto = c.upto; held = held }) c) (left-holding x held) (λ c h m. by c (eqb c.left x) refl m)
   where
-    by : (c : Cand) (b : Bool) → IsMarked s.rows t c → IsMarked s.rows t (cond b (record { left = c.left; upto = c.upto; held = held }) c)
-    by c true m = record { holds = m.holds; first = m.first; last = m.last }
-    by c false m = m
+    by : (c : Cand) (b : Bool) → eqb c.left x ≡ b → IsMarked s.rows t c → IsMarked s.rows t (cond b (record { left = x; upto = c.upto; held = held }) c)
+    by c true e m = record { holds = subst (λ (y : ℕ). HoldsBelow c.upto s.rows y t) (eqb-true c.left x e) m.holds; first = m.first; last = m.last }
+    by c false e m = m
 
 max_cases : (a b : ℕ) → (max a b ≡ a) ⊎ (max a b ≡ b)
 max_cases a b = elim (cases_lt a b) as (λ _. (max a b ≡ a) ⊎ (max a b ≡ b)) [ inl l ↦ inr (omega arith) | inr l ↦ inl (omega arith) ]
 
-Sound-marked : (s : Core) (job : JobParts) → Sound s → Fits s.rows job → holds_in job.snapshot job.left job.target ≡ true → Sound (with_cands s job.target (map (marked_at job.left job.to) (cands s job.target)))
-Sound-marked s job sound fits e = Sound-remarked s sound job.target fits.target (λ c. cond (eqb c.left job.left) (record { left = c.left; upto = max c.upto job.to; held = false }) c) (left-marked job.left job.to) (λ c h m. by c (eqb c.left job.left) refl m)
+pub Sound-marked : (s : Core) (job : JobParts) → Sound s → Fits s.rows job → holds_in job.snapshot job.left job.target ≡ true → Sound (with_cands s job.target (marked (cands s job.target) job.left job.to))
+Sound-marked s job sound fits e = Sound-remarked s sound job.target fits.target (λ c. cond (eqb c.left job.left) (record { left = job.left; upto = max c.upto job.to; held = false }) c) (left-marked job.left job.to) (λ c h m. by c (eqb c.left job.left) refl m)
   where
-    holds : (c : Cand) → c.left ≡ job.left → IsMarked s.rows job.target c → (max c.upto job.to ≡ c.upto) ⊎ (max c.upto job.to ≡ job.to) → HoldsBelow (max c.upto job.to) s.rows c.left job.target
-    holds c same m (inl i) = subst (λ (b : ℕ). HoldsBelow b s.rows c.left job.target) (sym i) m.holds
-    holds c same m (inr i) = subst (λ (b : ℕ). HoldsBelow b s.rows c.left job.target) (sym i) (subst (λ (x : ℕ). HoldsBelow job.to s.rows x job.target) (sym same) (HoldsBelow-fits s.rows sound.rows job fits e))
+    holds : (c : Cand) → c.left ≡ job.left → IsMarked s.rows job.target c → (max c.upto job.to ≡ c.upto) ⊎ (max c.upto job.to ≡ job.to) → HoldsBelow (max c.upto job.to) s.rows job.left job.target
+    holds c same m (inl i) = subst (λ (b : ℕ). HoldsBelow b s.rows job.left job.target) (sym i) (subst (λ (x : ℕ). HoldsBelow c.upto s.rows x job.target) same m.holds)
+    holds c same m (inr i) = subst (λ (b : ℕ). HoldsBelow b s.rows job.left job.target) (sym i) (HoldsBelow-fits s.rows sound.rows job fits e)
 
-    by : (c : Cand) (b : Bool) → eqb c.left job.left ≡ b → IsMarked s.rows job.target c → IsMarked s.rows job.target (cond b (record { left = c.left; upto = max c.upto job.to; held = false }) c)
+    by : (c : Cand) (b : Bool) → eqb c.left job.left ≡ b → IsMarked s.rows job.target c → IsMarked s.rows job.target (cond b (record { left = job.left; upto = max c.upto job.to; held = false }) c)
     by c true i m = record {
       holds = holds c (eqb-true c.left job.left i) m (max_cases c.upto job.to);
       first = let a = m.first in omega arith;
@@ -239,10 +241,9 @@ Sound-marked s job sound fits e = Sound-remarked s sound job.target fits.target 
     }
     by c false i m = m
 
--- a target without a list of its own has no candidate, so one that lists a left side is a column or the row's identity
 drawing_keeps : (jobs : List JobParts) (s new : Core) (reply : Reply) → SoundWith s jobs → Drawing s reply new → SoundWith new (jobs ++ drawn reply)
 drawing_keeps jobs s new (Job job) h d = subst (λ (m : Core). SoundWith m (jobs ++ job ∷ [])) (sym d.after) (record {
-  sound = Sound-held_as s job.target job.left true h.sound entry.target;
+  sound = Sound-holding s job.target job.left true h.sound entry.target;
   fits = All-from (Fits s.rows) (jobs ++ job ∷ []) (λ k g. by k (Listed-append_cases k jobs (job ∷ []) g));
 })
   where
@@ -271,13 +272,13 @@ refuting_keeps jobs s new i j _ h ne d = absurd d
 
 marking_keeps : (jobs : List JobParts) (s new : Core) (job : JobParts) (reply : Reply) → SoundWith s jobs → Contains jobs job → holds_in job.snapshot job.left job.target ≡ true → Marking s job reply new → SoundWith new (jobs ++ drawn reply)
 marking_keeps jobs s new job Marked h was e d =
-    same_rows s (with_cands s job.target (map (marked_at job.left job.to) (cands s job.target))) new jobs h.fits (Sound-marked s job h.sound (All-listed (Fits s.rows) job jobs h.fits (Listed-contained job jobs was)) e) refl d.1
+    same_rows s (with_cands s job.target (marked (cands s job.target) job.left job.to)) new jobs h.fits (Sound-marked s job h.sound (All-listed (Fits s.rows) job jobs h.fits (Listed-contained job jobs was)) e) refl d.1
 marking_keeps jobs s new job Dropped h was e d = stays s new jobs h d.1
 marking_keeps jobs s new job _ h was e d = absurd d
 
 releasing_keeps : (jobs : List JobParts) (s new : Core) (job : JobParts) (reply : Reply) → SoundWith s jobs → IsColumnTarget (width s.rows) job.target → Releasing s job reply new → SoundWith new (jobs ++ drawn reply)
 releasing_keeps jobs s new job Released h l d =
-    same_rows s (with_cands s job.target (map (held_at job.left false) (cands s job.target))) new jobs h.fits (Sound-held_as s job.target job.left false h.sound l) refl d.1
+    same_rows s (with_cands s job.target (holding (cands s job.target) job.left false)) new jobs h.fits (Sound-holding s job.target job.left false h.sound l) refl d.1
 releasing_keeps jobs s new job Dropped h l d = stays s new jobs h d.1
 releasing_keeps jobs s new job _ h l d = absurd d
 

@@ -10,14 +10,15 @@ use Rattle.col_set.specs.declared.target.Target.TheVariants.{Col, RowId}
 use Rattle.col_set.specs.Target.{IsColumnTarget}
 use Rattle.col_set.specs.Evidence.{least}
 use Rattle.col_set.specs.Lists.{Listed, Listed-map, Listed-map_which}
-use Rattle.cover_steps.specs.declared.types.Cand.{Cand}
-use Rattle.cover_steps.specs.Candidates.{CandLists, cands_of, with_list, lefts, fresh, kept_or_fresh, one_each}
+use Rattle.candidate_cover.specs.declared.cand.Cand.{Cand}
+use Rattle.candidate_cover.specs.Lists.{CandLists}
+use Rattle.candidate_cover.specs.Cands.{cands_of, with_list, lefts, fresh, kept_or_fresh}
+use Rattle.cover_steps.specs.Core.{one_each}
 use Rattle.cover_steps.specs.Core.{renewed, renewed_list}
 use Rattle.cover_steps.proofs.Lists.{map_map, map_itself}
 
 -- a candidate of a list that is made anew is fresh, or one that there was
 pub kept_cases : (old : List Cand) (x : ℕ) → (kept_or_fresh old x ≡ fresh x) ⊎ (Listed (kept_or_fresh old x) old × ((kept_or_fresh old x).left ≡ x))
-unfolding kept_or_fresh
 kept_cases [] x = inl refl
 kept_cases (c ∷ cs) x = by (eqb c.left x) refl (kept_cases cs x)
   where

@@ -3,6 +3,7 @@ use Rattle.std.proofs.Common.{inl, inr, ◌≡◌, ◌≢◌, ◌⊎◌, ℕ, ze
 use Rattle.std.specs.Prelude.{unwrap_or}
 use Rattle.std.specs.List.{find}
 use Rattle.std.proofs.lemmas.Bool.{true≢false, false≢true, eqb-true, eq-eqb, ne_eqb, and_parts, or_cases, false_from_ne_true, cases_Bool, not-true}
+use Rattle.std.proofs.lemmas.List.{ext_get_or}
 use Rattle.std.proofs.lemmas.Cmp.{tied_itself}
 use Rattle.col_set.specs.declared.target.Target.{Target}
 use Rattle.col_set.specs.declared.target.Target.TheVariants.{Col, RowId}
@@ -14,8 +15,9 @@ use Rattle.col_set.specs.Lists.{Listed, Rises, Listed-append_left, Listed-append
 use Rattle.col_set.proofs.Least.{IsLeast-listed}
 use Rattle.col_set.proofs.More.{Rises-least}
 use Rattle.col_set.proofs.Specialise.{least-push_known}
-use Rattle.cover_steps.specs.declared.types.Cand.{Cand}
-use Rattle.cover_steps.specs.Candidates.{CandLists, cands_of, lefts, fresh, kept_or_fresh}
+use Rattle.candidate_cover.specs.declared.cand.Cand.{Cand}
+use Rattle.candidate_cover.specs.Lists.{CandLists}
+use Rattle.candidate_cover.specs.Cands.{cands_of, lefts, fresh, kept_or_fresh}
 use Rattle.cover_steps.specs.Core.{renewed_list}
 use Rattle.cover_steps.proofs.Lists.{Pairwise, map_map, map_same_listed}
 use Rattle.cover_steps.proofs.Exact.{least-same}
@@ -23,7 +25,6 @@ use Rattle.cover_steps.proofs.Exact.{least-same}
 -- ---- a list of its own left sides
 -- of candidates with different left sides, each is found by its own
 kept-listed : (cs : List Cand) (c : Cand) → Rises report_cmp (lefts cs) → Listed c cs → kept_or_fresh cs c.left ≡ c
-unfolding kept_or_fresh
 kept-listed [] c r h = absurd h
 kept-listed (d ∷ ds) c r h = by (eqb d.left c.left) refl h (λ g. kept-listed ds c r.1 g)
   where
@@ -71,11 +72,5 @@ renewed_list-unconcerned n ws c t z e f = renewed_list-same n (ws ++ z ∷ []) c
     which x h = Listed-map_which (λ (d : Cand). d.left) x (cands_of c t) h
 
 -- ---- equal lists for each target
-same_elements : {X : Type 0} (xs ys : List X) (d : X) → length xs ≡ length ys → ((k : ℕ) → k < length xs → get_or xs k d ≡ get_or ys k d) → xs ≡ ys
-same_elements [] [] d e f = refl
-same_elements [] (y ∷ ys) d e f = absurd (omega arith)
-same_elements (x ∷ xs) [] d e f = absurd (omega arith)
-same_elements {X} (x ∷ xs) (y ∷ ys) d e f = ap₂ (λ (a : X) (b : List X). a ∷ b) (f zero (omega arith)) (same_elements xs ys d (omega arith) (λ k l. f (suc k) (omega arith)))
-
 pub same_lists : (c d : CandLists) → length c.columns ≡ length d.columns → ((t : Target) → IsColumnTarget (length c.columns) t → cands_of c t ≡ cands_of d t) → c ≡ d
-same_lists c d e f = λ i. record { rows = f RowId tt i; columns = same_elements c.columns d.columns [] e (λ k l. f (Col k) l) i }
+same_lists c d e f = λ i. record { rows = f RowId tt i; columns = ext_get_or [] c.columns d.columns e (λ k l. f (Col k) l) i }

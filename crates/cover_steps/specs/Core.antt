@@ -1,6 +1,6 @@
 -- The state of the shared cover: the rows, the witnesses, and the candidates of each target (HyFD's and DynFD's covers,
 -- Papenbrock and Naumann, 2016; Schirmer and others, 2019).
-use Rattle.std.specs.Prelude.{ℕ, nat_lt, Bool, not, ◌&&◌, List, [], ◌∷◌, ◌++◌, map, Option}
+use Rattle.std.specs.Prelude.{ℕ, nat_lt, Bool, not, ◌&&◌, List, [], ◌∷◌, ◌++◌, map, replicate, Option}
 use Rattle.std.specs.List.{filter, find, list_any, flat_map}
 use Rattle.col_set.specs.declared.target.Target.{Target}
 use Rattle.col_set.specs.declared.target.Target.TheVariants.{Col, RowId}
@@ -13,13 +13,18 @@ use Rattle.rel_base.specs.Covers.{CoverLists, fds_to}
 use Rattle.rel_base.specs.Batches.{is_live}
 use Rattle.negative_cover.specs.declared.negative_cover.Witness.{Witness}
 use Rattle.negative_cover.specs.Witnesses.{sets_of}
-use Rattle.cover_steps.specs.declared.types.Cand.{Cand}
-use Rattle.cover_steps.specs.Candidates.{CandLists, cands_of, with_list, lefts, kept_or_fresh, one_each}
+use Rattle.candidate_cover.specs.declared.cand.Cand.{Cand}
+use Rattle.candidate_cover.specs.Lists.{CandLists}
+use Rattle.candidate_cover.specs.Cands.{cands_of, with_list, lefts, fresh, kept_or_fresh}
 
 pub record Core : Type 0 where
   pub rows : RowState
   pub witnesses : List Witness
   pub candidates : CandLists
+
+-- the empty set for each target of n columns, of which nothing is known
+abbrev pub one_each : ℕ → CandLists
+one_each n = record { rows = fresh 0 ∷ []; columns = replicate n (fresh 0 ∷ []) }
 
 -- no witness, and for each target the empty set
 abbrev pub opened_core : RowState → Core

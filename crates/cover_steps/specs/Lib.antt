@@ -1,4 +1,3 @@
-pub mod Candidates
 pub mod Core
 pub mod Steps
 pub mod Sound

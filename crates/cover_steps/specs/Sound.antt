@@ -11,8 +11,8 @@ use Rattle.rel_base.specs.RowState.{RowState, IsRowState, width, next}
 use Rattle.rel_base.specs.Validity.{agree_of, HoldsBelow}
 use Rattle.rel_base.specs.Shows.{HoldsInBelow}
 use Rattle.negative_cover.specs.declared.negative_cover.Witness.{Witness}
-use Rattle.cover_steps.specs.declared.types.Cand.{Cand}
-use Rattle.cover_steps.specs.Candidates.{lefts}
+use Rattle.candidate_cover.specs.declared.cand.Cand.{Cand}
+use Rattle.candidate_cover.specs.Cands.{lefts}
 use Rattle.cover_steps.specs.Core.{Core, cands}
 use Rattle.negative_cover.specs.Witnesses.{sets_of}
 

@@ -11,12 +11,12 @@ use Rattle.rel_base.specs.Validity.{agree_of}
 use Rattle.rel_base.specs.Covers.{CoverLists}
 use Rattle.rel_base.specs.Shows.{Shows}
 use Rattle.rel_base.specs.Batches.{is_live, after, insert_count, delete_count}
-use Rattle.cover_steps.specs.declared.types.Cand.{Cand}
+use Rattle.candidate_cover.specs.declared.cand.Cand.{Cand}
 use Rattle.cover_steps.specs.declared.step.Call.{Call}
 use Rattle.cover_steps.specs.declared.step.Call.TheVariants.{Draw, Refute, Mark, Release, Apply, Settle}
 use Rattle.cover_steps.specs.declared.step.Reply.{Reply}
 use Rattle.cover_steps.specs.declared.step.Reply.TheVariants.{Job, Busy, Settled, Gone, Known, Booked, Marked, Dropped, Released, Applied, Refused, Ready, NotYet, NoMemory}
-use Rattle.cover_steps.specs.Candidates.{is_listed, marked_at, held_at}
+use Rattle.candidate_cover.specs.Cands.{is_listed, marked, holding}
 use Rattle.cover_steps.specs.Core.{Core, cands, first_unfinished, first_drawable, refutes_some, with_cands, booked, with_rows, listed_covers}
 
 -- the first candidate that is unfinished and not held is drawn: it is held from then on, and its job has a snapshot that shows the rows
@@ -25,7 +25,7 @@ pub record Draws (s : Core) (job : JobParts) (new : Core) : Type 0 where
   pub to : job.to ≡ next s.rows
   pub table : IsCodeTable job.snapshot
   pub shows : Shows job.snapshot s.rows
-  pub after : new ≡ with_cands s job.target (map (held_at job.left true) (cands s job.target))
+  pub after : new ≡ with_cands s job.target (holding (cands s job.target) job.left true)
 
 -- all unfinished candidates are held, and this is the first of them
 pub record IsBusy (s : Core) (t : Target) (x : Columns) : Type 0 where
@@ -56,12 +56,12 @@ Refuting s i j NoMemory new = new ≡ s
 Refuting s i j _ new = ⊥
 
 abbrev pub Marking : Core → JobParts → Reply → Core → Type 0
-Marking s job Marked new = (is_listed (cands s job.target) job.left ≡ true) × (new ≡ with_cands s job.target (map (marked_at job.left job.to) (cands s job.target)))
+Marking s job Marked new = (is_listed (cands s job.target) job.left ≡ true) × (new ≡ with_cands s job.target (marked (cands s job.target) job.left job.to))
 Marking s job Dropped new = (is_listed (cands s job.target) job.left ≡ false) × (new ≡ s)
 Marking s job _ new = ⊥
 
 abbrev pub Releasing : Core → JobParts → Reply → Core → Type 0
-Releasing s job Released new = (is_listed (cands s job.target) job.left ≡ true) × (new ≡ with_cands s job.target (map (held_at job.left false) (cands s job.target)))
+Releasing s job Released new = (is_listed (cands s job.target) job.left ≡ true) × (new ≡ with_cands s job.target (holding (cands s job.target) job.left false))
 Releasing s job Dropped new = (is_listed (cands s job.target) job.left ≡ false) × (new ≡ s)
 Releasing s job _ new = ⊥
 

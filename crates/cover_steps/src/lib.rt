@@ -3,7 +3,5 @@
 
 pub mod laws;
 mod step;
-mod types;
 
 pub use step::{Call, Reply};
-pub use types::Cand;
