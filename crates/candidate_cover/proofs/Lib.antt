@@ -1,0 +1,5 @@
+pub mod Evidence
+pub mod Growing
+pub mod Exploring
+pub mod Parts
+pub mod Sorting

@@ -1,0 +1,7 @@
+use Rattle.std.proofs.Common.{◌≡◌, ◌∷◌, [], map, replicate}
+use Rattle.candidate_cover.specs.Cands.{fresh}
+use Rattle.candidate_cover.specs.Marks.{cands}
+use Rattle.candidate_cover.proofs.candidate_cover.CandidateCover.new.Given as goal
+
+abbrev pub invariant-loop-trees : goal.invariant-loop-trees
+invariant-loop-trees l = map cands l.trees.items ≡ replicate l.i (fresh 0 ∷ [])

@@ -1,0 +1,51 @@
+-- Candidates: left sides with their marks, in a list for each target.
+use Rattle.std.specs.Prelude.{if◌then◌else◌, ◌≡◌, ℕ, ◌==◌, Bool, false, List, [], map, max, length, slice_index_or, slice_set}
+use Rattle.std.specs.List.{find, list_any}
+use Rattle.std.specs.Option.{unwrap_or}
+use Rattle.col_set.specs.declared.target.Target.{Target}
+use Rattle.col_set.specs.declared.target.Target.TheVariants.{Col, RowId}
+use Rattle.col_set.specs.ColSet.{Columns, report_cmp}
+use Rattle.col_set.specs.Lists.{Rises}
+use Rattle.candidate_cover.specs.declared.cand.Cand.{Cand}
+use Rattle.candidate_cover.specs.Lists.{CandLists}
+
+-- how many columns there are
+abbrev pub width : CandLists → ℕ
+width c = length c.columns
+
+-- the candidates of a target
+abbrev pub cands_of : CandLists → Target → List Cand
+cands_of c (Col a) = slice_index_or c.columns a []
+cands_of c RowId = c.rows
+
+-- the lists, with these candidates for the target
+abbrev pub with_list : CandLists → Target → List Cand → CandLists
+with_list c (Col a) cands = record { rows = c.rows; columns = slice_set c.columns a cands }
+with_list c RowId cands = record { rows = cands; columns = c.columns }
+
+abbrev pub lefts : List Cand → List Columns
+lefts cands = map (λ c. c.left) cands
+
+-- each left side stands before each later one in report order
+abbrev pub IsInOrder : List Cand → Type 0
+IsInOrder cands = Rises report_cmp (lefts cands)
+
+-- whether the column set is a left side of the list
+abbrev pub is_listed : List Cand → Columns → Bool
+is_listed cands x = list_any (λ c. c.left == x) cands
+
+-- a candidate of which no row is known to keep it
+abbrev pub fresh : Columns → Cand
+fresh x = record { left = x; upto = 1; held = false }
+
+-- the candidate that has this left side, with its marks, and a fresh one where there is none
+abbrev pub kept_or_fresh : List Cand → Columns → Cand
+kept_or_fresh cands x = unwrap_or (find (λ c. c.left == x) cands) (fresh x)
+
+-- the candidate of x is marked up to a row at least, and no longer held
+abbrev pub marked : List Cand → Columns → ℕ → List Cand
+marked cands x to = map (λ c. if c.left == x then record { left = x; upto = max c.upto to; held = false } else c) cands
+
+-- the candidate of x is held or not
+abbrev pub holding : List Cand → Columns → Bool → List Cand
+holding cands x held = map (λ c. if c.left == x then record { left = x; upto = c.upto; held = held } else c) cands

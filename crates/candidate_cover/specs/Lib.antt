@@ -1,0 +1,4 @@
+pub mod Cands
+pub mod Growth
+pub mod Lists
+pub mod Marks

@@ -1,0 +1,235 @@
+// The candidates of all targets.
+ghost use Rattle.std.specs.Prelude.{if◌then◌else◌, ◌≡◌, ◌≤◌, ◌∷◌, [], ◌++◌, ℕ, List, Bool, true, replicate, map, IfOk};
+ghost use Rattle.std.specs.List.{All, find};
+ghost use Rattle.col_set.specs.ColSet.{empty};
+ghost use Rattle.col_set.specs.Target.{IsColumnTarget, has_target};
+ghost use Rattle.col_set.specs.Evidence.{least};
+ghost use Rattle.candidate_cover.specs.Cands as words;
+ghost use Rattle.candidate_cover.specs.Cands.{width, cands_of, with_list, lefts, is_listed, kept_or_fresh, marked, holding, IsInOrder};
+ghost use Rattle.candidate_cover.specs.Marks.{cands};
+ghost use Rattle.candidate_cover.specs.declared.cand.Cand.{Cand};
+ghost use Rattle.candidate_cover.specs.declared.cand.Marking.TheVariants.{Marked, Dropped};
+
+use crate::cand::{Cand, Mark, Marking};
+use crate::explore::explored;
+use crate::growth::choices;
+use crate::part::{Part, generalised, specialised};
+use rel_base::{ColSet, RowNo, Steps, Target};
+use set_tree::SetTree;
+use std::alloc::{AllocError, Global};
+use std::marker::Model;
+use std::sync::ledger::Ledger;
+
+/// For each target, which row it is and each of the columns, its candidates with their marks, in report order.
+///
+/// Contracts see the lists. A candidate takes 32 bytes. A call touches the list of its target alone.
+#[derive(Drop)]
+pub struct CandidateCover {
+    rows: SetTree<Mark>,
+    columns: Vec<SetTree<Mark>>,
+}
+
+impl Model for CandidateCover {
+    ghost use Rattle.std.specs.Prelude.{◌≤◌, map, length};
+    ghost use Rattle.candidate_cover.specs.Lists.{CandLists};
+
+    ghost Value = { CandLists };
+
+    ghost use Rattle.candidate_cover.specs.Marks.{cands};
+
+    ghost view = { λ c. record { rows = cands c.rows; columns = map cands c.columns.items } };
+
+    ghost invariant = { λ c. length c.columns.items ≤ 128 };
+}
+
+impl CandidateCover {
+    /// For each target the empty set alone, of which nothing is known.
+    pub fn new(alloc: Global, columns: u8) -> Result<CandidateCover, AllocError>
+        requires { columns ≤ 128 }
+        ensures { IfOk result (λ cover. cover ≡ record { rows = words.fresh empty ∷ []; columns = replicate columns (words.fresh empty ∷ []) }) }
+    {
+        let rows = opening(alloc)?;
+        let mut trees = Vec::with_capacity(alloc, columns as usize)?;
+        for _ in 0..columns {
+            trees.push(opening(alloc)?)?;
+        }
+        Ok(CandidateCover {
+            rows,
+            columns: trees,
+        })
+    }
+
+    /// How many columns there are.
+    pub fn columns(&self) -> u8
+        ensures width { result ≡ width self.now }
+        ensures bound { result ≤ 128 }
+    {
+        self.columns.len() as u8
+    }
+
+    /// The candidates of a target in report order, with a further agree set z.
+    ///
+    /// Those inside z give way to their extensions by one column outside z and other than the target, of which the minimal ones
+    /// are kept (Papenbrock and Naumann, 2016). Nothing changes here; `put` makes the part the target's list. It copies the
+    /// target's list, and takes in addition the number of candidates inside z times that of those with one column outside it.
+    pub fn specialise(
+        &self,
+        alloc: Global,
+        target: Target,
+        z: ColSet,
+    ) -> Result<Part, AllocError>
+        requires { IsColumnTarget (width self.now) target }
+        ensures least { IfOk result (λ part. (ws : List ℕ) → lefts (cands_of self.now target) ≡ least (width self.now) ws target → lefts part ≡ least (width self.now) (ws ++ z ∷ []) target) }
+        ensures marks { IfOk result (λ part. part ≡ map (kept_or_fresh (cands_of self.now target)) (lefts part)) }
+    {
+        let tree = SetTree::of_list(self.tree(target).list(alloc)?);
+        let tree = if z.has_target(target) {
+            tree
+        } else {
+            specialised(alloc, self.columns(), target, z, tree)?
+        };
+        Ok(Part { tree })
+    }
+
+    /// The candidates of a target in report order, where the withdrawn agree sets have left the rest.
+    ///
+    /// What comes back lies inside a withdrawn set that lacks the target and inside no such set of the rest; candidates that
+    /// contain one of these are dropped. Nothing changes here; `put` makes the part the target's list. A step is one test of a
+    /// column set against an agree set. It copies the target's list, compares it with each set that comes back, and takes for
+    /// each withdrawn set that lies inside no other a pass over the rest.
+    pub fn generalise<L: Ledger>(
+        &self,
+        alloc: Global,
+        target: Target,
+        rest: &[ColSet],
+        withdrawn: &[ColSet],
+        steps: &mut Steps<L>,
+    ) -> Result<Part, AllocError>
+        requires target { IsColumnTarget (width self.now) target }
+        requires least { lefts (cands_of self.now target) ≡ least (width self.now) (rest.now ++ withdrawn.now) target }
+        ensures least { IfOk result (λ part. lefts part ≡ least (width self.now) rest.now target) }
+        ensures marks { IfOk result (λ part. part ≡ map (kept_or_fresh (cands_of self.now target)) (lefts part)) }
+        ensures idle { All (λ w. has_target w target ≡ true) withdrawn.now → steps.new ≡ steps.old }
+    {
+        let columns = self.columns();
+        let choices = choices(columns, target);
+        let sets = explored(alloc, columns, choices, target, rest, withdrawn, steps)?;
+        let list = self.tree(target).list(alloc)?;
+        let tree = generalised(alloc, sets, list)?;
+        Ok(Part { tree })
+    }
+
+    /// Makes the part the target's list.
+    pub fn put(&mut self, target: Target, part: Part)
+        requires { IsColumnTarget (width self.old) target }
+        ensures { self.new ≡ with_list self.old target part }
+    {
+        let tree = part.tree;
+        match target {
+            Target::Col(column) => self.columns[column as usize] = tree,
+            Target::RowId => self.rows = tree,
+        }
+    }
+
+    /// Notes that a candidate holds among the rows below `to`, and lets go of it. Where it is not listed, nothing changes.
+    pub fn mark(&mut self, target: Target, x: ColSet, to: RowNo) -> Marking
+        requires { IsColumnTarget (width self.old) target }
+        ensures answer { result ≡ (if is_listed (cands_of self.old target) x then Marked else Dropped) }
+        ensures list { self.new ≡ with_list self.old target (marked (cands_of self.old target) x to) }
+    {
+        match target {
+            Target::Col(column) => mark_in(&mut self.columns[column as usize], x, to),
+            Target::RowId => mark_in(&mut self.rows, x, to),
+        }
+    }
+
+    /// Holds a candidate or lets go of it, and answers whether it is listed. Where it is not, nothing changes.
+    pub fn hold(&mut self, target: Target, x: ColSet, held: bool) -> bool
+        requires { IsColumnTarget (width self.old) target }
+        ensures answer { result ≡ is_listed (cands_of self.old target) x }
+        ensures list { self.new ≡ with_list self.old target (holding (cands_of self.old target) x held) }
+    {
+        match target {
+            Target::Col(column) => hold_in(&mut self.columns[column as usize], x, held),
+            Target::RowId => hold_in(&mut self.rows, x, held),
+        }
+    }
+
+    /// The first candidate of a target in report order that meets the test.
+    pub fn first<F: Fn(Cand) -> bool>(&self, target: Target, test: F) -> Option<Cand>
+        requires target { IsColumnTarget (width self.now) target }
+        requires test { F.IsAlwaysCallable test }
+        ensures { (p : Cand → Bool) → ((c : Cand) (b : Bool) → F.post test c b → b ≡ p c) → result ≡ find p (cands_of self.now target) }
+    {
+        let found = self
+            .tree(target)
+            .first(|left, mark| requires { F.pre test (record { left = left; upto = mark.upto; held = mark.held }) } { test(mark.of(left)) });
+        match found {
+            Some((left, mark)) => Some(mark.of(left)),
+            None => None,
+        }
+    }
+
+    /// The candidates of a target in report order.
+    pub fn list(&self, alloc: Global, target: Target) -> Result<Vec<Cand>, AllocError>
+        requires { IsColumnTarget (width self.now) target }
+        ensures list { IfOk result (λ list. list.items ≡ cands_of self.now target) }
+        ensures order { IsInOrder (cands_of self.now target) }
+    {
+        let pairs = self.tree(target).list(alloc)?;
+        let mut list = Vec::with_capacity(alloc, pairs.len())?;
+        for pair in pairs.as_slice() {
+            list.push(pair.1.of(pair.0))?;
+        }
+        Ok(list)
+    }
+
+    // The candidates of a target.
+    fn tree(&self, target: Target) -> &SetTree<Mark>
+        requires { IsColumnTarget (width self.now) target }
+        ensures { cands result.now ≡ cands_of self.now target }
+    {
+        match target {
+            Target::Col(column) => &self.columns[column as usize],
+            Target::RowId => &self.rows,
+        }
+    }
+}
+
+// The empty set, of which nothing is known.
+fn opening(alloc: Global) -> Result<SetTree<Mark>, AllocError>
+    ensures { IfOk result (λ tree. cands tree ≡ words.fresh empty ∷ []) }
+{
+    let mut tree = SetTree::new(alloc);
+    tree.insert(ColSet::empty(), Mark::fresh())?;
+    Ok(tree)
+}
+
+fn mark_in(tree: &mut SetTree<Mark>, x: ColSet, to: RowNo) -> Marking
+    ensures answer { result ≡ (if is_listed (cands tree.old) x then Marked else Dropped) }
+    ensures list { cands tree.new ≡ marked (cands tree.old) x to }
+{
+    match tree.get(x) {
+        Some(mark) => {
+            tree.set(x, mark.marked(to));
+            Marking::Marked
+        }
+        None => Marking::Dropped,
+    }
+}
+
+fn hold_in(tree: &mut SetTree<Mark>, x: ColSet, held: bool) -> bool
+    ensures answer { result ≡ is_listed (cands tree.old) x }
+    ensures list { cands tree.new ≡ holding (cands tree.old) x held }
+{
+    match tree.get(x) {
+        Some(mark) => tree.set(
+            x,
+            Mark {
+                upto: mark.upto,
+                held,
+            },
+        ),
+        None => false,
+    }
+}

@@ -1,0 +1,120 @@
+// How candidates grow past one more agree set, over lists of column sets.
+ghost use Rattle.std.specs.Prelude.{◌≡◌, ◌≤◌, ◌<◌, ◌++◌, ◌&&◌, not, map, OnOk, IfOk, false};
+ghost use Rattle.std.specs.List.{list_any};
+ghost use Rattle.col_set.specs.ColSet.{subset, has, with};
+ghost use Rattle.col_set.specs.Target.{IsColumnTarget};
+ghost use Rattle.candidate_cover.specs.Growth as words;
+
+use rel_base::{ColSet, Target};
+use std::alloc::{AllocError, Global};
+
+// The first columns but the target.
+pub(crate) fn choices(columns: u8, target: Target) -> ColSet
+    requires columns { columns ≤ 128 }
+    requires target { IsColumnTarget columns target }
+    ensures { result ≡ words.choices columns target }
+{
+    match target {
+        Target::Col(column) => ColSet::all(columns).without(column),
+        Target::RowId => ColSet::all(columns),
+    }
+}
+
+// Whether one of the sets lies inside x.
+pub(crate) fn has_subset(sets: &[ColSet], x: ColSet) -> bool
+    ensures { result ≡ list_any (λ y. subset y x) sets.now }
+{
+    sets.iter().any(|y| y.subset_of(x))
+}
+
+// The sets with exactly one column outside z.
+pub(crate) fn near(alloc: Global, z: ColSet, sets: &[ColSet]) -> Result<Vec<ColSet>, AllocError>
+    ensures { IfOk result (λ found. found.items ≡ words.near z sets.now) }
+{
+    let mut found = Vec::new(alloc);
+    for x in sets {
+        if x.minus(z).len() == 1 {
+            found.push(*x)?;
+        }
+    }
+    Ok(found)
+}
+
+// The sets that have the column.
+fn having(alloc: Global, column: u8, sets: &[ColSet]) -> Result<Vec<ColSet>, AllocError>
+    requires { column < 128 }
+    ensures { IfOk result (λ found. found.items ≡ words.having column sets.now) }
+{
+    let mut found = Vec::new(alloc);
+    for x in sets {
+        if x.has(column) {
+            found.push(*x)?;
+        }
+    }
+    Ok(found)
+}
+
+// Adds each set with the column more, unless a blocker lies inside it.
+fn push_grown(
+    grown: &mut Vec<ColSet>,
+    blockers: &[ColSet],
+    column: u8,
+    inside: &[ColSet],
+) -> Result<(), AllocError>
+    requires { column < 128 }
+    ensures { OnOk result (grown.new.items ≡ grown.old.items ++ words.unblocked blockers.now (map (λ c. with c column) inside.now)) }
+{
+    for c in inside {
+        let x = c.with(column);
+        if !has_subset(blockers, x) {
+            grown.push(x)?;
+        }
+    }
+    Ok(())
+}
+
+// Adds each set with the column more, where no set near by lies inside it.
+fn push_grown_by(
+    alloc: Global,
+    grown: &mut Vec<ColSet>,
+    near: &[ColSet],
+    column: u8,
+    inside: &[ColSet],
+) -> Result<(), AllocError>
+    requires { column < 128 }
+    ensures { OnOk result (grown.new.items ≡ grown.old.items ++ words.grown_by inside.now near.now column) }
+{
+    let blockers = having(alloc, column, near)?;
+    push_grown(grown, blockers.as_slice(), column, inside)
+}
+
+// Whether the column is one of these and outside z.
+fn is_choice(choices: ColSet, z: ColSet, column: u8) -> bool
+    requires { column < 128 }
+    ensures { result ≡ (has choices column && not (has z column)) }
+{
+    choices.has(column) && !z.has(column)
+}
+
+// The sets that lie inside z, each with one column more that is outside z and among the choices. Of the candidates that
+// do not lie inside z, only those with one column outside it can lie inside such a set: where one does, the set is none of
+// the least. So the time grows with the number of sets inside z times that of those near by.
+pub(crate) fn grown(
+    alloc: Global,
+    columns: u8,
+    choices: ColSet,
+    z: ColSet,
+    inside: &[ColSet],
+    near: &[ColSet],
+) -> Result<Vec<ColSet>, AllocError>
+    requires { columns ≤ 128 }
+    ensures { IfOk result (λ sets. sets.items ≡ words.grown columns choices z inside.now near.now) }
+{
+    let mut sets = Vec::new(alloc);
+    for column in 0..columns {
+        if is_choice(choices, z, column) {
+            push_grown_by(alloc, &mut sets, near, column, inside)?;
+        }
+    }
+    Ok(sets)
+}

@@ -1,0 +1,15 @@
+//! The positive cover of HyFD (Papenbrock and Naumann, 2016): for each target the left sides that no agree set refutes and
+//! of which no part is such a set, each with the rows that it is known to hold in.
+#![tactic(auto)]
+
+mod cand;
+mod candidate_cover;
+mod explore;
+mod growth;
+mod part;
+#[cfg(test)]
+mod tests;
+
+pub use cand::{Cand, Marking};
+pub use candidate_cover::CandidateCover;
+pub use part::Part;
