@@ -1,7 +1,10 @@
 //! Verdicts on dependencies that are known to hold among older rows: each newer row is compared at most once.
 #![tactic(auto)]
 
+mod judge;
+mod refined;
 mod verdict;
 mod walk;
 
+pub use judge::validate;
 pub use verdict::Verdict;

@@ -91,21 +91,21 @@ fn reach(slots: &mut Vec<u32>, slot: usize) -> Result<(), AllocError>
 fn pair_in<L: Ledger>(
     group: &[RowNo],
     snapshot: &Snapshot,
-    question: Question,
+    question: &Question,
     slots: &mut Vec<u32>,
     steps: &mut Steps<L>,
 ) -> Result<Option<(RowNo, RowNo)>, AllocError>
     requires given { All (λ row. row < snapshot.now.to) group.now }
     requires positive { All (λ row. 0 < row) group.now }
     requires rising { IsStrictlyIncreasing group.now }
-    requires target { IsColumnTarget (length snapshot.now.codes) question.target }
-    requires column { ForSome question.by (λ column. column < length snapshot.now.codes) }
+    requires target { IsColumnTarget (length snapshot.now.codes) question.now.target }
+    requires column { ForSome question.now.by (λ column. column < length snapshot.now.codes) }
     requires clear { IsClear slots.old.items }
-    ensures pair { IfOk result (IsCompared snapshot.now question.by question.target question.from group.now) }
-    ensures clear { OnOk result (IsClearBut snapshot.now question.by group.now slots.new.items) }
-    ensures steps { steps.new ≤ steps.old + count_by (λ i. nat_le question.from i) group.now }
+    ensures pair { IfOk result (IsCompared snapshot.now question.now.by question.now.target question.now.from group.now) }
+    ensures clear { OnOk result (IsClearBut snapshot.now question.now.by group.now slots.new.items) }
+    ensures steps { steps.new ≤ steps.old + count_by (λ i. nat_le question.now.from i) group.now }
 {
-    let Question { target, by, from } = question;
+    let Question { target, by, from } = *question;
     for row in group {
         let slot = key(snapshot, by, *row);
         reach(slots, slot)?;
@@ -141,4 +141,56 @@ fn has_new(group: &[RowNo], from: RowNo) -> bool
     ensures { result ≡ false → All (λ row. row < from) group.now }
 {
     group[group.len() - 1].number() >= from.number()
+}
+
+// The same for a group of which all may be old, and it clears the slots again.
+fn pair_of_group<L: Ledger>(
+    group: &[RowNo],
+    snapshot: &Snapshot,
+    question: &Question,
+    slots: &mut Vec<u32>,
+    steps: &mut Steps<L>,
+) -> Result<Option<(RowNo, RowNo)>, AllocError>
+    requires some { 0 < length group.now }
+    requires given { All (λ row. row < snapshot.now.to) group.now }
+    requires positive { All (λ row. 0 < row) group.now }
+    requires rising { IsStrictlyIncreasing group.now }
+    requires target { IsColumnTarget (length snapshot.now.codes) question.now.target }
+    requires column { ForSome question.now.by (λ column. column < length snapshot.now.codes) }
+    requires clear { IsClear slots.old.items }
+    ensures pair { IfOk result (IsCompared snapshot.now question.now.by question.now.target question.now.from group.now) }
+    ensures clear { OnOk result (IsClear slots.new.items) }
+    ensures steps { steps.new ≤ steps.old + count_by (λ i. nat_le question.now.from i) group.now }
+{
+    if !has_new(group, question.from) {
+        return Ok(None);
+    }
+    let pair = pair_in(group, snapshot, question, slots, steps)?;
+    clear(slots, group, snapshot, question.by);
+    Ok(pair)
+}
+
+// In the first group that has one, two rows with one code in the further column that differ on the target.
+pub(crate) fn first_pair<L: Ledger>(
+    partition: &Partition,
+    snapshot: &Snapshot,
+    question: &Question,
+    slots: &mut Vec<u32>,
+    steps: &mut Steps<L>,
+) -> Result<Option<(RowNo, RowNo)>, AllocError>
+    requires of { IsPartitionOf snapshot.now partition.now }
+    requires target { IsColumnTarget (length snapshot.now.codes) question.now.target }
+    requires column { ForSome question.now.by (λ column. column < length snapshot.now.codes) }
+    requires clear { IsClear slots.old.items }
+    ensures pair { IfOk result (λ pair. (x : Columns) → partition.now ≡ stripped snapshot.now x → holds_in_below question.now.from snapshot.now (plus x question.now.by) question.now.target ≡ true → IsFound snapshot.now (plus x question.now.by) question.now.target pair) }
+    ensures clear { OnOk result (IsClear slots.new.items) }
+    ensures steps { steps.new ≤ steps.old + new_rows snapshot.now question.now.from }
+{
+    for k in 0..partition.group_count() {
+        let pair = pair_of_group(partition.group(k), snapshot, question, slots, steps)?;
+        if pair.is_some() {
+            return Ok(pair);
+        }
+    }
+    Ok(None)
 }

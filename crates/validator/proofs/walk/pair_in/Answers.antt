@@ -62,7 +62,7 @@ module _ (s : CodeTable) (by : Option ℕ) (t : Target) (from : ℕ) (group : Li
 pub are_apart-requires-clause-first : goal.are_apart-requires-clause-first
 are_apart-requires-clause-first g c =
     let m : c.key-slot.result < length c.reach.new.slots.items = (let r = c.in_ok-reach.ensures.room in omega (arith, c.reach.new.slots.ok.0)) in
-    given c.args.snapshot.now c.args.question.by c.args.question.target c.args.question.from c.args.group.now c.loop-row.row-index c.loop-row.slots.items c.reach.new.slots.items c.loop-row.steps c.args.steps.now
+    given c.args.snapshot.now c.args.question.now.by c.args.question.now.target c.args.question.now.from c.args.group.now c.loop-row.row-index c.loop-row.slots.items c.reach.new.slots.items c.loop-row.steps c.args.steps.now
     c.key-slot.result c.row-item.result c.index-first.result.now c.loop-row-test.true c.loop-row.invariant c.reach.ensures.kept
     (get_or_read c.args.group.now c.loop-row.row-index c.row-item.result c.loop-row-test.true c.row-item.is 0) c.key-slot.ensures.value
     (get_or_read c.reach.new.slots.items c.key-slot.result c.index-first.result.now m c.index-first.ensures 0)
@@ -71,17 +71,17 @@ are_apart-requires-clause-first g c =
 pub returns-then-are_apart-clause-pair : goal.returns-then-are_apart-clause-pair
 returns-then-are_apart-clause-pair g c =
     let m : c.key-slot.result < length c.reach.new.slots.items = (let r = c.in_ok-reach.ensures.room in omega (arith, c.reach.new.slots.ok.0)) in
-    apart c.args.snapshot.now c.args.question.by c.args.question.target c.args.question.from c.args.group.now c.loop-row.row-index c.loop-row.slots.items c.reach.new.slots.items c.loop-row.steps c.args.steps.now
+    apart c.args.snapshot.now c.args.question.now.by c.args.question.now.target c.args.question.now.from c.args.group.now c.loop-row.row-index c.loop-row.slots.items c.reach.new.slots.items c.loop-row.steps c.args.steps.now
     c.key-slot.result c.row-item.result c.index-first.result.now c.loop-row-test.true c.loop-row.invariant c.reach.ensures.kept
     (get_or_read c.args.group.now c.loop-row.row-index c.row-item.result c.loop-row-test.true c.row-item.is 0) c.key-slot.ensures.value
     (get_or_read c.reach.new.slots.items c.key-slot.result c.index-first.result.now m c.index-first.ensures 0)
     c.of-then-are_apart.result c.requires.rising c.if-first-eq0.false c.of-then-are_apart.ensures
-    (subst (λ (i : ℕ). has_target (code_agree c.args.snapshot.now i c.row-item.result) c.args.question.target ≡ false) (c.of.ensures ∙ sym c.of-then-are_apart.ensures) (c.are_apart.ensures.apart c.if-are_apart.true))
+    (subst (λ (i : ℕ). has_target (code_agree c.args.snapshot.now i c.row-item.result) c.args.question.now.target ≡ false) (c.of.ensures ∙ sym c.of-then-are_apart.ensures) (c.are_apart.ensures.apart c.if-are_apart.true))
 
 pub returns-then-are_apart-clause-clear : goal.returns-then-are_apart-clause-clear
 returns-then-are_apart-clause-clear g c =
     let m : c.key-slot.result < length c.reach.new.slots.items = (let r = c.in_ok-reach.ensures.room in omega (arith, c.reach.new.slots.ok.0)) in
-    clear c.args.snapshot.now c.args.question.by c.args.question.target c.args.question.from c.args.group.now c.loop-row.row-index c.loop-row.slots.items c.reach.new.slots.items c.loop-row.steps c.args.steps.now
+    clear c.args.snapshot.now c.args.question.now.by c.args.question.now.target c.args.question.now.from c.args.group.now c.loop-row.row-index c.loop-row.slots.items c.reach.new.slots.items c.loop-row.steps c.args.steps.now
     c.key-slot.result c.row-item.result c.index-first.result.now c.loop-row-test.true c.loop-row.invariant c.reach.ensures.kept
     (get_or_read c.args.group.now c.loop-row.row-index c.row-item.result c.loop-row-test.true c.row-item.is 0) c.key-slot.ensures.value
     (get_or_read c.reach.new.slots.items c.key-slot.result c.index-first.result.now m c.index-first.ensures 0)
@@ -89,7 +89,7 @@ returns-then-are_apart-clause-clear g c =
 pub returns-then-are_apart-clause-steps : goal.returns-then-are_apart-clause-steps
 returns-then-are_apart-clause-steps g c =
     let m : c.key-slot.result < length c.reach.new.slots.items = (let r = c.in_ok-reach.ensures.room in omega (arith, c.reach.new.slots.ok.0)) in
-    few c.args.snapshot.now c.args.question.by c.args.question.target c.args.question.from c.args.group.now c.loop-row.row-index c.loop-row.slots.items c.reach.new.slots.items c.loop-row.steps c.args.steps.now
+    few c.args.snapshot.now c.args.question.now.by c.args.question.now.target c.args.question.now.from c.args.group.now c.loop-row.row-index c.loop-row.slots.items c.reach.new.slots.items c.loop-row.steps c.args.steps.now
     c.key-slot.result c.row-item.result c.index-first.result.now c.loop-row-test.true c.loop-row.invariant c.reach.ensures.kept
     (get_or_read c.args.group.now c.loop-row.row-index c.row-item.result c.loop-row-test.true c.row-item.is 0) c.key-slot.ensures.value
     (get_or_read c.reach.new.slots.items c.key-slot.result c.index-first.result.now m c.index-first.ensures 0)
@@ -102,11 +102,11 @@ loop-row-preserved g c =
     let f = get_or_read c.reach.new.slots.items c.key-slot.result c.index-first.result.now m c.index-first.ensures 0 in
     elim c.if-first-eq0.branch [
       | then-first-eq0 w ↦
-          new c.args.snapshot.now c.args.question.by c.args.question.target c.args.question.from c.args.group.now c.loop-row.row-index c.loop-row.slots.items c.reach.new.slots.items c.loop-row.steps c.args.steps.now
+          new c.args.snapshot.now c.args.question.now.by c.args.question.now.target c.args.question.now.from c.args.group.now c.loop-row.row-index c.loop-row.slots.items c.reach.new.slots.items c.loop-row.steps c.args.steps.now
           c.key-slot.result c.row-item.result c.index-first.result.now c.loop-row-test.true c.loop-row.invariant c.reach.ensures.kept x c.key-slot.ensures.value f
           c.requires.positive m w.if-first-eq0.true c.if-first-eq0.slots.items w.number.result c.if-first-eq0.steps w.number.ensures.value (ap (λ (v : Vec ℕ Global). v.items) w.slots-is) w.steps-is
       | else-first-eq0+else-are_apart w ↦
-          old c.args.snapshot.now c.args.question.by c.args.question.target c.args.question.from c.args.group.now c.loop-row.row-index c.loop-row.slots.items c.reach.new.slots.items c.loop-row.steps c.args.steps.now
+          old c.args.snapshot.now c.args.question.now.by c.args.question.now.target c.args.question.now.from c.args.group.now c.loop-row.row-index c.loop-row.slots.items c.reach.new.slots.items c.loop-row.steps c.args.steps.now
           c.key-slot.result c.row-item.result c.index-first.result.now c.loop-row-test.true c.loop-row.invariant c.reach.ensures.kept x c.key-slot.ensures.value f
           w.if-first-eq0.false w.of.result w.are_apart.new.steps w.of.ensures (w.are_apart.ensures.alike w.if-are_apart.false) w.are_apart.ensures.steps
           c.if-first-eq0.slots.items c.if-first-eq0.steps (ap (λ (v : Vec ℕ Global). v.items) w.slots-is) w.steps-is
