@@ -1,7 +1,6 @@
 -- A pair of rows shows that a dependency does not hold.
-use Rattle.std.proofs.Common.{◌≡◌, ◌≢◌, ℕ, ◌<◌, ◌↔◌, Bool, true, false, ap, sym, ◌∙◌, arith}
+use Rattle.std.proofs.Common.{◌≡◌, ℕ, ◌<◌, ◌↔◌, true, ap, sym, ◌∙◌, arith}
 use Rattle.std.proofs.lemmas.Bool.{true≢false}
-use Rattle.rel_base.specs.CodeTable.{CodeTable}
 use Rattle.rel_base.specs.JobParts.{JobParts}
 use Rattle.rel_base.specs.Shows.{holds_in}
 use Rattle.rel_base.proofs.Shown.{HoldsIn-tested}

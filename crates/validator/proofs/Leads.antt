@@ -1,11 +1,11 @@
 -- The first rows of keys, as rows come one after another.
-use Rattle.std.proofs.Common.{inl, inr, ◌≡◌, ◌≢◌, ◌⊎◌, ℕ, zero, suc, ◌+◌, ◌<◌, ◌≤◌, Bool, true, false, cond, eqb, ltb, leb, refl, sym, ap, ap₂, ◌∙◌, subst, arith, List, [], ◌∷◌, ◌++◌, length, get_or, set, take, drop, append-nil, Option}
-use Rattle.std.specs.List.{filter, count_by, sum_by, All}
-use Rattle.std.proofs.lemmas.Bool.{eqb-true, eq-eqb, ne_eqb, cases_eq, cases_lt, cases_Bool, leb-true, le-leb}
+use Rattle.std.proofs.Common.{inl, inr, ◌≡◌, ◌≢◌, ◌⊎◌, ℕ, zero, suc, ◌+◌, ◌<◌, ◌≤◌, Bool, true, false, cond, eqb, leb, refl, sym, ap, ap₂, ◌∙◌, subst, arith, List, [], ◌∷◌, ◌++◌, length, get_or, set, take, drop, append-nil, Option}
+use Rattle.std.specs.List.{filter, count_by}
+use Rattle.std.proofs.lemmas.Bool.{eqb-true, eq-eqb, ne_eqb, cases_eq, cases_lt}
 use Rattle.std.proofs.lemmas.List.{take_more, take_all, drop_all, get_or-set_same, get_or-set_other, get_or_past, length-set}
 use Rattle.std.proofs.Math.Seq.{drop-cons}
 use Rattle.std.proofs.lemmas.List.Elements.{filter-append}
-use Rattle.std.proofs.lemmas.List.Sums.{sum_by_more, sum_by-append, sum_by-cons}
+use Rattle.std.proofs.lemmas.List.Sums.{sum_by_more, sum_by-cons}
 use Rattle.col_set.specs.declared.target.Target.{Target}
 use Rattle.col_set.specs.Lists.{Listed, Listed-append_cases, Listed-filter, Listed-filter_parts}
 use Rattle.col_set.proofs.Places.{Climbs, Listed-get_or}
@@ -15,8 +15,6 @@ use Rattle.rel_base.specs.Shows.{code_agree}
 use Rattle.validator.specs.Walk.{key, first_with, IsUniform, IsApart, IsMarked, IsClearBut, IsClear}
 
 -- ---- the first of a list of positive numbers, or 0
-
-
 
 head_left : (xs ys : List ℕ) (i : ℕ) → Listed i xs → get_or (xs ++ ys) 0 0 ≡ get_or xs 0 0
 head_left [] ys i h = absurd h

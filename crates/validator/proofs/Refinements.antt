@@ -1,16 +1,13 @@
 -- Partitions refined column by column.
-use Rattle.std.proofs.Common.{inl, inr, ◌≡◌, ℕ, ◌+◌, ◌<◌, ◌≤◌, ◌^◌, Bool, true, false, not, ◌&&◌, ◌||◌, eqb, refl, sym, ap, ap₂, ◌∙◌, subst, arith, List, [], ◌∷◌, length, Option, Some, None}
-use Rattle.std.specs.Option.{ForSome}
-use Rattle.std.proofs.lemmas.Bool.{true≢false, false≢true, eqb-true, eq-eqb, cases_eq, cases_Bool, ne_eqb}
-use Rattle.col_set.specs.ColSet.{empty, has, with, without, union, columns, first, set_of}
-use Rattle.col_set.specs.Lists.{Listed}
+use Rattle.std.proofs.Common.{◌≡◌, ℕ, ◌<◌, ◌^◌, Bool, true, false, not, ◌&&◌, ◌||◌, eqb, refl, sym, ap, ap₂, ◌∙◌, arith, List, length, Some, None}
+use Rattle.std.proofs.lemmas.Bool.{eqb-true}
+use Rattle.col_set.specs.ColSet.{empty, has, with, without, union, first, set_of}
 use Rattle.col_set.specs.Members.{has-empty, has-union, has-with, has-without, same_set}
 use Rattle.col_set.specs.Subsets.{has_within}
 use Rattle.col_set.specs.AllSets.{set_of-columns}
-use Rattle.col_set.proofs.EachColumn.{Listed-columns, Rest, first-Some, first-None}
+use Rattle.col_set.proofs.EachColumn.{Rest, first-Some, first-None}
 use Rattle.rel_base.specs.CodeTable.{CodeTable}
 use Rattle.stripped_partition.specs.Stripped.{stripped, IsPartitionOf}
-use Rattle.validator.specs.Walk.{plus}
 
 -- a set without columns
 pub no_columns : (x : ℕ) → None ≡ first x → x ≡ empty

@@ -1,6 +1,6 @@
 -- What the comparisons in all groups say of a dependency that holds among the older rows.
-use Rattle.std.proofs.Common.{inl, inr, ◌≡◌, ◌≢◌, ◌⊎◌, ℕ, zero, suc, ◌+◌, ◌<◌, ◌≤◌, Bool, true, false, eqb, leb, refl, sym, ap, ◌∙◌, subst, arith, List, [], ◌∷◌, ◌++◌, length, get_or, take, cond, append-nil, append_assoc, Option, Some, None, is_some}
-use Rattle.std.specs.List.{filter, count_by, concat, flat_map, All}
+use Rattle.std.proofs.Common.{inl, inr, ◌≡◌, ◌≢◌, ◌⊎◌, ℕ, zero, suc, ◌+◌, ◌<◌, ◌≤◌, true, false, eqb, leb, refl, sym, ap, ◌∙◌, subst, arith, List, [], ◌∷◌, ◌++◌, length, get_or, take, cond, append-nil, append_assoc, Option, Some, None, is_some}
+use Rattle.std.specs.List.{filter, concat, All}
 use Rattle.std.specs.List.Sorted.{IsStrictlyIncreasing}
 use Rattle.std.specs.Option.{ForSome}
 use Rattle.std.proofs.lemmas.Bool.{true≢false, false≢true, eqb-true, eq-eqb, cases_eq, cases_lt}
@@ -8,23 +8,22 @@ use Rattle.std.proofs.lemmas.List.{take_more, take_all}
 use Rattle.std.proofs.lemmas.List.Sums.{sum_by-append}
 use Rattle.col_set.specs.declared.target.Target.{Target}
 use Rattle.col_set.specs.declared.target.Target.TheVariants.{Col, RowId}
-use Rattle.col_set.specs.ColSet.{has, with, IsSubset}
 use Rattle.col_set.specs.Lists.{Listed, Listed-append_cases, Listed-filter, Listed-filter_parts}
 use Rattle.col_set.specs.Target.{has_target, IsColumnTarget}
-use Rattle.col_set.proofs.Places.{Climbs, Climbs-increasing, Listed-get_or, Contains-listed, Listed-contained}
-use Rattle.rel_base.specs.CodeTable.{CodeTable, code_at}
+use Rattle.col_set.proofs.Places.{Listed-get_or, Contains-listed}
+use Rattle.rel_base.specs.CodeTable.{CodeTable}
 use Rattle.rel_base.specs.Shows.{code_agree, live_numbers, holds_in, holds_in_below, HoldsInBelow}
 use Rattle.rel_base.proofs.Shown.{HoldsInBelow-tested}
 use Rattle.rel_base.proofs.States.{All-from, increasing-Climbs}
 use Rattle.rel_base.proofs.Valid.{Climbs-filter}
 use Rattle.stripped_partition.specs.Stripped.{group_of, agree_on, stripped, IsPartitionOf}
-use Rattle.stripped_partition.proofs.Agreeing.{code_agree-parts, code_agree-from, agree_on-subset, subset-agree_on, agree_same, agree_on-with_parts, agree_on-with}
+use Rattle.stripped_partition.proofs.Agreeing.{code_agree-parts, code_agree-from, agree_on-subset, subset-agree_on, agree_on-with_parts, agree_on-with}
 use Rattle.stripped_partition.proofs.Dependencies.{held_from, in_group, stripped-parts, together, group_ascends, RowsStandOnce-stripped}
 use Rattle.stripped_partition.proofs.Grouped.{first_least}
 use Rattle.stripped_partition.proofs.Live.{live_within}
 use Rattle.validator.specs.Verdicts.{IsBreach, IsFound, new_rows}
 use Rattle.validator.specs.Walk.{key, plus, first_with, IsUniform, IsApart, IsCompared, IsClear}
-use Rattle.validator.proofs.Leads.{newer, first_listed}
+use Rattle.validator.proofs.Leads.{newer}
 use Rattle.validator.proofs.Targets.{target-column, target-row}
 
 -- ---- agreement on the columns and the further one

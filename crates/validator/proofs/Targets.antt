@@ -1,9 +1,7 @@
 -- Targets by codes.
-use Rattle.std.proofs.Common.{inl, inr, ◌≡◌, ℕ, ◌<◌, ◌≤◌, ◌+◌, Bool, true, false, eqb, refl, sym, ap, ◌∙◌, subst, arith, List, [], ◌∷◌, length, get_or, zero, suc}
+use Rattle.std.proofs.Common.{inl, inr, ◌≡◌, ℕ, ◌<◌, ◌≤◌, ◌+◌, false, eqb, refl, arith, List, [], ◌∷◌, length, get_or, zero, suc}
 use Rattle.std.proofs.lemmas.Bool.{eqb-true, eq-eqb}
-use Rattle.col_set.specs.declared.target.Target.{Target}
 use Rattle.col_set.specs.declared.target.Target.TheVariants.{Col, RowId}
-use Rattle.col_set.specs.ColSet.{has}
 use Rattle.col_set.specs.Lists.{Listed}
 use Rattle.col_set.specs.Subsets.{same_test}
 use Rattle.col_set.specs.Target.{has_target}

@@ -4,9 +4,8 @@ ghost use Rattle.rel_base.specs.Shows.{holds_in};
 ghost use Rattle.validator.specs.Verdicts.{IsFound, IsFitting, IsVerdict, new_rows};
 ghost use Rattle.validator.specs.declared.verdict.Verdict.TheVariants.{Holds};
 
-use crate::Verdict;
-use crate::refined;
 use crate::walk::{self, Question};
+use crate::{Verdict, refined};
 use rel_base::{Job, RowNo, Steps};
 use std::alloc::{AllocError, Global};
 use std::sync::ledger::Ledger;

@@ -3,6 +3,8 @@
 
 mod judge;
 mod refined;
+#[cfg(test)]
+mod tests;
 mod verdict;
 mod walk;
 

@@ -1,6 +1,6 @@
-use Rattle.std.proofs.Common.{◌≡◌, ◌<◌, ◌^◌, ℕ, Option, Some, length, sym, ap, ◌∙◌, subst, arith}
+use Rattle.std.proofs.Common.{◌<◌, ◌^◌, ℕ, length, sym, ap, ◌∙◌, subst, arith}
 use Rattle.std.proofs.lemmas.Option.{same_Some}
-use Rattle.col_set.specs.ColSet.{with, without}
+use Rattle.col_set.specs.ColSet.{with}
 use Rattle.col_set.specs.Subsets.{has_within}
 use Rattle.col_set.proofs.EachColumn.{first-Some}
 use Rattle.stripped_partition.specs.Stripped.{stripped}

@@ -1,4 +1,4 @@
-use Rattle.std.proofs.Common.{◌≡◌, ◌<◌, ℕ, sym, ap, ◌∙◌, subst}
+use Rattle.std.proofs.Common.{◌<◌, ℕ, sym, subst}
 use Rattle.validator.proofs.Refinements.{Underway, underway_start, underway_end, underway_column, underway_smaller, underway_more}
 use Rattle.validator.proofs.refined.by_each.Goals as goal
 

@@ -1,6 +1,5 @@
-use Rattle.std.proofs.Common.{◌≡◌, ◌<◌, ℕ, length, not, eqb, sym, ap, ap₂, ◌∙◌, subst}
+use Rattle.std.proofs.Common.{◌<◌, ℕ, length, not, eqb, sym, ap, ap₂, ◌∙◌, subst}
 use Rattle.col_set.specs.declared.target.Target.{Target}
-use Rattle.col_set.specs.declared.target.Target.TheVariants.{Col, RowId}
 use Rattle.col_set.specs.Target.{has_target, IsColumnTarget}
 use Rattle.rel_base.specs.Shows.{code_agree}
 use Rattle.validator.proofs.Targets.{target-column, target-row}

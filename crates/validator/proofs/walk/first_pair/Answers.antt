@@ -1,7 +1,6 @@
-use Rattle.std.proofs.Common.{◌≡◌, ◌<◌, ◌≤◌, ℕ, List, length, refl, sym, ap, ◌∙◌, subst, arith}
-use Rattle.stripped_partition.specs.Stripped.{stripped}
+use Rattle.std.proofs.Common.{◌≡◌, ◌<◌, ℕ, sym, ◌∙◌, subst, arith}
 use Rattle.col_set.specs.Lists.{Listed}
-use Rattle.validator.proofs.Soundness.{seen_none, seen_few, seen_more, found_few, found_none, group_listed, group_some, group_given, group_positive, group_rising, none_uniform, some_found}
+use Rattle.validator.proofs.Soundness.{seen_few, seen_more, found_few, found_none, group_listed, group_some, group_given, group_positive, group_rising, none_uniform, some_found}
 use Rattle.validator.proofs.walk.first_pair.Goals as goal
 
 below : (k end n : ℕ) → k < end → end ≡ n → k < n
@@ -37,7 +36,7 @@ returns-then-is_some-clause-pair g c x e held =
     some_found c.args.snapshot.now c.args.question.now.by c.args.question.now.target c.args.question.now.from c.group.result.now c.in_ok-pair.pair (sym c.is_some.ensures ∙ c.if-is_some.true)
     c.in_ok-pair.ensures.pair c.requires.target c.requires.column x
     (subst (Listed c.group.result.now) e (group_listed c.args.snapshot.now c.args.question.now.by c.args.question.now.target c.args.question.now.from c.args.partition.now c.requires.of c.loop-k.k c.group.result.now
-        (below _ _ _ c.loop-k-test.true c.group_count-k-end.ensures) c.group.ensures))
+    (below _ _ _ c.loop-k-test.true c.group_count-k-end.ensures) c.group.ensures))
 
 pub returns-then-is_some-clause-steps : goal.returns-then-is_some-clause-steps
 returns-then-is_some-clause-steps g c =

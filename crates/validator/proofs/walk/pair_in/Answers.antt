@@ -1,4 +1,4 @@
-use Rattle.std.proofs.Common.{◌≡◌, ◌≢◌, ◌<◌, ◌≤◌, ◌+◌, ℕ, List, length, get_or, set, cond, leb, true, false, sym, ap, ap₂, ◌∙◌, subst, subst₂, arith, vec_len, Option, Vec, Global}
+use Rattle.std.proofs.Common.{◌≡◌, ◌≢◌, ◌<◌, ◌≤◌, ◌+◌, ℕ, List, length, get_or, set, cond, leb, true, false, sym, ap, ◌∙◌, subst, subst₂, arith, Option, Vec, Global}
 use Rattle.std.specs.List.{All}
 use Rattle.std.proofs.lemmas.List.{get_or_read}
 use Rattle.col_set.specs.declared.target.Target.{Target}
@@ -9,7 +9,7 @@ use Rattle.rel_base.specs.CodeTable.{CodeTable}
 use Rattle.rel_base.proofs.States.{All-listed}
 use Rattle.rel_base.specs.Shows.{code_agree}
 use Rattle.std.specs.List.Sorted.{IsStrictlyIncreasing}
-use Rattle.validator.specs.Walk.{key, first_with, IsApart, IsClearBut}
+use Rattle.validator.specs.Walk.{key, IsApart, IsClearBut}
 use Rattle.validator.proofs.Leads.{Walked, walked_new, walked_old, walked_apart, walked_clear, walked_few, walked_first, newer}
 use Rattle.validator.proofs.walk.pair_in.Goals as goal
 use Rattle.validator.proofs.walk.pair_in.Goals.{then-first-eq0, else-first-eq0+else-are_apart}
@@ -39,7 +39,7 @@ module _ (s : CodeTable) (by : Option ℕ) (t : Target) (from : ℕ) (group : Li
   apart other up ne e d =
       subst₂ (λ (i j : ℕ). IsApart s by t group i j) (sym (e ∙ f)) (sym x)
       (walked_apart s by t from group k slots room steps start slot l p kept at (Climbs-increasing group up) (above first slot room f ne)
-          (subst₂ (λ (i j : ℕ). has_target (code_agree s i j) t ≡ false) (e ∙ f) x d))
+      (subst₂ (λ (i j : ℕ). has_target (code_agree s i j) t ≡ false) (e ∙ f) x d))
 
   clear : IsClearBut s by group room
   clear = walked_clear s by t from group k slots room steps start slot l p kept at
@@ -57,7 +57,7 @@ module _ (s : CodeTable) (by : Option ℕ) (t : Target) (from : ℕ) (group : Li
   old ne other after e told n end ticks g q =
       subst₂ (λ (xs : List ℕ) (i : ℕ). Walked s by t from group (k + 1) xs i start) (sym g) (sym q)
       (walked_old s by t from group k slots room steps start slot l p kept at (above first slot room f ne)
-          (subst₂ (λ (i j : ℕ). from ≤ j → has_target (code_agree s i j) t ≡ true) (e ∙ f) x told) after (subst (λ (i : ℕ). after ≤ steps + cond (leb from i) 1 0) x n))
+      (subst₂ (λ (i j : ℕ). from ≤ j → has_target (code_agree s i j) t ≡ true) (e ∙ f) x told) after (subst (λ (i : ℕ). after ≤ steps + cond (leb from i) 1 0) x n))
 
 pub are_apart-requires-clause-first : goal.are_apart-requires-clause-first
 are_apart-requires-clause-first g c =

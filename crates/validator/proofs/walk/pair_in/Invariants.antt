@@ -1,4 +1,3 @@
-use Rattle.std.proofs.Common.{length}
 use Rattle.validator.proofs.Leads.{Walked}
 use Rattle.validator.proofs.walk.pair_in.Given as goal
 

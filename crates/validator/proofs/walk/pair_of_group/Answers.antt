@@ -1,4 +1,4 @@
-use Rattle.std.proofs.Common.{◌≡◌, ◌<◌, ℕ, List, true, false, not, sym, ap, ◌∙◌}
+use Rattle.std.proofs.Common.{◌<◌, ℕ}
 use Rattle.std.specs.List.{All}
 use Rattle.rel_base.proofs.States.{All-listed}
 use Rattle.validator.proofs.Leads.{uniform_old}
