@@ -1,0 +1,21 @@
+-- A pair of rows shows that a dependency does not hold.
+use Rattle.std.proofs.Common.{◌≡◌, ℕ, ◌<◌, ◌↔◌, true, ap, sym, ◌∙◌, arith}
+use Rattle.std.proofs.lemmas.Bool.{true≢false}
+use Rattle.rel_base.specs.JobParts.{JobParts}
+use Rattle.rel_base.specs.Shows.{holds_in}
+use Rattle.rel_base.proofs.Shown.{HoldsIn-tested}
+use Rattle.validator.specs.Verdicts.{IsBreach, IsVerdict}
+use Rattle.validator.specs.declared.verdict.Verdict.{Verdict}
+use Rattle.validator.specs.declared.verdict.Verdict.TheVariants.{Holds, Broken}
+
+apart : (i j : ℕ) → i < j → i ≡ j → ⊥
+apart i j l e = omega arith
+
+pub breached : (job : JobParts) (i j : ℕ) → IsBreach job.snapshot job.left job.target i j → holds_in job.snapshot job.left job.target ≡ true → ⊥
+breached job i j b e =
+    true≢false (sym ((HoldsIn-tested job.snapshot job.left job.target e).each i j b.first b.second (apart i j b.rising) b.left) ∙ b.target)
+
+-- a verdict holds exactly where the dependency does
+pub exactly : (job : JobParts) (verdict : Verdict) → IsVerdict job verdict → (verdict ≡ Holds job.to) ↔ (holds_in job.snapshot job.left job.target ≡ true)
+exactly job (Holds to) v = ((λ e. v.1), (λ e. ap Holds v.0))
+exactly job (Broken i j) b = ((λ e. absurd (cc)), (λ e. absurd (breached job i j b e)))

@@ -1,0 +1,5 @@
+pub mod Leads
+pub mod Targets
+pub mod Soundness
+pub mod Refinements
+pub mod Exactly

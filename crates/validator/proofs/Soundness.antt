@@ -1,0 +1,208 @@
+-- What the comparisons in all groups say of a dependency that holds among the older rows.
+use Rattle.std.proofs.Common.{inl, inr, ◌≡◌, ◌≢◌, ◌⊎◌, ℕ, zero, suc, ◌+◌, ◌<◌, ◌≤◌, true, false, eqb, leb, refl, sym, ap, ◌∙◌, subst, arith, List, [], ◌∷◌, ◌++◌, length, get_or, take, cond, append-nil, append_assoc, Option, Some, None, is_some}
+use Rattle.std.specs.List.{filter, concat, All}
+use Rattle.std.specs.List.Sorted.{IsStrictlyIncreasing}
+use Rattle.std.specs.Option.{ForSome}
+use Rattle.std.proofs.lemmas.Bool.{true≢false, false≢true, eqb-true, eq-eqb, cases_eq, cases_lt}
+use Rattle.std.proofs.lemmas.List.{take_more, take_all}
+use Rattle.std.proofs.lemmas.List.Sums.{sum_by-append}
+use Rattle.col_set.specs.declared.target.Target.{Target}
+use Rattle.col_set.specs.declared.target.Target.TheVariants.{Col, RowId}
+use Rattle.col_set.specs.Lists.{Listed, Listed-append_cases, Listed-filter, Listed-filter_parts}
+use Rattle.col_set.specs.Target.{has_target, IsColumnTarget}
+use Rattle.col_set.proofs.Places.{Listed-get_or, Contains-listed}
+use Rattle.rel_base.specs.CodeTable.{CodeTable}
+use Rattle.rel_base.specs.Shows.{code_agree, live_numbers, holds_in, holds_in_below, HoldsInBelow}
+use Rattle.rel_base.proofs.Shown.{HoldsInBelow-tested}
+use Rattle.rel_base.proofs.States.{All-from, increasing-Climbs}
+use Rattle.rel_base.proofs.Valid.{Climbs-filter}
+use Rattle.stripped_partition.specs.Stripped.{group_of, agree_on, stripped, IsPartitionOf}
+use Rattle.stripped_partition.proofs.Agreeing.{code_agree-parts, code_agree-from, agree_on-subset, subset-agree_on, agree_on-with_parts, agree_on-with}
+use Rattle.stripped_partition.proofs.Dependencies.{held_from, in_group, stripped-parts, together, group_ascends, RowsStandOnce-stripped}
+use Rattle.stripped_partition.proofs.Grouped.{first_least}
+use Rattle.stripped_partition.proofs.Live.{live_within}
+use Rattle.validator.specs.Verdicts.{IsBreach, IsFound, new_rows}
+use Rattle.validator.specs.Walk.{key, plus, first_with, IsUniform, IsApart, IsCompared, IsClear}
+use Rattle.validator.proofs.Leads.{newer}
+use Rattle.validator.proofs.Targets.{target-column, target-row}
+
+-- ---- agreement on the columns and the further one
+module _ (s : CodeTable) (y : ℕ) where
+  plus-parts : (by : Option ℕ) (i j : ℕ) → agree_on s (plus y by) i j ≡ true → (agree_on s y i j ≡ true) × (key s by i ≡ key s by j)
+  plus-parts None i j e = (e, refl)
+  plus-parts (Some b) i j e = let w = agree_on-with_parts s y b i j e in (w.0, (code_agree-parts s i j b w.1).1)
+
+  agree-plus : (by : Option ℕ) (i j : ℕ) → ForSome by (λ b. b < length s.codes) → agree_on s y i j ≡ true → key s by i ≡ key s by j → agree_on s (plus y by) i j ≡ true
+  agree-plus None i j l e k = e
+  agree-plus (Some b) i j l e k = agree_on-with s y b i j e (code_agree-from s i j b (l b refl) k)
+
+-- rows that share the target with a third one share it, unless it is the row's identity
+shared : (s : CodeTable) (t : Target) (f i j : ℕ) → IsColumnTarget (length s.codes) t → has_target (code_agree s f i) t ≡ true → has_target (code_agree s f j) t ≡ true → has_target (code_agree s i j) t ≡ true
+shared s (Col a) f i j l e g =
+    target-column s i j a l ∙ eq-eqb _ _ (sym (eqb-true _ _ (sym (target-column s f i a l) ∙ e)) ∙ eqb-true _ _ (sym (target-column s f j a l) ∙ g))
+shared s RowId f i j l e g = absurd (false≢true (sym (target-row s f i) ∙ e))
+
+module _ (s : CodeTable) (y : ℕ) (by : Option ℕ) (t : Target) (from : ℕ) (wide : IsColumnTarget (length s.codes) t) (column : ForSome by (λ b. b < length s.codes)) where
+  -- a pair that the comparisons find
+  pub breach : (g : List ℕ) (i j : ℕ) → Listed g (stripped s y) → IsApart s by t g i j → IsBreach s (plus y by) t i j
+  breach g i j h p = let w = together s y g i j h p.first p.second in record {
+    first = Contains-listed i (live_numbers s) w.0;
+    second = Contains-listed j (live_numbers s) w.1;
+    rising = p.rising;
+    left = agree_on-subset s (plus y by) i j (agree-plus s y by i j column w.2 p.same);
+    target = p.differ;
+  }
+
+  module _ (below : HoldsInBelow from s (plus y by) t) (all : (g : List ℕ) → Listed g (stripped s y) → IsUniform s by t from g) where
+    old_pair : (i j : ℕ) → Listed i (live_numbers s) → Listed j (live_numbers s) → i < from → j < from → i ≢ j → agree_on s (plus y by) i j ≡ true → has_target (code_agree s i j) t ≡ true
+    old_pair i j h g l m ne e = below.each i j (Contains-listed i (live_numbers s) h) (Contains-listed j (live_numbers s) g) l m ne (agree_on-subset s (plus y by) i j e)
+
+    apart : (i j : ℕ) → i < j → i ≡ j → ⊥
+    apart i j l e = omega arith
+
+    -- two rows of a group that agree, of which the second is not old
+    module _ (g : List ℕ) (in_all : Listed g (stripped s y)) (i j : ℕ) (first : Listed i g) (second : Listed j g) (less : i < j) (same : key s by i ≡ key s by j) (new : from ≤ j) where
+      abbrev lead : ℕ
+      lead = first_with s by g (key s by j)
+
+      abbrev alike : List ℕ
+      alike = filter (λ r. eqb (key s by r) (key s by j)) g
+
+      i_alike : Listed i alike
+      i_alike = Listed-filter (λ r. eqb (key s by r) (key s by j)) i g first (eq-eqb _ _ same)
+
+      lead_listed : Listed lead alike
+      lead_listed = Listed-get_or alike 0 0 (some alike i i_alike)
+        where
+          some : (xs : List ℕ) (x : ℕ) → Listed x xs → 0 < length xs
+          some [] x h = absurd h
+          some (z ∷ xs) x h = omega arith
+
+      lead_least : lead ≤ i
+      lead_least = first_least alike i (Climbs-filter (λ r. eqb (key s by r) (key s by j)) g (group_ascends s y g in_all)) i_alike
+
+      in_g : Listed lead g
+      in_g = (Listed-filter_parts (λ r. eqb (key s by r) (key s by j)) lead g lead_listed).0
+
+      lead_same : key s by lead ≡ key s by j
+      lead_same = eqb-true _ _ (Listed-filter_parts (λ r. eqb (key s by r) (key s by j)) lead g lead_listed).1
+
+      lead_j : has_target (code_agree s lead j) t ≡ true
+      lead_j = (all g in_all).each j second new (λ e. let l = lead_least in let d : lead ≡ j = e in absurd (omega arith))
+
+      lead_i : lead ≢ i → has_target (code_agree s lead i) t ≡ true
+      lead_i ne = elim (cases_lt i from) as (λ _. has_target (code_agree s lead i) t ≡ true) [
+        | inl l ↦
+            let w = together s y g lead i in_all in_g first in
+            old_pair lead i w.0 w.1 (let m = lead_least in omega arith) l ne (agree-plus s y by lead i column w.2 (lead_same ∙ sym same))
+        | inr l ↦
+            let e : first_with s by g (key s by i) ≡ lead = ap (first_with s by g) same in
+            subst (λ (f : ℕ). has_target (code_agree s f i) t ≡ true) e ((all g in_all).each i first l (λ d. ne (sym e ∙ d)))
+      ]
+
+      told : has_target (code_agree s i j) t ≡ true
+      told = elim (cases_eq lead i) as (λ _. has_target (code_agree s i j) t ≡ true) [
+        | inl e ↦ subst (λ (f : ℕ). has_target (code_agree s f j) t ≡ true) e lead_j
+        | inr ne ↦ shared s t lead i j wide (lead_i ne) lead_j
+      ]
+
+    pub held_in : holds_in s (plus y by) t ≡ true
+    held_in = held_from s (plus y by) t (λ i j h g l sub.
+        let e = subset-agree_on s (plus y by) i j sub in
+        let p = plus-parts s y by i j e in
+        elim (cases_lt j from) as (λ _. has_target (code_agree s i j) t ≡ true) [
+          | inl m ↦ old_pair i j h g (omega arith) m (apart i j l) e
+          | inr m ↦
+              let w = in_group s y i j h g (apart i j l) p.0 in
+              told (group_of (agree_on s y) (live_numbers s) i) w.0 i j w.1 w.2 l p.1 m
+        ])
+
+-- ---- the walk over the groups
+newer-append : (from : ℕ) (xs ys : List ℕ) → newer from (xs ++ ys) ≡ newer from xs + newer from ys
+newer-append from xs ys = sum_by-append (λ i. cond (leb from i) 1 0) xs ys
+
+concat-append : (gs hs : List (List ℕ)) → concat (gs ++ hs) ≡ concat gs ++ concat hs
+concat-append [] hs = refl
+concat-append (g ∷ gs) hs = ap (λ (xs : List ℕ). g ++ xs) (concat-append gs hs) ∙ sym (append_assoc g (concat gs) (concat hs))
+
+concat-more : (groups : List (List ℕ)) (k : ℕ) → k < length groups → concat (take (k + 1) groups) ≡ concat (take k groups) ++ get_or groups k []
+concat-more groups k l = ap concat (take_more groups k [] l) ∙ concat-append (take k groups) (get_or groups k [] ∷ []) ∙ ap (λ (xs : List ℕ). concat (take k groups) ++ xs) (append-nil (get_or groups k []))
+
+newer_groups : (from : ℕ) (groups : List (List ℕ)) (k : ℕ) → newer from (concat (take k groups)) ≤ newer from (concat groups)
+newer_groups from groups zero = omega arith
+newer_groups from [] (suc k) = omega arith
+newer_groups from (g ∷ groups) (suc k) = let r = newer_groups from groups k in
+    let a = newer-append from g (concat (take k groups)) in let b = newer-append from g (concat groups) in omega arith
+
+pub record Seen (s : CodeTable) (by : Option ℕ) (t : Target) (from : ℕ) (groups : List (List ℕ)) (k : ℕ) (slots : List ℕ) (steps start : ℕ) : Type 0 where
+  pub uniform : (g : List ℕ) → Listed g (take k groups) → IsUniform s by t from g
+  pub few : steps ≤ start + newer from (concat (take k groups))
+  pub clear : IsClear slots
+
+pub seen_none : (s : CodeTable) (by : Option ℕ) (t : Target) (from : ℕ) (groups : List (List ℕ)) (slots : List ℕ) (start : ℕ) → IsClear slots → Seen s by t from groups 0 slots start start
+seen_none s by t from groups slots start z = record { uniform = λ g h. absurd h; few = omega arith; clear = z }
+
+module _ (s : CodeTable) (by : Option ℕ) (t : Target) (from : ℕ) (groups : List (List ℕ)) (of : IsPartitionOf s groups) where
+  live_few : newer from (concat groups) ≤ new_rows s from
+  live_few = subst (λ (gs : List (List ℕ)). newer from (concat gs) ≤ new_rows s from) (sym of.is) ((RowsStandOnce-stripped s of.columns).once (λ i. leb from i))
+
+  pub seen_few : (k : ℕ) (slots : List ℕ) (steps start : ℕ) → Seen s by t from groups k slots steps start → steps ≤ start + new_rows s from
+  seen_few k slots steps start p = let a = p.few in let b = newer_groups from groups k in let c = live_few in omega arith
+
+  module _ (k : ℕ) (g : List ℕ) (l : k < length groups) (is : g ≡ get_or groups k []) where
+    -- what is known of a group
+    pub group_listed : Listed g groups
+    group_listed = subst (λ (x : List ℕ). Listed x groups) (sym is) (Listed-get_or groups k [] l)
+
+    in_stripped : Listed g (stripped s of.columns)
+    in_stripped = subst (Listed g) of.is group_listed
+
+    live : (i : ℕ) → Listed i g → (0 < i) × (i < s.to)
+    live i h = live_within s i (together s of.columns g i i in_stripped h h).0
+
+    pub group_some : 0 < length g
+    group_some = let two = (stripped-parts s of.columns g in_stripped).two in omega arith
+
+    pub group_given : All (λ (row : ℕ). row < s.to) g
+    group_given = All-from (λ (row : ℕ). row < s.to) g (λ i h. (live i h).1)
+
+    pub group_positive : All (λ (row : ℕ). 0 < row) g
+    group_positive = All-from (λ (row : ℕ). 0 < row) g (λ i h. (live i h).0)
+
+    pub group_rising : IsStrictlyIncreasing g
+    group_rising = increasing-Climbs g (group_ascends s of.columns g in_stripped)
+
+    steps_more : (steps after start : ℕ) (slots : List ℕ) → Seen s by t from groups k slots steps start → after ≤ steps + newer from g → after ≤ start + newer from (concat (take (k + 1) groups))
+    steps_more steps after start slots p n =
+        let a = p.few in let e = ap (newer from) (concat-more groups k l) in let b = newer-append from (concat (take k groups)) (get_or groups k []) in
+        let d = ap (newer from) is in omega arith
+
+    pub seen_more : (slots slots_after : List ℕ) (steps after start : ℕ) → Seen s by t from groups k slots steps start → IsUniform s by t from g → after ≤ steps + newer from g → IsClear slots_after → Seen s by t from groups (k + 1) slots_after after start
+    seen_more slots slots_after steps after start p u n z = record {
+      uniform = λ h m. here h (Listed-append_cases h (take k groups) (get_or groups k [] ∷ []) (subst (Listed h) (take_more groups k [] l) m));
+      few = steps_more steps after start slots p n;
+      clear = z;
+    }
+      where
+        here : (h : List ℕ) → Listed h (take k groups) ⊎ Listed h (get_or groups k [] ∷ []) → IsUniform s by t from h
+        here h (inl m) = p.uniform h m
+        here h (inr (inl e)) = subst (IsUniform s by t from) (is ∙ sym e) u
+        here h (inr (inr m)) = absurd m
+
+    pub found_few : (slots : List ℕ) (steps after start : ℕ) → Seen s by t from groups k slots steps start → after ≤ steps + newer from g → after ≤ start + new_rows s from
+    found_few slots steps after start p n = let a = steps_more steps after start slots p n in let b = newer_groups from groups (k + 1) in let c = live_few in omega arith
+
+  pub found_none : (k : ℕ) (slots : List ℕ) (steps start : ℕ) → length groups ≤ k → Seen s by t from groups k slots steps start → IsColumnTarget (length s.codes) t → ForSome by (λ b. b < length s.codes)
+      → (x : ℕ) → groups ≡ stripped s x → holds_in_below from s (plus x by) t ≡ true → holds_in s (plus x by) t ≡ true
+  found_none k slots steps start l p wide column x e below =
+      held_in s x by t from wide column (HoldsInBelow-tested s from (plus x by) t below) (λ g h. p.uniform g (subst (Listed g) (sym (take_all k groups l)) (subst (Listed g) (sym e) h)))
+
+-- ---- what a group answers
+pub none_uniform : (s : CodeTable) (by : Option ℕ) (t : Target) (from : ℕ) (g : List ℕ) (pair : Option (ℕ × ℕ)) → is_some pair ≡ false → IsCompared s by t from g pair → IsUniform s by t from g
+none_uniform s by t from g None e p = p
+none_uniform s by t from g (Some pair) e p = absurd (true≢false e)
+
+pub some_found : (s : CodeTable) (by : Option ℕ) (t : Target) (from : ℕ) (g : List ℕ) (pair : Option (ℕ × ℕ)) → is_some pair ≡ true → IsCompared s by t from g pair → IsColumnTarget (length s.codes) t → ForSome by (λ b. b < length s.codes)
+    → (x : ℕ) → Listed g (stripped s x) → IsFound s (plus x by) t pair
+some_found s by t from g None e p wide column x h = absurd (true≢false (sym e))
+some_found s by t from g (Some pair) e p wide column x h = breach s x by t from wide column g pair.0 pair.1 h p

@@ -1,0 +1,31 @@
+-- Targets by codes.
+use Rattle.std.proofs.Common.{inl, inr, ◌≡◌, ℕ, ◌<◌, ◌≤◌, ◌+◌, false, eqb, refl, arith, List, [], ◌∷◌, length, get_or, zero, suc}
+use Rattle.std.proofs.lemmas.Bool.{eqb-true, eq-eqb}
+use Rattle.col_set.specs.declared.target.Target.TheVariants.{Col, RowId}
+use Rattle.col_set.specs.Lists.{Listed}
+use Rattle.col_set.specs.Subsets.{same_test}
+use Rattle.col_set.specs.Target.{has_target}
+use Rattle.col_set.proofs.Places.{Climbs, Listed-get_or}
+use Rattle.rel_base.specs.CodeTable.{CodeTable, code_at}
+use Rattle.rel_base.specs.Shows.{code_agree}
+use Rattle.stripped_partition.proofs.Agreeing.{code_agree-parts, code_agree-from}
+
+pub target-column : (s : CodeTable) (i j a : ℕ) → a < length s.codes → has_target (code_agree s i j) (Col a) ≡ eqb (code_at s i a) (code_at s j a)
+unfolding has_target
+target-column s i j a l = same_test _ _ (λ e. eq-eqb _ _ (code_agree-parts s i j a e).1) (λ e. code_agree-from s i j a l (eqb-true _ _ e))
+
+pub target-row : (s : CodeTable) (i j : ℕ) → has_target (code_agree s i j) RowId ≡ false
+unfolding has_target
+target-row s i j = refl
+
+-- the last of an ascending list is the greatest
+at_last : (xs : List ℕ) (x n : ℕ) → Climbs xs → Listed x xs → length xs ≡ suc n → x ≤ get_or xs n 0
+at_last [] x n c h l = absurd h
+at_last (y ∷ xs) x zero c (inl e) l = let f : x ≡ y = e in omega arith
+at_last (y ∷ xs) x (suc n) c (inl e) l = let m = c.0 (get_or xs n 0) (Listed-get_or xs n 0 (omega arith)) in let f : x ≡ y = e in omega arith
+at_last (y ∷ []) x zero c (inr h) l = absurd h
+at_last (y ∷ z ∷ xs) x zero c (inr h) l = absurd (omega arith)
+at_last (y ∷ xs) x (suc n) c (inr h) l = at_last xs x n c.1 h (omega arith)
+
+pub last_greatest : (xs : List ℕ) (x n : ℕ) → Climbs xs → Listed x xs → n + 1 ≡ length xs → x ≤ get_or xs n 0
+last_greatest xs x n c h l = at_last xs x n c h (omega arith)

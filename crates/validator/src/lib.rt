@@ -1,0 +1,12 @@
+//! Verdicts on dependencies that are known to hold among older rows: each newer row is compared at most once.
+#![tactic(auto)]
+
+mod judge;
+mod refined;
+#[cfg(test)]
+mod tests;
+mod verdict;
+mod walk;
+
+pub use judge::validate;
+pub use verdict::Verdict;

@@ -1,0 +1,139 @@
+ghost use Rattle.std.specs.Prelude.{◌≡◌, ◌<◌, IsTrue};
+ghost use Rattle.col_set.specs.Target.{IsColumnTarget};
+ghost use Rattle.validator.specs.Verdicts.{IsFitting};
+
+use crate::{Verdict, validate};
+use col_set::{ColSet, Target};
+use rel_base::{Codes, Job, RowNo, Snapshot, Steps};
+use std::alloc::{AllocError, Global};
+use std::marker::Brand;
+use std::process::Abort;
+use std::sync::Arc;
+use std::sync::ledger::{Blank, Ledger};
+use std::test::Fail;
+
+// Three columns of five rows, of which some are live.
+fn five_rows(alloc: Global, rt: &impl Abort, live: Vec<bool>) -> Result<Snapshot, AllocError> {
+    let first = Codes::of(vec![in alloc; 0u32, 0, 1, 1, 0]?);
+    let second = Codes::of(vec![in alloc; 0u32, 1, 2, 2, 0]?);
+    let third = Codes::of(vec![in alloc; 0u32, 1, 2, 3, 4]?);
+    let codes = vec![in alloc; first, second, third]?;
+    assert!(rt; codes.len() == 3 && live.len() == 5);
+    assert!(rt; codes[0].as_slice().len() == 5 && codes[1].as_slice().len() == 5);
+    assert!(rt; codes[2].as_slice().len() == 5);
+    Ok(Snapshot::of(codes, live, RowNo::of(6)))
+}
+
+// Whether the target is a column of the first n, or which row it is.
+fn is_target(target: Target, columns: u8) -> bool
+    ensures { IsTrue result → IsColumnTarget columns target }
+{
+    match target {
+        Target::Col(column) => column < columns,
+        Target::RowId => true,
+    }
+}
+
+// Whether the job's parts fit, and at most its first row is old.
+fn is_fitting(job: &Job) -> bool
+    ensures { IsTrue result → IsFitting job.now }
+{
+    let columns = job.snapshot().columns();
+    if job.from().number() > 2 {
+        return false;
+    }
+    if !job.left().subset_of(ColSet::all(columns)) {
+        return false;
+    }
+    is_target(job.target(), columns)
+}
+
+fn verdict_on<L: Ledger>(
+    alloc: Global,
+    rt: &impl Abort,
+    blank: Blank,
+    job: &Job,
+) -> Result<Verdict, AllocError>
+    requires name { blank.name ≡ L.name }
+    requires parts { blank.parts ≡ L.parts }
+    requires some { 0 < L.parts }
+{
+    assert!(rt; is_fitting(job));
+    let mut steps = Steps::<L>::none(blank);
+    validate(alloc, job, &mut steps)
+}
+
+fn verdict(
+    alloc: Global,
+    rt: &impl Abort,
+    live: Vec<bool>,
+    left: ColSet,
+    target: Target,
+    from: u32,
+) -> Result<Verdict, AllocError>
+    requires { 0 < from }
+{
+    let snapshot = Arc::new(alloc, five_rows(alloc, rt, live)?)?;
+    let job = Job::of(target, left, RowNo::of(from), RowNo::of(6), snapshot);
+    verdict_on::<Brand>(alloc, rt, Blank::new(1), &job)
+}
+
+fn holds(verdict: Verdict) -> bool {
+    match verdict {
+        Verdict::Holds { to } => to.number() == 6,
+        Verdict::Broken { .. } => false,
+    }
+}
+
+fn is_broken(verdict: Verdict, first: u32, second: u32) -> bool {
+    match verdict {
+        Verdict::Holds { .. } => false,
+        Verdict::Broken { i, j } => i.number() == first && j.number() == second,
+    }
+}
+
+#[test]
+fn verdicts_on_live_rows(rt: HostRuntime) -> Result<(), Fail> {
+    let alloc = rt.alloc();
+    let first = ColSet::empty().with(0);
+    let second = ColSet::empty().with(1);
+    let third = ColSet::empty().with(2);
+    let live = vec![in alloc; true; 5]?;
+    assert!(rt; holds(verdict(alloc, &rt, live, third, Target::RowId, 1)?));
+    let live = vec![in alloc; true; 5]?;
+    assert!(rt; holds(verdict(alloc, &rt, live, second, Target::Col(0), 1)?));
+    let live = vec![in alloc; true; 5]?;
+    assert!(rt; is_broken(verdict(alloc, &rt, live, first, Target::Col(1), 1)?, 1, 2));
+    let live = vec![in alloc; true; 5]?;
+    assert!(rt;
+        is_broken(
+            verdict(alloc, &rt, live, first.union(second), Target::RowId, 1)?,
+            1,
+            5
+        )
+    );
+    let live = vec![in alloc; true; 5]?;
+    assert!(rt;
+        is_broken(
+            verdict(alloc, &rt, live, ColSet::empty(), Target::Col(1), 1)?,
+            1,
+            2
+        )
+    );
+    Ok(())
+}
+
+#[test]
+fn verdicts_past_an_old_row_and_dead_ones(rt: HostRuntime) -> Result<(), Fail> {
+    let alloc = rt.alloc();
+    let first = ColSet::empty().with(0);
+    let live = vec![in alloc; true, false, true, true, true]?;
+    assert!(rt; holds(verdict(alloc, &rt, live, first, Target::Col(1), 2)?));
+    let live = vec![in alloc; true, false, true, false, true]?;
+    assert!(rt; is_broken(verdict(alloc, &rt, live, first, Target::Col(2), 2)?, 1, 5));
+    let live = vec![in alloc; true, false, true, true, false]?;
+    assert!(rt; is_broken(verdict(alloc, &rt, live, first, Target::Col(2), 2)?, 3, 4));
+    let live = vec![in alloc; true, false, false, false, false]?;
+    assert!(rt; holds(verdict(alloc, &rt, live, first, Target::RowId, 2)?));
+    Ok(())
+}

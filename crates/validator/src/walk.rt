@@ -1,0 +1,196 @@
+// Comparisons of rows on a target, group by group.
+ghost use Rattle.std.specs.Prelude.{◌≡◌, ◌<◌, ◌≤◌, ◌+◌, ◌^◌, ℕ, length, nat_le, not, vec_len, slice_index, true, false, IsTrue, IfOk, OnOk, cond};
+ghost use Rattle.std.specs.List.{All, count_by};
+ghost use Rattle.std.specs.Option.{ForSome};
+ghost use Rattle.std.specs.List.Sorted.{IsStrictlyIncreasing};
+ghost use Rattle.col_set.specs.ColSet.{Columns};
+ghost use Rattle.col_set.specs.Target.{has_target, IsColumnTarget};
+ghost use Rattle.rel_base.specs.Shows.{code_agree, holds_in_below};
+ghost use Rattle.stripped_partition.specs.Stripped.{stripped, IsPartitionOf};
+ghost use Rattle.validator.specs.Verdicts.{IsFound, new_rows};
+ghost use Rattle.validator.specs.Walk as walks;
+ghost use Rattle.validator.specs.Walk.{plus, IsCompared, IsClear, IsClearBut};
+
+use col_set::Target;
+use rel_base::{RowNo, Snapshot, Steps};
+use std::alloc::AllocError;
+use std::sync::ledger::Ledger;
+use stripped_partition::Partition;
+
+// What is asked of the groups of a partition: whether the rows of each that have one code in the further column, if there is
+// one, agree on the target, where those below a number are known to.
+#[derive(Clone, Copy)]
+pub(crate) struct Question {
+    pub(crate) target: Target,
+    pub(crate) by: Option<u8>,
+    pub(crate) from: RowNo,
+}
+
+// A row's code in the further column, or 0.
+fn key(snapshot: &Snapshot, by: Option<u8>, row: RowNo) -> usize
+    requires given { row < snapshot.now.to }
+    requires column { ForSome by (λ column. column < length snapshot.now.codes) }
+    ensures value { result ≡ walks.key snapshot.now by row }
+    ensures small { result < 2 ^ 32 }
+{
+    match by {
+        Some(column) => snapshot.code(row, column) as usize,
+        None => 0,
+    }
+}
+
+// Whether two rows differ on the target. Two rows always differ on which row it is.
+fn differ(snapshot: &Snapshot, target: Target, i: RowNo, j: RowNo) -> bool
+    requires first { i < snapshot.now.to }
+    requires second { j < snapshot.now.to }
+    requires target { IsColumnTarget (length snapshot.now.codes) target }
+    ensures { result ≡ not (has_target (code_agree snapshot.now i j) target) }
+{
+    match target {
+        Target::Col(column) => snapshot.code(i, column) != snapshot.code(j, column),
+        Target::RowId => true,
+    }
+}
+
+// Compares a row with the first of its key, unless it is an older row.
+fn are_apart<L: Ledger>(
+    snapshot: &Snapshot,
+    target: Target,
+    from: RowNo,
+    first: RowNo,
+    row: RowNo,
+    steps: &mut Steps<L>,
+) -> bool
+    requires first { first < snapshot.now.to }
+    requires second { row < snapshot.now.to }
+    requires target { IsColumnTarget (length snapshot.now.codes) target }
+    ensures apart { IsTrue result → has_target (code_agree snapshot.now first row) target ≡ false }
+    ensures alike { result ≡ false → from ≤ row → has_target (code_agree snapshot.now first row) target ≡ true }
+    ensures steps { steps.new ≤ steps.old + cond (nat_le from row) 1 0 }
+{
+    if row.number() < from.number() {
+        return false;
+    }
+    steps.tick();
+    differ(snapshot, target, first, row)
+}
+
+// Makes room for a slot, and for those before it.
+fn reach(slots: &mut Vec<u32>, slot: usize) -> Result<(), AllocError>
+    requires { slot < 2 ^ 32 }
+    ensures kept { (c : ℕ) → slice_index slots.new.items c ≡ slice_index slots.old.items c }
+    ensures room { OnOk result (slot < vec_len slots.new) }
+{
+    if slot >= slots.len() {
+        slots.resize(slot + 1, 0)?;
+    }
+    Ok(())
+}
+
+// Compares each row of a group that is not below the number with the first of its key, up to the first difference.
+fn pair_in<L: Ledger>(
+    group: &[RowNo],
+    snapshot: &Snapshot,
+    question: &Question,
+    slots: &mut Vec<u32>,
+    steps: &mut Steps<L>,
+) -> Result<Option<(RowNo, RowNo)>, AllocError>
+    requires given { All (λ row. row < snapshot.now.to) group.now }
+    requires positive { All (λ row. 0 < row) group.now }
+    requires rising { IsStrictlyIncreasing group.now }
+    requires target { IsColumnTarget (length snapshot.now.codes) question.now.target }
+    requires column { ForSome question.now.by (λ column. column < length snapshot.now.codes) }
+    requires clear { IsClear slots.old.items }
+    ensures pair { IfOk result (IsCompared snapshot.now question.now.by question.now.target question.now.from group.now) }
+    ensures clear { OnOk result (IsClearBut snapshot.now question.now.by group.now slots.new.items) }
+    ensures steps { steps.new ≤ steps.old + count_by (λ i. nat_le question.now.from i) group.now }
+{
+    let Question { target, by, from } = *question;
+    for row in group {
+        let slot = key(snapshot, by, *row);
+        reach(slots, slot)?;
+        let first = slots[slot];
+        if first == 0 {
+            slots[slot] = row.number();
+        } else if are_apart(snapshot, target, from, RowNo::of(first), *row, steps) {
+            return Ok(Some((RowNo::of(first), *row)));
+        }
+    }
+    Ok(None)
+}
+
+// Clears the slots of a group's keys.
+fn clear(slots: &mut [u32], group: &[RowNo], snapshot: &Snapshot, by: Option<u8>)
+    requires given { All (λ row. row < snapshot.now.to) group.now }
+    requires column { ForSome by (λ column. column < length snapshot.now.codes) }
+    requires others { IsClearBut snapshot.now by group.now slots.old }
+    ensures { IsClear slots.new }
+{
+    for row in group {
+        let slot = key(snapshot, by, *row);
+        if slot < slots.len() {
+            slots[slot] = 0;
+        }
+    }
+}
+
+// Whether a group has a row that is not below the number.
+fn has_new(group: &[RowNo], from: RowNo) -> bool
+    requires some { 0 < length group.now }
+    requires rising { IsStrictlyIncreasing group.now }
+    ensures { result ≡ false → All (λ row. row < from) group.now }
+{
+    group[group.len() - 1].number() >= from.number()
+}
+
+// The same for a group of which all may be old, and it clears the slots again.
+fn pair_of_group<L: Ledger>(
+    group: &[RowNo],
+    snapshot: &Snapshot,
+    question: &Question,
+    slots: &mut Vec<u32>,
+    steps: &mut Steps<L>,
+) -> Result<Option<(RowNo, RowNo)>, AllocError>
+    requires some { 0 < length group.now }
+    requires given { All (λ row. row < snapshot.now.to) group.now }
+    requires positive { All (λ row. 0 < row) group.now }
+    requires rising { IsStrictlyIncreasing group.now }
+    requires target { IsColumnTarget (length snapshot.now.codes) question.now.target }
+    requires column { ForSome question.now.by (λ column. column < length snapshot.now.codes) }
+    requires clear { IsClear slots.old.items }
+    ensures pair { IfOk result (IsCompared snapshot.now question.now.by question.now.target question.now.from group.now) }
+    ensures clear { OnOk result (IsClear slots.new.items) }
+    ensures steps { steps.new ≤ steps.old + count_by (λ i. nat_le question.now.from i) group.now }
+{
+    if !has_new(group, question.from) {
+        return Ok(None);
+    }
+    let pair = pair_in(group, snapshot, question, slots, steps)?;
+    clear(slots, group, snapshot, question.by);
+    Ok(pair)
+}
+
+// In the first group that has one, two rows with one code in the further column that differ on the target.
+pub(crate) fn first_pair<L: Ledger>(
+    partition: &Partition,
+    snapshot: &Snapshot,
+    question: &Question,
+    slots: &mut Vec<u32>,
+    steps: &mut Steps<L>,
+) -> Result<Option<(RowNo, RowNo)>, AllocError>
+    requires of { IsPartitionOf snapshot.now partition.now }
+    requires target { IsColumnTarget (length snapshot.now.codes) question.now.target }
+    requires column { ForSome question.now.by (λ column. column < length snapshot.now.codes) }
+    requires clear { IsClear slots.old.items }
+    ensures pair { IfOk result (λ pair. (x : Columns) → partition.now ≡ stripped snapshot.now x → holds_in_below question.now.from snapshot.now (plus x question.now.by) question.now.target ≡ true → IsFound snapshot.now (plus x question.now.by) question.now.target pair) }
+    ensures clear { OnOk result (IsClear slots.new.items) }
+    ensures steps { steps.new ≤ steps.old + new_rows snapshot.now question.now.from }
+{
+    for k in 0..partition.group_count() {
+        let pair = pair_of_group(partition.group(k), snapshot, question, slots, steps)?;
+        if pair.is_some() {
+            return Ok(pair);
+        }
+    }
+    Ok(None)
+}
