@@ -1,73 +1,105 @@
 -- A step of a pass, list by list.
-use Rattle.std.proofs.Common.{◌≡◌, ◌∙◌, ◌&&◌, ◌+◌, ◌<◌, ◌≤◌, ◌⊎◌, ℕ, arith, Bool, true, false, cond, inl, inr, refl, sym, ap, subst, List, [], length, drop, get_or, set, below_more}
-use Rattle.std.proofs.lemmas.Bool.{cases_eq}
+use Rattle.std.proofs.Common.{◌≡◌, ◌∙◌, ◌↔◌, ◌&&◌, ◌||◌, ◌+◌, ◌<◌, ◌≤◌, ◌⊎◌, ℕ, arith, Bool, true, false, cond, eqb, inl, inr, refl, sym, ap, subst, List, [], length, drop, get_or, set, below_more}
+use Rattle.std.proofs.lemmas.Bool.{cases_eq, eq-eqb, false≢true, ne_eqb}
 use Rattle.std.proofs.lemmas.List.{get_or-set_other, get_or-set_same}
 use Rattle.rel_base.specs.Cells.{Cell}
-use Rattle.inclusion_merge.specs.Sharing.{list_at}
+use Rattle.inclusion_merge.specs.Sharing.{BeginsWith, list_at}
+
+-- the first so many lists are marked where they begin with this value, and no others are
+pub record Marked (shared : ℕ → Bool) (value : Cell) (lists : List (List Cell)) (count : ℕ) : Type 0 where
+  pub done : (k : ℕ) → k < count → (shared k ≡ true) ↔ BeginsWith value (list_at lists k)
+  pub ahead : (k : ℕ) → count ≤ k → shared k ≡ false
 
 -- of the marked ones among the first so many lists, the first value was taken off
-pub record Moved (shared : List Bool) (initial now : List (List Cell)) (count : ℕ) : Type 0 where
-  pub done : (k : ℕ) → k < count → list_at now k ≡ cond (get_or shared k false) (drop 1 (list_at initial k)) (list_at initial k)
+pub record Moved (shared : ℕ → Bool) (initial now : List (List Cell)) (count : ℕ) : Type 0 where
+  pub done : (k : ℕ) → k < count → list_at now k ≡ cond (shared k) (drop 1 (list_at initial k)) (list_at initial k)
   pub ahead : (k : ℕ) → count ≤ k → list_at now k ≡ list_at initial k
 
 -- to the marked ones among the first so many columns, the marked columns alone are left
-pub record Narrowed (shared : List Bool) (columns : ℕ) (initial now : ℕ → ℕ → Bool) (count : ℕ) : Type 0 where
-  pub done : (c d : ℕ) → c < count → d < columns → now c d ≡ (initial c d && cond (get_or shared c false) (get_or shared d false) true)
+pub record Narrowed (shared : ℕ → Bool) (columns : ℕ) (initial now : ℕ → ℕ → Bool) (count : ℕ) : Type 0 where
+  pub done : (c d : ℕ) → c < count → d < columns → now c d ≡ (initial c d && cond (shared c) (shared d) true)
   pub ahead : (c d : ℕ) → count ≤ c → c < columns → d < columns → now c d ≡ initial c d
+
+or-cases : (a : Bool) (k i : ℕ) → (k ≡ i → ⊥) → (a || eqb k i) ≡ a
+or-cases a k i other = ap (λ b. a || b) (ne_eqb k i other) ∙ or-false a
+  where
+    or-false : (b : Bool) → (b || false) ≡ b
+    or-false true = refl
+    or-false false = refl
+
+or-true : (b : Bool) → (b || true) ≡ true
+or-true true = refl
+or-true false = refl
+
+module _ (shared : ℕ → Bool) (value : Cell) (lists : List (List Cell)) (i : ℕ) (marked : Marked shared value lists i) where
+  pub Marked-more : (shared' : ℕ → Bool) → BeginsWith value (list_at lists i) → ((k : ℕ) → shared' k ≡ (shared k || eqb k i)) → Marked shared' value lists (i + 1)
+  Marked-more shared' begins is = record {
+    done = below_more (λ k. (shared' k ≡ true) ↔ BeginsWith value (list_at lists k)) i
+        (λ k l. let same = is k ∙ or-cases (shared k) k i (omega arith) in ((λ e. (marked.done k l).0 (sym same ∙ e)), (λ h. same ∙ (marked.done k l).1 h)))
+        ((λ e. begins), (λ h. is i ∙ ap (λ b. shared i || b) (eq-eqb i i refl) ∙ or-true (shared i)));
+    ahead = λ k l. is k ∙ or-cases (shared k) k i (omega arith) ∙ marked.ahead k (omega arith);
+  }
+
+  pub Marked-same : (BeginsWith value (list_at lists i) → ⊥) → Marked shared value lists (i + 1)
+  Marked-same other = record {
+    done = below_more (λ k. (shared k ≡ true) ↔ BeginsWith value (list_at lists k)) i marked.done
+        ((λ e. absurd (false≢true (sym (marked.ahead i (omega arith)) ∙ e))), (λ h. absurd (other h)));
+    ahead = λ k l. marked.ahead k (omega arith);
+  }
 
 and-true : (b : Bool) → b ≡ (b && true)
 and-true true = refl
 and-true false = refl
 
-module _ (shared : List Bool) (initial now : List (List Cell)) (i : ℕ) (moved : Moved shared initial now i) where
-  pub Moved-marked : (now' : List (List Cell)) (rest : List Cell) → i < length now → get_or shared i false ≡ true → now' ≡ set now i rest → rest ≡ drop 1 (list_at now i) → Moved shared initial now' (i + 1)
+module _ (shared : ℕ → Bool) (initial now : List (List Cell)) (i : ℕ) (moved : Moved shared initial now i) where
+  pub Moved-marked : (now' : List (List Cell)) (rest : List Cell) → i < length now → shared i ≡ true → now' ≡ set now i rest → rest ≡ drop 1 (list_at now i) → Moved shared initial now' (i + 1)
   Moved-marked now' rest l marked is behind = record {
-    done = below_more (λ k. list_at now' k ≡ cond (get_or shared k false) (drop 1 (list_at initial k)) (list_at initial k)) i (λ k m. other k (omega arith) ∙ moved.done k m) here;
+    done = below_more (λ k. list_at now' k ≡ cond (shared k) (drop 1 (list_at initial k)) (list_at initial k)) i (λ k m. other k (omega arith) ∙ moved.done k m) here;
     ahead = λ k m. other k (omega arith) ∙ moved.ahead k (omega arith);
   }
     where
       other : (k : ℕ) → (k ≡ i → ⊥) → list_at now' k ≡ list_at now k
       other k h = ap (λ (xs : List (List Cell)). list_at xs k) is ∙ get_or-set_other now i k rest [] h
 
-      here : list_at now' i ≡ cond (get_or shared i false) (drop 1 (list_at initial i)) (list_at initial i)
+      here : list_at now' i ≡ cond (shared i) (drop 1 (list_at initial i)) (list_at initial i)
       here =
           ap (λ (xs : List (List Cell)). list_at xs i) is ∙ get_or-set_same now i rest [] l ∙ behind ∙ ap (λ (xs : List Cell). drop 1 xs) (moved.ahead i (omega arith))
           ∙ sym (ap (λ b. cond b (drop 1 (list_at initial i)) (list_at initial i)) marked)
 
-  pub Moved-unmarked : get_or shared i false ≡ false → Moved shared initial now (i + 1)
+  pub Moved-unmarked : shared i ≡ false → Moved shared initial now (i + 1)
   Moved-unmarked unmarked = record {
-    done = below_more (λ k. list_at now k ≡ cond (get_or shared k false) (drop 1 (list_at initial k)) (list_at initial k)) i moved.done
+    done = below_more (λ k. list_at now k ≡ cond (shared k) (drop 1 (list_at initial k)) (list_at initial k)) i moved.done
         (moved.ahead i (omega arith) ∙ sym (ap (λ b. cond b (drop 1 (list_at initial i)) (list_at initial i)) unmarked));
     ahead = λ k m. moved.ahead k (omega arith);
   }
 
-module _ (shared : List Bool) (columns : ℕ) (initial now : ℕ → ℕ → Bool) (i : ℕ) (narrowed : Narrowed shared columns initial now i) where
-  pub Narrowed-marked : (now' : ℕ → ℕ → Bool) → i < columns → get_or shared i false ≡ true
+module _ (shared : ℕ → Bool) (columns : ℕ) (initial now : ℕ → ℕ → Bool) (i : ℕ) (narrowed : Narrowed shared columns initial now i) where
+  pub Narrowed-marked : (now' : ℕ → ℕ → Bool) → i < columns → shared i ≡ true
       → ((c d : ℕ) → c < columns → d < columns → (c ≡ i → ⊥) → now' c d ≡ now c d)
-      → ((d : ℕ) → d < columns → now' i d ≡ (now i d && get_or shared d false)) → Narrowed shared columns initial now' (i + 1)
+      → ((d : ℕ) → d < columns → now' i d ≡ (now i d && shared d)) → Narrowed shared columns initial now' (i + 1)
   Narrowed-marked now' l marked others kept = record {
     done = λ c d m k. by c d m k (cases_eq c i);
     ahead = λ c d m k j. others c d k j (omega arith) ∙ narrowed.ahead c d (omega arith) k j;
   }
     where
-      by : (c d : ℕ) → c < i + 1 → d < columns → (c ≡ i) ⊎ (c ≡ i → ⊥) → now' c d ≡ (initial c d && cond (get_or shared c false) (get_or shared d false) true)
+      by : (c d : ℕ) → c < i + 1 → d < columns → (c ≡ i) ⊎ (c ≡ i → ⊥) → now' c d ≡ (initial c d && cond (shared c) (shared d) true)
       by c d m k (inr other) = others c d (omega arith) k other ∙ narrowed.done c d (omega arith) k
       by c d m k (inl same) =
-          let here : now' i d ≡ (initial i d && cond (get_or shared i false) (get_or shared d false) true) =
-          kept d k ∙ ap (λ b. b && get_or shared d false) (narrowed.ahead i d (omega arith) l k)
-          ∙ sym (ap (λ b. initial i d && cond b (get_or shared d false) true) marked) in
-          subst (λ (n : ℕ). now' n d ≡ (initial n d && cond (get_or shared n false) (get_or shared d false) true)) (sym same) here
+          let here : now' i d ≡ (initial i d && cond (shared i) (shared d) true) =
+          kept d k ∙ ap (λ b. b && shared d) (narrowed.ahead i d (omega arith) l k)
+          ∙ sym (ap (λ b. initial i d && cond b (shared d) true) marked) in
+          subst (λ (n : ℕ). now' n d ≡ (initial n d && cond (shared n) (shared d) true)) (sym same) here
 
-  pub Narrowed-unmarked : i < columns → get_or shared i false ≡ false → Narrowed shared columns initial now (i + 1)
+  pub Narrowed-unmarked : i < columns → shared i ≡ false → Narrowed shared columns initial now (i + 1)
   Narrowed-unmarked l unmarked = record {
     done = λ c d m k. by c d m k (cases_eq c i);
     ahead = λ c d m k j. narrowed.ahead c d (omega arith) k j;
   }
     where
-      by : (c d : ℕ) → c < i + 1 → d < columns → (c ≡ i) ⊎ (c ≡ i → ⊥) → now c d ≡ (initial c d && cond (get_or shared c false) (get_or shared d false) true)
+      by : (c d : ℕ) → c < i + 1 → d < columns → (c ≡ i) ⊎ (c ≡ i → ⊥) → now c d ≡ (initial c d && cond (shared c) (shared d) true)
       by c d m k (inr other) = narrowed.done c d (omega arith) k
       by c d m k (inl same) =
-          let here : now i d ≡ (initial i d && cond (get_or shared i false) (get_or shared d false) true) =
+          let here : now i d ≡ (initial i d && cond (shared i) (shared d) true) =
           narrowed.ahead i d (omega arith) l k ∙ and-true (initial i d)
-          ∙ sym (ap (λ b. initial i d && cond b (get_or shared d false) true) unmarked) in
-          subst (λ (n : ℕ). now n d ≡ (initial n d && cond (get_or shared n false) (get_or shared d false) true)) (sym same) here
+          ∙ sym (ap (λ b. initial i d && cond b (shared d) true) unmarked) in
+          subst (λ (n : ℕ). now n d ≡ (initial n d && cond (shared n) (shared d) true)) (sym same) here

@@ -1,4 +1,5 @@
 pub mod Places
+pub mod Wide
 pub mod Cells
 pub mod Merging
 pub mod Advancing

@@ -1,12 +1,13 @@
 -- Which inclusions are still possible.
-use Rattle.std.specs.Prelude.{ℕ, ◌+◌, ◌*◌, ◌==◌, ◌&&◌, not, Bool, true, List, map, slice_index_or}
+use Rattle.std.specs.Prelude.{ℕ, ◌*◌, ◌==◌, ◌&&◌, not, Bool, List, drop, map}
 use Rattle.std.specs.List.{flat_map}
 use Rattle.col_set.specs.ColSet.{upto}
+use Rattle.inclusion_merge.specs.WideSet.{has_wide}
 use Rattle.inclusion_merge.specs.declared.candidates.Candidates.{Candidates}
 
--- whether a column may still be included in another: one answer a pair, by dependent column, then by referenced column
+-- whether a column may still be included in another: the set of these columns stands behind those of the columns before it
 abbrev pub may : Candidates → ℕ → ℕ → Bool
-may c dependent referenced = slice_index_or c.kept.items (dependent * c.columns + referenced) true
+may c dependent referenced = has_wide (drop (dependent * c.parts) c.kept.items) referenced
 
 -- whether two columns differ, and the first may still be included in the second
 abbrev pub is_left : Candidates → ℕ × ℕ → Bool

@@ -1,4 +1,5 @@
 pub mod Values
 pub mod Order
+pub mod WideSet
 pub mod Candidates
 pub mod Sharing

@@ -1,14 +1,21 @@
 // Which inclusions are still possible.
-ghost use Rattle.std.specs.Prelude.{◌≡◌, ◌≢◌, ◌&&◌, ◌<◌, ◌≤◌, ◌+◌, ◌*◌, ℕ, Bool, true, false, length, slice_index_or, IfOk, vec_len};
+ghost use Rattle.std.specs.Prelude.{◌≡◌, ◌≢◌, ◌&&◌, ◌<◌, ◌≤◌, ◌+◌, ◌*◌, ℕ, true, length, slice_index, IfOk, vec_len};
+ghost use Rattle.col_set.specs.ColSet.{inter};
+ghost use Rattle.inclusion_merge.specs.WideSet.{has_wide};
 
+use crate::wide_set::{PART, has_wide, parts_for, parts_of};
+use rel_base::ColSet;
 use std::alloc::{AllocError, Global};
 
-/// Which inclusions among so many columns are still possible, one answer a pair.
+/// Which inclusions among so many columns are still possible: for each column, the set of those that it may be included in.
 #[derive(Drop)]
 pub(crate) struct Candidates {
     columns: usize,
-    kept: Vec<bool>,
-    ghost square: { vec_len kept ≡ columns * columns },
+    // How many parts each set has.
+    parts: usize,
+    kept: Vec<ColSet>,
+    ghost room: { columns ≤ 128 * parts },
+    ghost square: { vec_len kept ≡ columns * parts },
 }
 
 impl Candidates {
@@ -19,10 +26,15 @@ impl Candidates {
         ensures size { IfOk result (λ all. all.columns ≡ columns) }
         ensures has { IfOk result (λ all. (c d : ℕ) → c < columns → d < columns → may all c d ≡ true) }
     {
-        let size = columns.checked_mul(columns).ok_or(AllocError)?;
+        let parts = parts_for(columns);
+        let Some(count) = columns.checked_mul(parts) else {
+            return Err(AllocError);
+        };
+        let kept = parts_of(alloc, ColSet::all(PART as u8), count)?;
         Ok(Candidates {
             columns,
-            kept: vec![in alloc; true; size]?,
+            parts,
+            kept,
         })
     }
 
@@ -33,36 +45,46 @@ impl Candidates {
         self.columns
     }
 
+    /// How many parts a set of these columns has.
+    pub(crate) fn parts(&self) -> usize
+        ensures parts { result ≡ self.now.parts }
+        ensures room { self.now.columns ≤ 128 * self.now.parts }
+    {
+        let _columns = self.columns;
+        self.parts
+    }
+
     /// Whether the first column may still be included in the second.
     pub(crate) fn has(&self, dependent: usize, referenced: usize) -> bool
         requires dependent { dependent < self.now.columns }
         requires referenced { referenced < self.now.columns }
         ensures { result ≡ may self.now dependent referenced }
     {
-        self.kept[dependent * self.columns + referenced]
+        has_wide(&self.kept[dependent * self.parts..], referenced)
     }
 
     /// The column may be included in these columns alone, of those that are left.
-    pub(crate) fn keep(&mut self, dependent: usize, shared: &[bool])
+    pub(crate) fn keep(&mut self, dependent: usize, shared: &[ColSet])
         requires dependent { dependent < self.old.columns }
-        requires shared { length shared.now ≡ self.old.columns }
-        ensures size { self.new.columns ≡ self.old.columns }
+        requires shared { length shared.now ≡ self.old.parts }
+        ensures columns { self.new.columns ≡ self.old.columns }
+        ensures parts { self.new.parts ≡ self.old.parts }
         ensures others { (c d : ℕ) → c < self.old.columns → d < self.old.columns → c ≢ dependent → may self.new c d ≡ may self.old c d }
-        ensures kept { (d : ℕ) → d < self.old.columns → may self.new dependent d ≡ (may self.old dependent d && slice_index_or shared.now d false) }
+        ensures kept { (d : ℕ) → d < self.old.columns → may self.new dependent d ≡ (may self.old dependent d && has_wide shared.now d) }
     {
-        keep_common(&mut self.kept, dependent * self.columns, shared);
+        keep_common(&mut self.kept, dependent * self.parts, shared);
     }
 }
 
-// Keeps the answers from this place on that are kept here too.
-fn keep_common(kept: &mut [bool], from: usize, shared: &[bool])
+// Keeps the columns of a set that are in another too.
+fn keep_common(kept: &mut [ColSet], from: usize, shared: &[ColSet])
     requires { from + length shared.now ≤ length kept.old }
-    ensures before { (place : ℕ) → place < from → slice_index_or kept.new place true ≡ slice_index_or kept.old place true }
+    ensures before { (place : ℕ) → place < from → slice_index kept.new place ≡ slice_index kept.old place }
     ensures here { (place : ℕ) → place < length shared.now
-        → slice_index_or kept.new (from + place) true ≡ (slice_index_or kept.old (from + place) true && slice_index_or shared.now place false) }
-    ensures behind { (place : ℕ) → from + length shared.now ≤ place → slice_index_or kept.new place true ≡ slice_index_or kept.old place true }
+        → slice_index kept.new (from + place) ≡ inter (slice_index kept.old (from + place)) (slice_index shared.now place) }
+    ensures behind { (place : ℕ) → from + length shared.now ≤ place → slice_index kept.new place ≡ slice_index kept.old place }
 {
     for place in 0..shared.len() {
-        kept[from + place] = kept[from + place] && shared[place];
+        kept[from + place] = kept[from + place].inter(shared[place]);
     }
 }

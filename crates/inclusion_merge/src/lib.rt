@@ -14,6 +14,7 @@ mod pairs;
 mod tests;
 mod value;
 mod values;
+mod wide_set;
 
 use crate::merge::merged;
 use crate::pairs::pairs_of;

@@ -1,11 +1,14 @@
 // Lists of values merged, all at once.
-ghost use Rattle.std.specs.Prelude.{◌≡◌, ◌↔◌, ◌<◌, ◌&&◌, if◌then◌else◌, ℕ, Bool, true, false, length, map, slice_index_or, IfOk, IsTrue, MatchOption, vec_len};
+ghost use Rattle.std.specs.Prelude.{◌≡◌, ◌↔◌, ◌<◌, ◌≤◌, ◌*◌, ◌&&◌, if◌then◌else◌, ℕ, Bool, true, false, length, map, slice_index_or, IfOk, IsTrue, MatchOption, vec_len};
 ghost use Rattle.std.specs.Prelude.{drop};
 ghost use Rattle.inclusion_merge.specs.Candidates.{may};
+ghost use Rattle.inclusion_merge.specs.WideSet.{has_wide};
 ghost use Rattle.inclusion_merge.specs.Sharing.{AllRise, BeginsWith, IsFirstOf, IsLeastFirst, AllEnded, lesser_of, TellsParts, list_at, lists_of, values_behind};
 
 use crate::candidates::Candidates;
 use crate::value::Value;
+use crate::wide_set::{clear_wide, has_wide, insert_wide, parts_of};
+use rel_base::ColSet;
 use std::alloc::{AllocError, Global};
 
 /// Which lists of values are parts of which, by one pass over all of them from their least values upwards. At each value, the lists that have it
@@ -17,15 +20,15 @@ pub(crate) fn merged(alloc: Global, lists: &[Vec<Value>]) -> Result<Candidates, 
 {
     let mut rests = slices_of(alloc, lists)?;
     let mut kept = Candidates::all(alloc, lists.len())?;
-    let mut shared = vec![in alloc; false; lists.len()]?;
+    let mut shared = parts_of(alloc, ColSet::empty(), kept.parts())?;
     pass(&mut rests, &mut shared, &mut kept);
     Ok(kept)
 }
 
 // Takes all values off these lists, from the least one upwards.
-fn pass(rests: &mut [&[Value]], shared: &mut [bool], kept: &mut Candidates)
+fn pass(rests: &mut [&[Value]], shared: &mut [ColSet], kept: &mut Candidates)
     requires rise { AllRise (lists_of rests.old) }
-    requires shared { length shared.old ≡ length rests.old }
+    requires shared { length shared.old ≡ kept.old.parts }
     requires columns { kept.old.columns ≡ length rests.old }
     requires all { (c d : ℕ) → c < length rests.old → d < length rests.old → may kept.old c d ≡ true }
     ensures columns { kept.new.columns ≡ kept.old.columns }
@@ -87,27 +90,31 @@ fn begins_with(rest: &[Value], value: &Value) -> bool
 }
 
 // Marks the lists that begin with this value.
-fn mark(rests: &[&[Value]], value: &Value, shared: &mut [bool])
-    requires { length shared.old ≡ length rests.now }
-    ensures { (place : ℕ) → place < length rests.now → (slice_index_or shared.new place false ≡ true) ↔ BeginsWith value.now (list_at (lists_of rests.now) place) }
+fn mark(rests: &[&[Value]], value: &Value, shared: &mut [ColSet])
+    requires { length rests.now ≤ 128 * length shared.old }
+    ensures { (place : ℕ) → place < length rests.now → (has_wide shared.new place ≡ true) ↔ BeginsWith value.now (list_at (lists_of rests.now) place) }
 {
+    clear_wide(shared);
     for place in 0..rests.len() {
-        shared[place] = begins_with(rests[place], value);
+        if begins_with(rests[place], value) {
+            insert_wide(shared, place);
+        }
     }
 }
 
 // Takes the first value off the lists that are marked, and leaves each of them the marked lists alone that it may be a part of.
-fn advance(rests: &mut [&[Value]], shared: &[bool], kept: &mut Candidates)
-    requires lists { length shared.now ≡ length rests.old }
+fn advance(rests: &mut [&[Value]], shared: &[ColSet], kept: &mut Candidates)
+    requires shared { length shared.now ≡ kept.old.parts }
     requires kept { kept.old.columns ≡ length rests.old }
     ensures rests { (place : ℕ) → place < length rests.old
-        → list_at (lists_of rests.new) place ≡ (if slice_index_or shared.now place false then drop 1 (list_at (lists_of rests.old) place) else list_at (lists_of rests.old) place) }
-    ensures size { kept.new.columns ≡ kept.old.columns }
+        → list_at (lists_of rests.new) place ≡ (if has_wide shared.now place then drop 1 (list_at (lists_of rests.old) place) else list_at (lists_of rests.old) place) }
+    ensures columns { kept.new.columns ≡ kept.old.columns }
+    ensures parts { kept.new.parts ≡ kept.old.parts }
     ensures kept { (c d : ℕ) → c < kept.old.columns → d < kept.old.columns
-        → may kept.new c d ≡ (may kept.old c d && (if slice_index_or shared.now c false then slice_index_or shared.now d false else true)) }
+        → may kept.new c d ≡ (may kept.old c d && (if has_wide shared.now c then has_wide shared.now d else true)) }
 {
     for place in 0..rests.len() {
-        if shared[place] {
+        if has_wide(shared, place) {
             rests[place] = behind_first(rests[place]);
             kept.keep(place, shared);
         }

@@ -1,5 +1,6 @@
 use Rattle.std.proofs.Common.{◌≡◌, ◌∙◌, ◌<◌, ◌≤◌, arith, refl, sym, ap, subst, List, ℕ, Bool, false, true, cond, drop, get_or, length, length-drop}
 use Rattle.inclusion_merge.specs.Candidates.{may}
+use Rattle.inclusion_merge.specs.WideSet.{has_wide}
 use Rattle.inclusion_merge.specs.Sharing.{AllEnded, IsLeastFirst, list_at, lists_of}
 use Rattle.inclusion_merge.proofs.Merging.{Merged, Merged-all, Merged-more, Merged-none, total, total_falls}
 use Rattle.inclusion_merge.proofs.Places.{length-lists_of}
@@ -10,6 +11,7 @@ loop-least-init c =
     let long = length-lists_of c.args.rests.now in
     record {
       columns = refl;
+      parts = refl;
       merged = Merged-none (lists_of c.args.rests.now) (may c.args.kept.now) (λ k d l m. c.requires.all k d (omega arith) (omega arith));
     }
 
@@ -17,7 +19,7 @@ pub loop-least-smaller : goal.loop-least-smaller
 loop-least-smaller c =
     let long = length-lists_of c.loop-least.rests in
     let long' = length-lists_of c.advance.new.rests in
-    total_falls (lists_of c.loop-least.rests) (lists_of c.advance.new.rests) (λ k. get_or c.mark.new.shared k false) c.in-Some.least.now (omega arith)
+    total_falls (lists_of c.loop-least.rests) (lists_of c.advance.new.rests) (λ k. has_wide c.mark.new.shared k) c.in-Some.least.now (omega arith)
     (subst (λ (n : ℕ). IsLeastFirst c.in-Some.least.now (lists_of c.loop-least.rests) n) (sym long) c.in-Some.ensures)
     (λ k l. c.mark.ensures k (omega arith))
     (λ k l. c.advance.ensures.rests k (omega arith))
@@ -30,10 +32,11 @@ loop-least-preserved c =
     let columns = c.loop-least.invariant.columns in
     let wide = c.requires.columns in
     record {
-      columns = c.advance.ensures.size ∙ columns;
+      columns = c.advance.ensures.columns ∙ columns;
+      parts = c.advance.ensures.parts ∙ c.loop-least.invariant.parts;
       merged =
           Merged-more (lists_of c.args.rests.now) (lists_of c.loop-least.rests) (lists_of c.advance.new.rests) (may c.loop-least.kept) (may c.advance.new.kept) c.in-Some.least.now
-          (λ k. get_or c.mark.new.shared k false) c.requires.rise c.loop-least.invariant.merged
+          (λ k. has_wide c.mark.new.shared k) c.requires.rise c.loop-least.invariant.merged
           (subst (λ (n : ℕ). IsLeastFirst c.in-Some.least.now (lists_of c.loop-least.rests) n) (sym long) c.in-Some.ensures)
           (λ k l. c.mark.ensures k (omega arith))
           (omega arith)

@@ -7,6 +7,7 @@ use Rattle.inclusion_merge.proofs.merge.pass.Given as goal
 abbrev pub invariant-loop-least : goal.invariant-loop-least
 invariant-loop-least l = record {
   columns : l.kept.columns ≡ l.initial.kept.columns;
+  parts : l.kept.parts ≡ l.initial.kept.parts;
   merged : Merged (lists_of l.initial.rests) (lists_of l.rests) (may l.kept);
 }
 
