@@ -1,0 +1,109 @@
+-- New lists put in place, target by target.
+use Rattle.std.proofs.Common.{inl, inr, ◌≡◌, ◌≢◌, ◌⊎◌, ℕ, zero, suc, ◌+◌, ◌<◌, ◌≤◌, refl, sym, ap, ◌∙◌, subst, arith, List, [], ◌∷◌, ◌++◌, length, get_or, Option, Some, None}
+use Rattle.std.proofs.lemmas.Bool.{cases_eq}
+use Rattle.std.proofs.lemmas.List.{length-append, length-set, get_or-set_same, get_or-set_other, get_or_append_left}
+use Rattle.std.proofs.lemmas.List.FromFn.{length-map-range_with_len}
+use Rattle.col_set.specs.declared.target.Target.{Target}
+use Rattle.col_set.specs.declared.target.Target.TheVariants.{Col, RowId}
+use Rattle.col_set.specs.Target.{IsColumnTarget}
+use Rattle.candidate_cover.specs.declared.cand.Cand.{Cand}
+use Rattle.candidate_cover.specs.Lists.{CandLists}
+use Rattle.candidate_cover.specs.Cands.{cands_of, with_list}
+use Rattle.cover_steps.specs.Core.{renewed, renewed_list}
+use Rattle.cover_steps.proofs.Kept.{cands_of-renewed}
+use Rattle.cover_steps.proofs.Renewing.{same_lists}
+use Rattle.cover_core.specs.Parts.{IsPart, AreParts}
+
+-- the lists after a target's part was put, where there is one
+abbrev pub put : CandLists → Target → Option (List Cand) → CandLists
+put c t None = c
+put c t (Some part) = with_list c t part
+
+-- the columns that are left are the first ones, and all other targets have their new lists
+pub record PutSoFar (n : ℕ) (ws : List ℕ) (old : CandLists) (others cols : List (Option (List Cand))) (now : CandLists) : Type 0 where
+  pub width : length now.columns ≡ n
+  pub few : length cols ≤ n
+  pub left : (a : ℕ) → a < length cols → get_or cols a None ≡ get_or others a None
+  pub rows : cands_of now RowId ≡ renewed_list n ws old RowId
+  pub done : (a : ℕ) → length cols ≤ a → a < n → cands_of now (Col a) ≡ renewed_list n ws old (Col a)
+  pub todo : (a : ℕ) → a < length cols → cands_of now (Col a) ≡ cands_of old (Col a)
+
+-- the part of the row's identity is put
+pub put-first : (n : ℕ) (ws : List ℕ) (old : CandLists) (first : Option (List Cand)) (others : List (Option (List Cand))) → length old.columns ≡ n → AreParts n ws old first others → PutSoFar n ws old others others (put old RowId first)
+put-first n ws old None others wide parts = record {
+  width = wide;
+  few = let e = parts.count in omega arith;
+  left = λ a l. refl;
+  rows = sym parts.rows;
+  done = λ a l m. absurd (let e = parts.count in omega arith);
+  todo = λ a l. refl;
+}
+put-first n ws old (Some part) others wide parts = record {
+  width = wide;
+  few = let e = parts.count in omega arith;
+  left = λ a l. refl;
+  rows = parts.rows;
+  done = λ a l m. absurd (let e = parts.count in omega arith);
+  todo = λ a l. refl;
+}
+
+get_or-last : {X : Type 0} (xs : List X) (y d : X) → get_or (xs ++ y ∷ []) (length xs) d ≡ y
+get_or-last [] y d = refl
+get_or-last (x ∷ xs) y d = get_or-last xs y d
+
+-- the part of the last column that is left is put
+pub put-more : (n : ℕ) (ws : List ℕ) (old : CandLists) (first : Option (List Cand)) (others cols : List (Option (List Cand))) (part : Option (List Cand)) (now : CandLists) → AreParts n ws old first others
+    → PutSoFar n ws old others (cols ++ part ∷ []) now → PutSoFar n ws old others cols (put now (Col (length cols)) part)
+put-more n ws old first others cols part now parts so = by part refl
+  where
+    longer : length (cols ++ part ∷ []) ≡ length cols + 1
+    longer = length-append cols (part ∷ [])
+
+    within : length cols < n
+    within = let l = so.few in let e = longer in omega arith
+
+    kept : (a : ℕ) → a < length cols → get_or cols a None ≡ get_or others a None
+    kept a l = sym (get_or_append_left cols (part ∷ []) None a l) ∙ so.left a (let e = longer in omega arith)
+
+    is : part ≡ get_or others (length cols) None
+    is = sym (get_or-last cols part None) ∙ so.left (length cols) (let e = longer in omega arith)
+
+    at : IsPart n ws old (Col (length cols)) part
+    at = subst (IsPart n ws old (Col (length cols))) (sym is) (parts.columns (length cols) within)
+
+    before : cands_of now (Col (length cols)) ≡ cands_of old (Col (length cols))
+    before = so.todo (length cols) (let e = longer in omega arith)
+
+    by : (q : Option (List Cand)) → part ≡ q → PutSoFar n ws old others cols (put now (Col (length cols)) q)
+    by None e = record {
+      width = so.width;
+      few = let w = within in omega arith;
+      left = kept;
+      rows = so.rows;
+      done = λ a l m. elim (cases_eq a (length cols)) as (λ _. cands_of now (Col a) ≡ renewed_list n ws old (Col a)) [
+        | inl i ↦ subst (λ (k : ℕ). cands_of now (Col k) ≡ renewed_list n ws old (Col k)) (sym i) (before ∙ sym (subst (IsPart n ws old (Col (length cols))) e at))
+        | inr ne ↦ so.done a (let k = longer in omega arith) m
+      ];
+      todo = λ a l. so.todo a (let k = longer in omega arith);
+    }
+    by (Some p) e = record {
+      width = length-set now.columns (length cols) p ∙ so.width;
+      few = let w = within in omega arith;
+      left = kept;
+      rows = so.rows;
+      done = λ a l m. elim (cases_eq a (length cols)) as (λ _. cands_of (with_list now (Col (length cols)) p) (Col a) ≡ renewed_list n ws old (Col a)) [
+        | inl i ↦ subst (λ (k : ℕ). cands_of (with_list now (Col (length cols)) p) (Col k) ≡ renewed_list n ws old (Col k)) (sym i)
+            (get_or-set_same now.columns (length cols) p [] (let w = so.width in let v = within in omega arith) ∙ subst (IsPart n ws old (Col (length cols))) e at)
+        | inr ne ↦ get_or-set_other now.columns (length cols) a p [] ne ∙ so.done a (let k = longer in omega arith) m
+      ];
+      todo = λ a l. get_or-set_other now.columns (length cols) a p [] (λ i. absurd (omega arith)) ∙ so.todo a (let k = longer in omega arith);
+    }
+
+-- all parts were put
+pub put-whole : (n : ℕ) (ws : List ℕ) (old : CandLists) (others : List (Option (List Cand))) (now : CandLists) → PutSoFar n ws old others [] now → now ≡ renewed n ws old
+unfolding renewed
+put-whole n ws old others now so = same_lists now (renewed n ws old) (so.width ∙ sym (length-map-range_with_len (λ (a : ℕ). renewed_list n ws old (Col a)) 0 n)) each
+  where
+    each : (t : Target) → IsColumnTarget (length now.columns) t → cands_of now t ≡ cands_of (renewed n ws old) t
+    each RowId l = so.rows
+    each (Col a) l = let m : a < n = subst (λ (k : ℕ). a < k) so.width l in so.done a (omega arith) m ∙ sym (cands_of-renewed n ws old (Col a) m)

@@ -1,7 +1,12 @@
-use Rattle.std.proofs.Common.{rules, ◌≡◌, IfOk, ℕ, ◌+◌, ◌-◌, ◌*◌, ◌<◌, ◌≤◌, length, ◌/◌, ◌%◌, Bool, true, false, nat_eq, nat_lt, List, [], ◌∷◌, ◌++◌, slice_index_or, slice_set, bit_and, bit_or, Fits, w8, w32, w64, Bor, MutBor}
-use Rattle.cover_core.specs.Ended as spec
+use Rattle.std.proofs.Common.{◌≡◌, sym, ◌∙◌}
+use Rattle.cover_core.proofs.Ending.{ended-more_row, ended-more_none}
 use Rattle.cover_core.proofs.ended.ended.Goals as goal
+use Rattle.cover_core.proofs.ended.ended.Goals.{in-Some+in_ok-push, in_default}
 
--- src/ended.rt:13:5
 pub loop-op-preserved : goal.loop-op-preserved
-loop-op-preserved c = ?
+loop-op-preserved c = elim c.match-ended_row.branch [
+  | in-Some+in_ok-push w ↦ rw w.rows-is
+      (w.in_ok-push.ensures.items ∙ ended-more_row c.ops-op-items.result.now c.loop-op.op-index c.op-item.result w.in-Some.row c.loop-op.rows.items c.loop-op-test.true c.op-item.is (sym c.ended_row.ensures ∙ w.in-Some.is) c.loop-op.invariant)
+  | in_default w ↦ rw w.rows-is
+      (ended-more_none c.ops-op-items.result.now c.loop-op.op-index c.op-item.result c.loop-op.rows.items c.loop-op-test.true c.op-item.is (sym c.ended_row.ensures ∙ w.in_default.is) c.loop-op.invariant)
+]
