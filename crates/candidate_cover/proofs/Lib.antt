@@ -2,4 +2,5 @@ pub mod Evidence
 pub mod Growing
 pub mod Exploring
 pub mod Parts
+pub mod Remarked
 pub mod Sorting

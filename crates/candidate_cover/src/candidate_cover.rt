@@ -6,7 +6,7 @@ ghost use Rattle.col_set.specs.Target.{IsColumnTarget, has_target};
 ghost use Rattle.col_set.specs.Evidence.{least};
 ghost use Rattle.candidate_cover.specs.Cands as words;
 ghost use Rattle.candidate_cover.specs.Cands.{width, cands_of, with_list, lefts, is_listed, kept_or_fresh, marked, holding, IsInOrder};
-ghost use Rattle.candidate_cover.specs.Marks.{cands};
+ghost use Rattle.candidate_cover.specs.Marks.{cand, cands};
 ghost use Rattle.candidate_cover.specs.declared.cand.Cand.{Cand};
 ghost use Rattle.candidate_cover.specs.declared.cand.Marking.TheVariants.{Marked, Dropped};
 
@@ -50,7 +50,7 @@ impl CandidateCover {
     {
         let rows = opening(alloc)?;
         let mut trees = Vec::with_capacity(alloc, columns as usize)?;
-        for _ in 0..columns {
+        for column in 0..columns {
             trees.push(opening(alloc)?)?;
         }
         Ok(CandidateCover {
@@ -82,11 +82,12 @@ impl CandidateCover {
         ensures least { IfOk result (λ part. (ws : List ℕ) → lefts (cands_of self.now target) ≡ least (width self.now) ws target → lefts part ≡ least (width self.now) (ws ++ z ∷ []) target) }
         ensures marks { IfOk result (λ part. part ≡ map (kept_or_fresh (cands_of self.now target)) (lefts part)) }
     {
+        let columns = self.columns();
         let tree = SetTree::of_list(self.tree(target).list(alloc)?);
         let tree = if z.has_target(target) {
             tree
         } else {
-            specialised(alloc, self.columns(), target, z, tree)?
+            specialised(alloc, columns, target, z, tree)?
         };
         Ok(Part { tree })
     }
@@ -161,9 +162,13 @@ impl CandidateCover {
         requires test { F.IsAlwaysCallable test }
         ensures { (p : Cand → Bool) → ((c : Cand) (b : Bool) → F.post test c b → b ≡ p c) → result ≡ find p (cands_of self.now target) }
     {
-        let found = self
-            .tree(target)
-            .first(|left, mark| requires { F.pre test (record { left = left; upto = mark.upto; held = mark.held }) } { test(mark.of(left)) });
+        let meets = |left: ColSet, mark: Mark|
+            requires { F.pre test (cand (left, mark)) }
+            ensures { F.post test (cand (left, mark)) result }
+        {
+            test(mark.of(left))
+        };
+        let found = self.tree(target).first(meets);
         match found {
             Some((left, mark)) => Some(mark.of(left)),
             None => None,
@@ -174,13 +179,10 @@ impl CandidateCover {
     pub fn list(&self, alloc: Global, target: Target) -> Result<Vec<Cand>, AllocError>
         requires { IsColumnTarget (width self.now) target }
         ensures list { IfOk result (λ list. list.items ≡ cands_of self.now target) }
-        ensures order { IsInOrder (cands_of self.now target) }
+        ensures order { IfOk result (λ list. IsInOrder list.items) }
     {
         let pairs = self.tree(target).list(alloc)?;
-        let mut list = Vec::with_capacity(alloc, pairs.len())?;
-        for pair in pairs.as_slice() {
-            list.push(pair.1.of(pair.0))?;
-        }
+        let list = candidates(alloc, pairs.as_slice())?;
         Ok(list)
     }
 
@@ -194,6 +196,17 @@ impl CandidateCover {
             Target::RowId => &self.rows,
         }
     }
+}
+
+// The candidates of these left sides and marks.
+fn candidates(alloc: Global, pairs: &[(ColSet, Mark)]) -> Result<Vec<Cand>, AllocError>
+    ensures { IfOk result (λ list. list.items ≡ cands pairs.now) }
+{
+    let mut list = Vec::with_capacity(alloc, pairs.len())?;
+    for pair in pairs {
+        list.push(pair.1.of(pair.0))?;
+    }
+    Ok(list)
 }
 
 // The empty set, of which nothing is known.

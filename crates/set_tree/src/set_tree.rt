@@ -115,7 +115,8 @@ impl<V: Copy> SetTree<V> {
 
     /// The value of x.
     pub fn get(&self, x: ColSet) -> Option<V>
-        ensures { result ≡ value_at self.now x }
+        ensures value { result ≡ value_at self.now x }
+        ensures order { IsInOrder self.now }
     {
         match place_of(self.pairs.as_slice(), x) {
             Ok(place) => Some(self.pairs[place].1),

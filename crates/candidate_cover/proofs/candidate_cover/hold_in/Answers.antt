@@ -1,14 +1,25 @@
-use Rattle.std.proofs.Common.{◌≡◌}
+use Rattle.std.proofs.Common.{◌≡◌, ◌∙◌, ap, sym, max, false, if◌then◌else◌}
+use Rattle.set_tree.specs.Pairs.{with_value}
+use Rattle.candidate_cover.specs.declared.cand.Cand.{Cand}
+use Rattle.candidate_cover.specs.declared.cand.Mark.{Mark}
+use Rattle.candidate_cover.specs.declared.cand.Marking.TheVariants.{Marked, Dropped}
+use Rattle.candidate_cover.specs.Marks.{cands}
+use Rattle.candidate_cover.proofs.Remarked.{is_listed-cands, key_of_value, no_key_of_none, one_value, remarked, untouched}
 use Rattle.candidate_cover.proofs.candidate_cover.hold_in.Goals as goal
 
 pub returns-in-Some-clause-answer : goal.returns-in-Some-clause-answer
-returns-in-Some-clause-answer c = ?
+returns-in-Some-clause-answer c = c.set.ensures.found ∙ sym (is_listed-cands c.args.tree.now c.args.x)
 
 pub returns-in-Some-clause-list : goal.returns-in-Some-clause-list
-returns-in-Some-clause-list c = ?
+returns-in-Some-clause-list c =
+    let f : Mark → Mark = λ m. record { upto = m.upto; held = c.args.held } in
+    ap cands (c.set.ensures.pairs)
+    ∙ remarked f c.args.tree.now c.args.x c.in-Some.mark (one_value c.args.tree.now c.args.x c.in-Some.mark c.in-Some.ensures.order c.in-Some.ensures.value)
 
 pub returns-in-None-clause-answer : goal.returns-in-None-clause-answer
-returns-in-None-clause-answer c = ?
+returns-in-None-clause-answer c = sym (is_listed-cands c.args.tree.now c.args.x ∙ no_key_of_none c.args.tree.now c.args.x c.in-None.ensures.value)
 
 pub returns-in-None-clause-list : goal.returns-in-None-clause-list
-returns-in-None-clause-list c = ?
+returns-in-None-clause-list c =
+    let g : Cand → Cand = λ c'. record { left = c.args.x; upto = c'.upto; held = c.args.held } in
+    untouched g c.args.tree.now c.args.x (no_key_of_none c.args.tree.now c.args.x c.in-None.ensures.value)

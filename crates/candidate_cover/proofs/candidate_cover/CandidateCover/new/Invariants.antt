@@ -3,5 +3,5 @@ use Rattle.candidate_cover.specs.Cands.{fresh}
 use Rattle.candidate_cover.specs.Marks.{cands}
 use Rattle.candidate_cover.proofs.candidate_cover.CandidateCover.new.Given as goal
 
-abbrev pub invariant-loop-trees : goal.invariant-loop-trees
-invariant-loop-trees l = map cands l.trees.items ≡ replicate l.i (fresh 0 ∷ [])
+abbrev pub invariant-loop-column : goal.invariant-loop-column
+invariant-loop-column l = map cands l.trees.items ≡ replicate l.column (fresh 0 ∷ [])
