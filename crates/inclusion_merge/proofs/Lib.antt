@@ -4,3 +4,4 @@ pub mod Cells
 pub mod Merging
 pub mod Advancing
 pub mod Pairing
+pub mod Settling

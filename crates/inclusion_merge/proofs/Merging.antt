@@ -261,7 +261,7 @@ pub total : List (List Cell) → ℕ
 total [] = 0
 total (x ∷ xs) = length x + total xs
 
-total_le : (xs ys : List (List Cell)) → length ys ≡ length xs → ((c : ℕ) → c < length xs → length (list_at ys c) ≤ length (list_at xs c)) → total ys ≤ total xs
+pub total_le : (xs ys : List (List Cell)) → length ys ≡ length xs → ((c : ℕ) → c < length xs → length (list_at ys c) ≤ length (list_at xs c)) → total ys ≤ total xs
 unfolding total
 total_le [] [] e h = omega arith
 total_le [] (y ∷ ys) e h = absurd (omega arith)

@@ -1,13 +1,22 @@
 -- Which inclusions are still possible.
-use Rattle.std.specs.Prelude.{ℕ, ◌*◌, ◌==◌, ◌&&◌, not, Bool, List, drop, map}
+use Rattle.std.specs.Prelude.{◌≡◌, ◌≢◌, ◌⊎◌, ◌<◌, ℕ, ◌*◌, ◌==◌, ◌&&◌, not, Bool, false, List, [], drop, map}
 use Rattle.std.specs.List.{flat_map}
 use Rattle.col_set.specs.ColSet.{upto}
+use Rattle.rel_base.specs.Cells.{Cell}
 use Rattle.inclusion_merge.specs.WideSet.{has_wide}
 use Rattle.inclusion_merge.specs.declared.candidates.Candidates.{Candidates}
 
 -- whether a column may still be included in another: the set of these columns stands behind those of the columns before it
 abbrev pub may : Candidates → ℕ → ℕ → Bool
 may c dependent referenced = has_wide (drop (dependent * c.parts) c.kept.items) referenced
+
+-- no inclusion of a column or in it is left, but in itself
+abbrev pub IsSettled : Candidates → ℕ → Type 0
+IsSettled c column = (other : ℕ) → other < c.columns → other ≢ column → (may c column other ≡ false) × (may c other column ≡ false)
+
+-- a column's list stays as it was, or nothing is left of it and the column is settled
+abbrev pub IsSameOrSettled : Candidates → ℕ → List Cell → List Cell → Type 0
+IsSameOrSettled c column old new = (new ≡ old) ⊎ ((new ≡ []) × IsSettled c column)
 
 -- whether two columns differ, and the first may still be included in the second
 abbrev pub is_left : Candidates → ℕ × ℕ → Bool

@@ -1,7 +1,7 @@
 // Lists of values merged, all at once.
 ghost use Rattle.std.specs.Prelude.{◌≡◌, ◌↔◌, ◌<◌, ◌≤◌, ◌*◌, ◌&&◌, if◌then◌else◌, ℕ, Bool, true, false, length, map, slice_index_or, IfOk, IsTrue, MatchOption, vec_len};
 ghost use Rattle.std.specs.Prelude.{drop};
-ghost use Rattle.inclusion_merge.specs.Candidates.{may};
+ghost use Rattle.inclusion_merge.specs.Candidates.{IsSameOrSettled, may};
 ghost use Rattle.inclusion_merge.specs.WideSet.{has_wide};
 ghost use Rattle.inclusion_merge.specs.Sharing.{AllRise, BeginsWith, IsFirstOf, IsLeastFirst, AllEnded, lesser_of, TellsParts, list_at, lists_of, values_behind};
 
@@ -34,9 +34,54 @@ fn pass(rests: &mut [&[Value]], shared: &mut [ColSet], kept: &mut Candidates)
     ensures columns { kept.new.columns ≡ kept.old.columns }
     ensures tells { TellsParts (lists_of rests.old) (may kept.new) }
 {
+    let mut turns = Turns { left: 1, next: 1 };
     while let Some(least) = least_of(rests) {
         mark(rests, least, shared);
         advance(rests, shared, kept);
+        settle(rests, kept, &mut turns);
+    }
+}
+
+// When to look for lists that are no longer needed: after 1, 2, 4 and so on turns, and at least after every so many.
+#[derive(Drop)]
+struct Turns {
+    left: u32,
+    next: u32,
+}
+
+impl Turns {
+    // Counts a turn, and says whether it is time.
+    fn is_due(&mut self) -> bool {
+        self.left = self.left.saturating_sub(1);
+        if self.left > 0 {
+            return false;
+        }
+        self.next = self.next.saturating_mul(2).min(4_096);
+        self.left = self.next;
+        true
+    }
+}
+
+// Where it is time, takes all that is left off the lists that are no longer needed.
+fn settle(rests: &mut [&[Value]], kept: &Candidates, turns: &mut Turns)
+    requires { kept.now.columns ≡ length rests.old }
+    ensures { (place : ℕ) → place < length rests.old → IsSameOrSettled kept.now place (list_at (lists_of rests.old) place) (list_at (lists_of rests.new) place) }
+{
+    if turns.is_due() {
+        for place in 0..rests.len() {
+            rests[place] = rest_if_needed(rests[place], kept, place);
+        }
+    }
+}
+
+fn rest_if_needed<'a, 'b>(rest: &'a [Value<'b>], kept: &Candidates, place: usize) -> &'a [Value<'b>]
+    requires { place < kept.now.columns }
+    ensures { IsSameOrSettled kept.now place rest.now result.now }
+{
+    if !rest.is_empty() && kept.is_settled(place) {
+        &rest[..0]
+    } else {
+        rest
     }
 }
 
