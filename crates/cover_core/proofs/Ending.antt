@@ -24,7 +24,7 @@ use Rattle.cover_steps.specs.Core.{standing}
 use Rattle.negative_cover.specs.Witnesses.{sets_of}
 use Rattle.cover_steps.specs.Sound.{IsWitness}
 use Rattle.cover_steps.proofs.Exact.{least-same}
-use Rattle.cover_core.specs.Ended.{ended, ended_row}
+use Rattle.cover_core.specs.EndedRows.{ended, ended_row}
 
 -- whether a row is one of these
 abbrev pub is_among : List ℕ → ℕ → Bool

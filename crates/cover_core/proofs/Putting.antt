@@ -12,7 +12,7 @@ use Rattle.candidate_cover.specs.Cands.{cands_of, with_list}
 use Rattle.cover_steps.specs.Core.{renewed, renewed_list}
 use Rattle.cover_steps.proofs.Kept.{cands_of-renewed}
 use Rattle.cover_steps.proofs.Renewing.{same_lists}
-use Rattle.cover_core.specs.Parts.{IsPart, AreParts}
+use Rattle.cover_core.specs.NewLists.{IsPart, AreParts}
 
 -- the lists after a target's part was put, where there is one
 abbrev pub put : CandLists → Target → Option (List Cand) → CandLists
@@ -107,3 +107,65 @@ put-whole n ws old others now so = same_lists now (renewed n ws old) (so.width �
     each : (t : Target) → IsColumnTarget (length now.columns) t → cands_of now t ≡ cands_of (renewed n ws old) t
     each RowId l = so.rows
     each (Col a) l = let m : a < n = subst (λ (k : ℕ). a < k) so.width l in so.done a (omega arith) m ∙ sym (cands_of-renewed n ws old (Col a) m)
+
+-- what is so while the parts of columns are put, whatever agree sets they are of
+pub record IsPutSoFar (old : CandLists) (first : Option (List Cand)) (others cols : List (Option (List Cand))) (now : CandLists) : Type 0 where
+  pub width : length now.columns ≡ length old.columns
+  pub few : length cols ≤ length old.columns
+  pub so : (ws : List ℕ) → AreParts (length old.columns) ws old first others → PutSoFar (length old.columns) ws old others cols now
+
+same-width : (c : CandLists) (t : Target) (part : Option (List Cand)) → length (put c t part).columns ≡ length c.columns
+same-width c RowId None = refl
+same-width c RowId (Some part) = refl
+same-width c (Col a) None = refl
+same-width c (Col a) (Some part) = length-set c.columns a part
+
+pub IsPutSoFar-first : (old now : CandLists) (first : Option (List Cand)) (others : List (Option (List Cand))) → length others ≡ length old.columns → now ≡ put old RowId first → IsPutSoFar old first others others now
+IsPutSoFar-first old now first others e i = subst (IsPutSoFar old first others others) (sym i) (record {
+  width = same-width old RowId first;
+  few = omega arith;
+  so = λ ws parts. put-first (length old.columns) ws old first others refl parts;
+})
+
+pub IsPutSoFar-more : (old now new : CandLists) (first : Option (List Cand)) (others before cols : List (Option (List Cand))) (part : Option (List Cand)) (a : ℕ) → before ≡ cols ++ part ∷ [] → a ≡ length cols
+    → IsPutSoFar old first others before now → new ≡ put now (Col a) part → IsPutSoFar old first others cols new
+IsPutSoFar-more old now new first others before cols part a e l so i =
+    let s : IsPutSoFar old first others (cols ++ part ∷ []) now = subst (λ (bs : List (Option (List Cand))). IsPutSoFar old first others bs now) e so in
+    let longer : length (cols ++ part ∷ []) ≡ length cols + 1 = length-append cols (part ∷ []) in
+    let same : put now (Col (length cols)) part ≡ new = ap (λ (k : ℕ). put now (Col k) part) (sym l) ∙ sym i in
+    subst (IsPutSoFar old first others cols) same (record {
+      width = same-width now (Col (length cols)) part ∙ s.width;
+      few = let f = s.few in omega arith;
+      so = λ ws parts. put-more (length old.columns) ws old first others cols part now parts (s.so ws parts);
+    })
+
+pub IsPutSoFar-whole : (old now : CandLists) (first : Option (List Cand)) (others cols : List (Option (List Cand))) → cols ≡ [] → IsPutSoFar old first others cols now → (ws : List ℕ) → AreParts (length old.columns) ws old first others → now ≡ renewed (length old.columns) ws old
+IsPutSoFar-whole old now first others cols e so ws parts = put-whole (length old.columns) ws old others now (subst (λ (cs : List (Option (List Cand))). PutSoFar (length old.columns) ws old others cs now) e (so.so ws parts))
+
+-- ---- parts made one after another
+-- the parts of the row's identity and of the first columns
+pub record ArePartsSoFar (n : ℕ) (ws : List ℕ) (c : CandLists) (first : Option (List Cand)) (others : List (Option (List Cand))) (k : ℕ) : Type 0 where
+  pub rows : IsPart n ws c RowId first
+  pub count : length others ≡ k
+  pub columns : (a : ℕ) → a < k → IsPart n ws c (Col a) (get_or others a None)
+
+pub ArePartsSoFar-first : (n : ℕ) (ws : List ℕ) (c : CandLists) (first : Option (List Cand)) (others : List (Option (List Cand))) → IsPart n ws c RowId first → others ≡ [] → ArePartsSoFar n ws c first others 0
+ArePartsSoFar-first n ws c first others part e = record { rows = part; count = ap length e; columns = λ a l. absurd (omega arith) }
+
+pub ArePartsSoFar-more : (n : ℕ) (ws : List ℕ) (c : CandLists) (first : Option (List Cand)) (others new : List (Option (List Cand))) (part : Option (List Cand)) (k : ℕ) → ArePartsSoFar n ws c first others k → IsPart n ws c (Col k) part → new ≡ others ++ part ∷ [] → ArePartsSoFar n ws c first new (k + 1)
+ArePartsSoFar-more n ws c first others new part k so is e = subst (λ (os : List (Option (List Cand))). ArePartsSoFar n ws c first os (k + 1)) (sym e) (record {
+  rows = so.rows;
+  count = let l = length-append others (part ∷ []) in let m = so.count in omega arith;
+  columns = λ a l. elim (cases_eq a k) as (λ _. IsPart n ws c (Col a) (get_or (others ++ part ∷ []) a None)) [
+    | inl i ↦ subst (λ (j : ℕ). IsPart n ws c (Col j) (get_or (others ++ part ∷ []) j None)) (sym i) (subst (IsPart n ws c (Col k)) (sym (ap (λ (j : ℕ). get_or (others ++ part ∷ []) j None) (sym so.count) ∙ get_or-last others part None)) is)
+    | inr ne ↦ let m : a < k = omega arith in
+        subst (IsPart n ws c (Col a)) (sym (get_or_append_left others (part ∷ []) None a (let u = so.count in omega arith))) (so.columns a m)
+  ];
+})
+
+pub ArePartsSoFar-whole : (n : ℕ) (ws : List ℕ) (c : CandLists) (first : Option (List Cand)) (others : List (Option (List Cand))) (k : ℕ) → ArePartsSoFar n ws c first others k → k ≡ n → AreParts n ws c first others
+ArePartsSoFar-whole n ws c first others k so e = record { rows = so.rows; count = so.count ∙ e; columns = λ a l. so.columns a (let m = e in omega arith) }
+
+pub none_left : {X : Type 0} (xs : List X) → length xs ≡ 0 → xs ≡ []
+none_left [] e = refl
+none_left (x ∷ xs) e = absurd (omega arith)

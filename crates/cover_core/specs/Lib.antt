@@ -1,4 +1,5 @@
-pub mod Ended
-pub mod Searching
+pub mod EndedRows
 pub mod Kept
-pub mod Parts
+pub mod Tests
+pub mod NewLists
+pub mod Replies

@@ -1,6 +1,6 @@
 // The rows that a batch ends.
 ghost use Rattle.std.specs.Prelude.{◌≡◌, IfOk};
-ghost use Rattle.cover_core.specs.Ended as spec;
+ghost use Rattle.cover_core.specs.EndedRows as spec;
 
 use rel_base::{Batch, Op, RowNo};
 use std::alloc::{AllocError, Global};

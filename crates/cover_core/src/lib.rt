@@ -1,7 +1,16 @@
-//! The book.
+//! The book: the rows of a relation, the witnesses that refute dependencies, and the candidates that they leave, in one
+//! object. Each call is one step of the shared cover (HyFD, Papenbrock and Naumann, 2016; DynFD, Schirmer and others, 2019).
 #![tactic(auto)]
 
 mod answers;
+mod book;
 mod ended;
+mod listed;
+mod parts;
+mod renewal;
+mod searching;
 
 pub use answers::{Draw, Refutation, Release, Settling};
+pub use book::Book;
+pub use candidate_cover::Marking;
+pub use row_log::Applying;

@@ -1,5 +1,5 @@
 use Rattle.std.proofs.Common.{◌≡◌, take}
-use Rattle.cover_core.specs.Ended.{ended}
+use Rattle.cover_core.specs.EndedRows.{ended}
 use Rattle.cover_core.proofs.ended.ended.Given as goal
 
 abbrev pub invariant-loop-op : goal.invariant-loop-op

@@ -11,15 +11,11 @@ use Rattle.candidate_cover.specs.declared.cand.Cand.{Cand}
 use Rattle.candidate_cover.specs.Lists.{CandLists}
 use Rattle.candidate_cover.specs.Cands.{cands_of}
 use Rattle.cover_steps.specs.Core.{targets, entries_in}
-use Rattle.cover_core.specs.Searching.{on_cand}
+use Rattle.cover_core.specs.Tests.{on_cand}
 
 -- the entries of a target
 abbrev pub entries_of : CandLists → Target → List (Target × Cand)
 entries_of s t = map (λ (c : Cand). (t, c)) (cands_of s t)
-
-
-
-
 
 find-entries_of : (s : CandLists) (t : Target) (p : Cand → Bool) (cs : List Cand) → find (on_cand p) (map (λ (c : Cand). (t, c)) cs) ≡ option_map (λ (c : Cand). (t, c)) (find p cs)
 find-entries_of s t p [] = refl

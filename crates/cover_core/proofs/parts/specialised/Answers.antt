@@ -1,0 +1,16 @@
+use Rattle.std.proofs.Common.{◌≡◌, ◌<◌, arith}
+use Rattle.col_set.specs.declared.target.Target.TheVariants.{Col, RowId}
+use Rattle.candidate_cover.specs.Cands.{width}
+use Rattle.cover_core.proofs.Putting.{ArePartsSoFar-first, ArePartsSoFar-more, ArePartsSoFar-whole}
+use Rattle.cover_core.proofs.parts.specialised.Goals as goal
+
+pub loop-column-init : goal.loop-column-init
+loop-column-init c ws least = ArePartsSoFar-first _ _ _ _ _ (c.in_ok-rows.ensures ws (least.each RowId tt)) c.in_ok-columns.ensures.items
+
+pub loop-column-preserved : goal.loop-column-preserved
+loop-column-preserved c ws least =
+    let l : c.loop-column.column < width c.args.candidates.now = omega (arith, c.columns-column-end.ensures.width) in
+    ArePartsSoFar-more _ _ _ _ _ _ _ _ (c.loop-column.invariant ws least) (c.in_ok-part.ensures ws (least.each (Col c.loop-column.column) l)) c.in_ok-push.ensures.items
+
+pub returns : goal.returns
+returns c ws least = ArePartsSoFar-whole _ _ _ _ _ _ (c.loop-column.invariant ws least) (omega (arith, c.columns-column-end.ensures.width))

@@ -1,0 +1,249 @@
+// The book.
+ghost use Rattle.std.specs.Prelude.{◌≡◌, ◌≢◌, ◌<◌, ◌^◌, ◌↔◌, true, None, IfOk, IsTrue, OnErr};
+ghost use Rattle.std.specs.List.{All};
+ghost use Rattle.col_set.specs.Target.{IsColumnTarget};
+ghost use Rattle.rel_base.specs.JobParts.{JobParts};
+ghost use Rattle.rel_base.specs.RowState.{opened, width};
+ghost use Rattle.rel_base.specs.Shows.{holds_in};
+ghost use Rattle.rel_base.specs.Covers.{covers};
+ghost use Rattle.rel_base.specs.Laws.{IsAsWide};
+ghost use Rattle.cover_steps.specs.Core.{opened_core, first_unfinished as first_unfinished_of};
+ghost use Rattle.cover_steps.specs.Steps as steps;
+ghost use Rattle.cover_steps.specs.Sound.{Sound, Fits};
+ghost use Rattle.cover_core.specs.Replies.{reply_of_draw, reply_of_refutation, reply_of_mark, reply_of_release, reply_of_batch, reply_of_settle, IfJob, IfReady};
+
+use crate::answers::{Draw, Refutation, Release, Settling};
+use crate::listed::listed;
+use crate::parts::{put_all, specialised};
+use crate::renewal::renewed_after;
+use crate::searching::{first_drawable, first_unfinished, refutes_some};
+use candidate_cover::{CandidateCover, Marking};
+use negative_cover::{NegativeCover, Witness};
+use rel_base::{Batch, Job, Limits, Nulls, Relation, RowNo, Snapshot};
+use row_log::{Applying, RowLog};
+use std::alloc::{AllocError, Global};
+use std::marker::{Brand, Model};
+use std::sync::Arc;
+use std::sync::ledger::Blank;
+
+/// The rows of a relation, the witnesses that refute dependencies, and for each target the candidates that they leave.
+///
+/// Contracts see the state of the shared cover. It is sound between any two calls: each witness is of two live rows, the
+/// candidates are the least sets that no witness refutes, and each is known to hold below its mark.
+#[derive(Drop)]
+pub struct Book {
+    rows: RowLog,
+    witnesses: NegativeCover,
+    candidates: CandidateCover,
+    snapshot: Arc<Snapshot>,
+    alloc: Global,
+}
+
+impl Model for Book {
+    ghost use Rattle.rel_base.specs.Shows.{Shows};
+    ghost use Rattle.cover_steps.specs.Core.{Core};
+    ghost use Rattle.cover_core.specs.Kept.{IsBook};
+
+    ghost Value = { Core };
+
+    ghost view = { λ b. record { rows = b.rows; witnesses = b.witnesses; candidates = b.candidates } };
+
+    ghost invariant = { λ b. IsBook (record { rows = b.rows; witnesses = b.witnesses; candidates = b.candidates }) b.snapshot.value };
+}
+
+impl Book {
+    ghost use Rattle.rel_base.specs.declared.nulls.Nulls.TheVariants.{Equal};
+
+    /// The book of a relation as it was read, where NULL equals NULL.
+    pub fn open(alloc: Global, relation: Relation, limits: Limits) -> Result<Book, AllocError>
+        ensures { IfOk result (λ book. book ≡ opened_core (opened Equal limits.rows relation)) }
+    {
+        Book::open_with(alloc, relation, limits, Nulls::Equal)
+    }
+
+    /// The book of a relation as it was read, with this reading of NULL: no witness, and for each target the empty set as its
+    /// one candidate. It takes a step a cell, and lets the relation go as soon as it is coded.
+    pub fn open_with(
+        alloc: Global,
+        relation: Relation,
+        limits: Limits,
+        nulls: Nulls,
+    ) -> Result<Book, AllocError>
+        ensures { IfOk result (λ book. book ≡ opened_core (opened nulls limits.rows relation)) }
+    {
+        let rows = RowLog::open_with(alloc, relation, limits, nulls)?;
+        let snapshot = rows.snapshot(alloc)?;
+        let columns = rows.names().len() as u8;
+        let candidates = CandidateCover::new(alloc, columns)?;
+        Ok(Book {
+            rows,
+            witnesses: NegativeCover::new(alloc),
+            candidates,
+            snapshot,
+            alloc,
+        })
+    }
+
+    /// The first candidate, by target and in report order, that is unfinished and not held, as a job; it is held from then on.
+    ///
+    /// It takes a step a candidate before that one. It fails only where no further owner of the snapshot can be counted, and
+    /// then nothing changed.
+    pub fn draw(&mut self) -> Result<Draw, AllocError>
+        ensures step { IfOk result (λ draw. steps.Drawing self.old (reply_of_draw draw) self.new) }
+        ensures refused { OnErr result (self.new ≡ self.old) }
+        ensures drawn { IfOk result (λ draw. IfJob draw (Fits self.new.rows)) }
+        ensures rows { self.new.rows ≡ self.old.rows }
+        ensures fits { (job : JobParts) → Fits self.old.rows job → Fits self.new.rows job }
+        ensures sound { Sound self.new }
+    {
+        let next = self.rows.next();
+        match first_drawable(&self.candidates, next) {
+            Some((target, cand)) => {
+                let snapshot = self.snapshot.clone()?;
+                self.candidates.hold(target, cand.left, true);
+                let job = Job::of(target, cand.left, cand.upto, next, snapshot);
+                Ok(Draw::Job(job))
+            }
+            None => Ok(match first_unfinished(&self.candidates, next) {
+                Some((target, cand)) => Draw::Busy {
+                    target,
+                    left: cand.left,
+                },
+                None => Draw::Settled,
+            }),
+        }
+    }
+
+    /// Says that two different rows agree on some columns only, which refutes dependencies.
+    ///
+    /// It takes a step a candidate, and copies the lists of those targets of which their agree set refutes a candidate.
+    /// After want of memory nothing changed; `Gone` and `Known` take no memory.
+    pub fn refute(&mut self, i: RowNo, j: RowNo) -> Result<Refutation, AllocError>
+        requires { i ≢ j }
+        ensures step { IfOk result (λ refutation. steps.Refuting self.old i j (reply_of_refutation refutation) self.new) }
+        ensures refused { OnErr result (self.new ≡ self.old) }
+        ensures rows { self.new.rows ≡ self.old.rows }
+        ensures fits { (job : JobParts) → Fits self.old.rows job → Fits self.new.rows job }
+        ensures sound { Sound self.new }
+    {
+        if !self.rows.is_live(i) {
+            return Ok(Refutation::Gone(i));
+        }
+        if !self.rows.is_live(j) {
+            return Ok(Refutation::Gone(j));
+        }
+        let agree = self.rows.agree(i, j);
+        if !refutes_some(&self.candidates, agree) {
+            return Ok(Refutation::Known);
+        }
+        let parts = specialised(self.alloc, &self.candidates, agree)?;
+        self.witnesses.add(Witness { i, j, agree })?;
+        put_all(&mut self.candidates, parts);
+        Ok(Refutation::Booked)
+    }
+
+    /// Says that a job's dependency holds in the job's snapshot: its candidate, where it is still in the cover, is known to
+    /// hold below the job's `to`, and is not held any more. It takes no memory, and a step a candidate of the target.
+    pub fn mark(&mut self, job: &Job) -> Marking
+        requires fits { Fits self.old.rows job.now }
+        requires holds { holds_in job.now.snapshot job.now.left job.now.target ≡ true }
+        ensures step { steps.Marking self.old job.now (reply_of_mark result) self.new }
+        ensures rows { self.new.rows ≡ self.old.rows }
+        ensures fits { (other : JobParts) → Fits self.old.rows other → Fits self.new.rows other }
+        ensures sound { Sound self.new }
+    {
+        self.candidates.mark(job.target(), job.left(), job.to())
+    }
+
+    /// Gives a job back: its candidate, where it is still in the cover, is not held any more. It takes no memory, and a step
+    /// a candidate of the target.
+    pub fn release(&mut self, job: &Job) -> Release
+        requires target { IsColumnTarget (width self.old.rows) job.now.target }
+        requires left { job.now.left < 2 ^ width self.old.rows }
+        ensures step { steps.Releasing self.old job.now (reply_of_release result) self.new }
+        ensures rows { self.new.rows ≡ self.old.rows }
+        ensures fits { (other : JobParts) → Fits self.old.rows other → Fits self.new.rows other }
+        ensures sound { Sound self.new }
+    {
+        if self.candidates.hold(job.target(), job.left(), false) {
+            Release::Released
+        } else {
+            Release::Dropped
+        }
+    }
+
+    /// Applies a batch whole or not at all. The witnesses with a dead row are withdrawn, and the candidates are what the rest
+    /// leaves.
+    ///
+    /// It takes a copy of all codes for the new snapshot, a look at each witness, and for each target of which a withdrawn agree
+    /// set lacks the target what `generalise` takes. After a refusal or want of memory nothing changed.
+    pub fn apply(&mut self, batch: &Batch) -> Applying
+        requires { All (IsAsWide (width self.old.rows)) batch.now }
+        ensures step { steps.Applying self.old batch.now (reply_of_batch result) self.new }
+        ensures fits { (job : JobParts) → Fits self.old.rows job → Fits self.new.rows job }
+        ensures sound { Sound self.new }
+    {
+        let answer = self.rows.apply(batch);
+        let Applying::Applied { .. } = answer else {
+            return answer;
+        };
+        let made = renewed_after::<Brand>(
+            self.alloc,
+            &self.rows,
+            &self.witnesses,
+            &self.candidates,
+            batch,
+            Blank::new(1),
+        );
+        match made {
+            Ok(made) => {
+                self.witnesses.withdraw(made.dead.as_slice());
+                put_all(&mut self.candidates, made.parts);
+                self.snapshot = made.snapshot;
+                answer
+            }
+            Err(_) => {
+                self.rows.undo(batch);
+                Applying::NoMemory
+            }
+        }
+    }
+
+    /// The covers of the rows, where each candidate is known to hold in all rows, or else the first candidate that is not.
+    /// Want of memory comes only where the covers are to be made.
+    pub fn settle(&self) -> Result<Settling, AllocError>
+        ensures step { IfOk result (λ settling. steps.Settling self.now (reply_of_settle settling) self.now) }
+        ensures exact { IfOk result (λ settling. IfReady settling (λ found. found ≡ covers self.now.rows)) }
+    {
+        match first_unfinished(&self.candidates, self.rows.next()) {
+            Some((target, cand)) => Ok(Settling::NotYet {
+                target,
+                left: cand.left,
+                upto: cand.upto,
+            }),
+            None => Ok(Settling::Ready(listed(self.alloc, &self.candidates)?)),
+        }
+    }
+
+    /// Whether each candidate is known to hold in all rows. It takes no memory.
+    pub fn settled(&self) -> bool
+        ensures { IsTrue result ↔ (first_unfinished_of self.now ≡ None) }
+    {
+        first_unfinished(&self.candidates, self.rows.next()).is_none()
+    }
+
+    /// The rows.
+    pub fn rows(&self) -> &RowLog
+        ensures rows { result.now ≡ self.now.rows }
+        ensures sound { Sound self.now }
+    {
+        &self.rows
+    }
+
+    /// The witnesses, in the order in which they were booked.
+    pub fn witnesses(&self) -> &NegativeCover
+        ensures { result.now ≡ self.now.witnesses }
+    {
+        &self.witnesses
+    }
+}

@@ -1,0 +1,129 @@
+// New lists of candidates, which are all made before the first is put in place.
+ghost use Rattle.std.specs.Prelude.{◌≡◌, ◌∷◌, [], ◌++◌, not, List, length, IfOk};
+ghost use Rattle.std.specs.List.{list_any};
+ghost use Rattle.col_set.specs.ColSet.{Columns};
+ghost use Rattle.col_set.specs.Target.{IsColumnTarget, has_target};
+ghost use Rattle.col_set.specs.Evidence.{least};
+ghost use Rattle.candidate_cover.specs.Cands.{cands_of, lefts, width};
+ghost use Rattle.cover_steps.specs.Core.{renewed};
+ghost use Rattle.cover_core.specs.NewLists.{AreLeast, IsPart, AreParts};
+
+use crate::searching::is_refuted;
+use candidate_cover::{CandidateCover, Part};
+use rel_base::{ColSet, Steps, Target};
+use std::alloc::{AllocError, Global};
+use std::sync::ledger::Ledger;
+
+// A new list for each target that has one.
+#[derive(Drop)]
+pub(crate) struct Parts {
+    pub(crate) rows: Option<Part>,
+    pub(crate) columns: Vec<Option<Part>>,
+}
+
+// What a further agree set leaves of a target's candidates, where it refutes one.
+fn specialised_part(
+    alloc: Global,
+    candidates: &CandidateCover,
+    target: Target,
+    agree: ColSet,
+) -> Result<Option<Part>, AllocError>
+    requires { IsColumnTarget (width candidates.now) target }
+    ensures { IfOk result (λ part. (ws : List Columns) → lefts (cands_of candidates.now target) ≡ least (width candidates.now) ws target → IsPart (width candidates.now) (ws ++ agree ∷ []) candidates.now target part) }
+{
+    if !is_refuted(candidates, target, agree) {
+        return Ok(None);
+    }
+    Ok(Some(candidates.specialise(alloc, target, agree)?))
+}
+
+// What a further agree set leaves.
+pub(crate) fn specialised(
+    alloc: Global,
+    candidates: &CandidateCover,
+    agree: ColSet,
+) -> Result<Parts, AllocError>
+    ensures { IfOk result (λ parts. (ws : List Columns) → AreLeast (width candidates.now) ws candidates.now → AreParts (width candidates.now) (ws ++ agree ∷ []) candidates.now parts.rows parts.columns.items) }
+{
+    let rows = specialised_part(alloc, candidates, Target::RowId, agree)?;
+    let mut columns = Vec::with_capacity(alloc, candidates.columns() as usize)?;
+    for column in 0..candidates.columns() {
+        let part = specialised_part(alloc, candidates, Target::Col(column), agree)?;
+        columns.push(part)?;
+    }
+    Ok(Parts { rows, columns })
+}
+
+// Whether one of these agree sets lacks the target.
+fn some_lacks(sets: &[ColSet], target: Target) -> bool
+    requires { IsColumnTarget 128 target }
+    ensures { result ≡ list_any (λ z. not (has_target z target)) sets.now }
+{
+    sets.iter().any(|agree| !agree.has_target(target))
+}
+
+// What is left of a target's candidates by the rest of the agree sets, where one that lacks the target was withdrawn.
+fn generalised_part<L: Ledger>(
+    alloc: Global,
+    candidates: &CandidateCover,
+    target: Target,
+    rest: &[ColSet],
+    withdrawn: &[ColSet],
+    steps: &mut Steps<L>,
+) -> Result<Option<Part>, AllocError>
+    requires target { IsColumnTarget (width candidates.now) target }
+    requires least { lefts (cands_of candidates.now target) ≡ least (width candidates.now) (rest.now ++ withdrawn.now) target }
+    ensures { IfOk result (λ part. IsPart (width candidates.now) rest.now candidates.now target part) }
+{
+    // `columns` is called for its clause that there are at most 128.
+    let _count = candidates.columns();
+    if !some_lacks(withdrawn, target) {
+        return Ok(None);
+    }
+    Ok(Some(candidates.generalise(alloc, target, rest, withdrawn, steps)?))
+}
+
+// What the rest of the agree sets leaves, where some were withdrawn.
+pub(crate) fn generalised<L: Ledger>(
+    alloc: Global,
+    candidates: &CandidateCover,
+    rest: &[ColSet],
+    withdrawn: &[ColSet],
+    steps: &mut Steps<L>,
+) -> Result<Parts, AllocError>
+    requires { AreLeast (width candidates.now) (rest.now ++ withdrawn.now) candidates.now }
+    ensures { IfOk result (λ parts. AreParts (width candidates.now) rest.now candidates.now parts.rows parts.columns.items) }
+{
+    let rows = generalised_part(alloc, candidates, Target::RowId, rest, withdrawn, steps)?;
+    let mut columns = Vec::with_capacity(alloc, candidates.columns() as usize)?;
+    for column in 0..candidates.columns() {
+        let part = generalised_part(
+            alloc,
+            candidates,
+            Target::Col(column),
+            rest,
+            withdrawn,
+            steps,
+        )?;
+        columns.push(part)?;
+    }
+    Ok(Parts { rows, columns })
+}
+
+// Puts the parts in place.
+pub(crate) fn put_all(candidates: &mut CandidateCover, parts: Parts)
+    requires { length parts.columns.items ≡ width candidates.old }
+    ensures { (ws : List Columns) → AreParts (width candidates.old) ws candidates.old parts.rows parts.columns.items → candidates.new ≡ renewed (width candidates.old) ws candidates.old }
+{
+    let Parts { rows, mut columns } = parts;
+    // `columns` is called for its clause that there are at most 128.
+    let _count = candidates.columns();
+    if let Some(part) = rows {
+        candidates.put(Target::RowId, part);
+    }
+    while let Some(part) = columns.pop() {
+        if let Some(part) = part {
+            candidates.put(Target::Col(columns.len() as u8), part);
+        }
+    }
+}

@@ -1,0 +1,60 @@
+// What a batch of changes makes of the book, made before the first change.
+ghost use Rattle.std.specs.Prelude.{◌≡◌, ◌<◌, IfOk};
+ghost use Rattle.rel_base.specs.Shows.{Shows};
+ghost use Rattle.candidate_cover.specs.Cands.{width};
+ghost use Rattle.negative_cover.specs.Witnesses.{sets_of, live_of};
+ghost use Rattle.cover_core.specs.EndedRows as rows_of;
+ghost use Rattle.cover_core.specs.NewLists.{AreLeast, AreParts};
+
+use crate::ended::ended;
+use crate::parts::{Parts, generalised};
+use candidate_cover::CandidateCover;
+use negative_cover::NegativeCover;
+use rel_base::{Batch, RowNo, Snapshot, Steps};
+use row_log::RowLog;
+use std::alloc::{AllocError, Global};
+use std::sync::Arc;
+use std::sync::ledger::{Blank, Ledger};
+
+// The new snapshot, the rows that end, and the new lists of candidates.
+#[derive(Drop)]
+pub(crate) struct Renewal {
+    pub(crate) snapshot: Arc<Snapshot>,
+    pub(crate) dead: Vec<RowNo>,
+    pub(crate) parts: Parts,
+}
+
+// What is to be put in place where these are the rows after the batch.
+pub(crate) fn renewed_after<L: Ledger>(
+    alloc: Global,
+    rows: &RowLog,
+    witnesses: &NegativeCover,
+    candidates: &CandidateCover,
+    batch: &Batch,
+    blank: Blank,
+) -> Result<Renewal, AllocError>
+    requires name { blank.name ≡ L.name }
+    requires parts { blank.parts ≡ L.parts }
+    requires some { 0 < L.parts }
+    requires least { AreLeast (width candidates.now) (sets_of witnesses.now) candidates.now }
+    ensures snapshot { IfOk result (λ made. Shows made.snapshot.value rows.now) }
+    ensures dead { IfOk result (λ made. made.dead.items ≡ rows_of.ended batch.now) }
+    ensures parts { IfOk result (λ made. AreParts (width candidates.now) (sets_of (live_of (rows_of.ended batch.now) witnesses.now)) candidates.now made.parts.rows made.parts.columns.items) }
+{
+    let snapshot = rows.snapshot(alloc)?;
+    let dead = ended(alloc, batch)?;
+    let parted = witnesses.parted(alloc, dead.as_slice())?;
+    let mut steps = Steps::<L>::none(blank);
+    let parts = generalised(
+        alloc,
+        candidates,
+        parted.rest.as_slice(),
+        parted.gone.as_slice(),
+        &mut steps,
+    )?;
+    Ok(Renewal {
+        snapshot,
+        dead,
+        parts,
+    })
+}
