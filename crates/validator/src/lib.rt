@@ -3,6 +3,7 @@
 
 mod judge;
 mod refined;
+mod shelf;
 #[cfg(test)]
 mod tests;
 mod verdict;
