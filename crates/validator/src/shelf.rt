@@ -17,10 +17,12 @@ use stripped_partition::Partition;
 
 // The most columns of a set whose partition is kept, and the most partitions that are kept.
 const MOST_COLUMNS: u32 = 3;
+
 const MOST_KEPT: usize = 1024;
 
 // The weight of a column whose partition was not made yet, and the greatest weight of another.
 pub(crate) const UNKNOWN: u32 = u32::MAX;
+
 const HEAVIEST: u32 = u32::MAX - 1;
 
 // The partition by some columns, and how many rows its groups have.

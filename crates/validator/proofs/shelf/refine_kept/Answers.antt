@@ -17,7 +17,7 @@ pub returns-then-eq-clause-by : goal.returns-then-eq-clause-by
 returns-then-eq-clause-by c x e =
     subst (λ (n : ℕ). n < length c.args.snapshot.now.codes) (same_Some c.in-Some.first x e)
     (refining_column c.args.snapshot.now (λ d. union (get_or c.args.kept.now.items c.args.base d).columns c.args.columns) c.loop-first.kept.items c.loop-first.k c.loop-first.left c.loop-first.invariant
-        c.in-Some.first (first-Some c.loop-first.left c.in-Some.first c.in-Some.ensures.value).had)
+    c.in-Some.first (first-Some c.loop-first.left c.in-Some.first c.in-Some.ensures.value).had)
 
 pub lightest-column-requires-clause-first : goal.lightest-column-requires-clause-first
 lightest-column-requires-clause-first c = (first-Some c.loop-first.left c.in-Some.first c.in-Some.ensures.value).had

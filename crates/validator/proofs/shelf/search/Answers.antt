@@ -16,8 +16,8 @@ pub refine_kept-requires-clause-columns : goal.refine_kept-requires-clause-colum
 refine_kept-requires-clause-columns g c =
     subst (λ (x : ℕ). x < 2 ^ length c.snapshot-snapshot.result.now.codes) (sym c.minus-rest.ensures)
     (minus-below c.index.result.now.columns c.left-left.result (length c.snapshot-snapshot.result.now.codes)
-        (subst (λ (s : CodeTable). c.left-left.result < 2 ^ length s.codes) (sym c.snapshot-snapshot.ensures)
-        (subst (λ (x : ℕ). x < 2 ^ length c.args.job.now.snapshot.codes) (sym c.left-left.ensures) c.requires.fitting.left)))
+    (subst (λ (s : CodeTable). c.left-left.result < 2 ^ length s.codes) (sym c.snapshot-snapshot.ensures)
+    (subst (λ (x : ℕ). x < 2 ^ length c.args.job.now.snapshot.codes) (sym c.left-left.ensures) c.requires.fitting.left)))
 
 -- the columns of the last partition and the further one are the left side
 whole : (bases kept : List Kept) (b k : ℕ) (base last : Kept) (by : Option ℕ) (left rest : ℕ) → base ≡ get_or bases b base → last ≡ get_or kept k last → k < length kept
@@ -32,14 +32,14 @@ found : (s read : CodeTable) (t asked : Target) (from first left x : ℕ) (by : 
 found s read t asked from first left x by groups v es et ef el of h f =
     subst (λ (u : Target). IsFound s left u v) et (subst (λ (y : ℕ). IsFound s y asked v) el (subst (λ (z : CodeTable). IsFound z (plus x by) asked v) es
     (f x of (ap (λ (n : ℕ). holds_in_below n read (plus x by) asked) ef ∙ ap (λ (z : CodeTable). holds_in_below from z (plus x by) asked) es
-        ∙ ap (λ (y : ℕ). holds_in_below from s y asked) el ∙ ap (holds_in_below from s left) et ∙ h))))
+    ∙ ap (λ (y : ℕ). holds_in_below from s y asked) el ∙ ap (holds_in_below from s left) et ∙ h))))
 
 pub returns-clause-pair : goal.returns-clause-pair
 returns-clause-pair g c =
     let k : c.in_ok-k.k < length c.refine_kept.new.kept.items = (let l = c.in_ok-k.ensures.place in omega (arith, c.refine_kept.new.kept.ok.0)) in
     IfOk-weaker c.first_pair.result _ _ (λ v f.
-        found c.args.job.now.snapshot c.snapshot-snapshot.result.now c.args.job.now.target c.target.result c.args.job.now.from c.from.result c.args.job.now.left c.index-2.result.now.columns c.in_ok-k.by c.index-2.result.now.partition v
-        c.snapshot-snapshot.ensures c.target.ensures c.from.ensures
-        (whole c.base.new.kept.items c.refine_kept.new.kept.items c.in_ok-base.base c.in_ok-k.k c.index.result.now c.index-2.result.now c.in_ok-k.by c.left-left.result c.minus-rest.result c.index.ensures c.index-2.ensures k
-            c.in_ok-base.ensures.within c.minus-rest.ensures c.in_ok-k.ensures.columns ∙ c.left-left.ensures)
-        (kept_of c.snapshot-snapshot.result.now c.refine_kept.new.kept.items c.in_ok-k.k c.index-2.result.now c.refine_kept.ensures.kept k c.index-2.ensures) c.requires.fitting.below f) c.first_pair.ensures.pair
+    found c.args.job.now.snapshot c.snapshot-snapshot.result.now c.args.job.now.target c.target.result c.args.job.now.from c.from.result c.args.job.now.left c.index-2.result.now.columns c.in_ok-k.by c.index-2.result.now.partition v
+    c.snapshot-snapshot.ensures c.target.ensures c.from.ensures
+    (whole c.base.new.kept.items c.refine_kept.new.kept.items c.in_ok-base.base c.in_ok-k.k c.index.result.now c.index-2.result.now c.in_ok-k.by c.left-left.result c.minus-rest.result c.index.ensures c.index-2.ensures k
+    c.in_ok-base.ensures.within c.minus-rest.ensures c.in_ok-k.ensures.columns ∙ c.left-left.ensures)
+    (kept_of c.snapshot-snapshot.result.now c.refine_kept.new.kept.items c.in_ok-k.k c.index-2.result.now c.refine_kept.ensures.kept k c.index-2.ensures) c.requires.fitting.below f) c.first_pair.ensures.pair
