@@ -40,28 +40,35 @@ fn rows_of(partition: &Partition) -> usize {
         .saturating_add(partition.error_count() as usize)
 }
 
-// Whether a partition is by some of these columns, and has fewer rows.
-fn is_better(kept: &Kept, columns: ColSet, fewest: usize) -> bool
+// What a verdict on these columns costs from a partition by some of them: a pass over its rows for each column that is left to
+// refine it by, and one to compare them.
+fn cost_of(kept: &Kept, columns: ColSet) -> usize {
+    let left = columns.len().saturating_sub(kept.columns.len());
+    kept.rows.saturating_mul(left as usize + 1)
+}
+
+// Whether a partition is by some of these columns, and a verdict on them costs less from it.
+fn is_better(kept: &Kept, columns: ColSet, least: usize) -> bool
     ensures { IsTrue result → subset kept.now.columns columns ≡ true }
 {
-    if kept.rows < fewest {
+    if cost_of(kept, columns) < least {
         kept.columns.subset_of(columns)
     } else {
         false
     }
 }
 
-// The place of the partition with the fewest rows among those by some of these columns.
-fn smallest_within(kept: &[Kept], columns: ColSet) -> Option<usize>
+// The place of the partition by some of these columns from which a verdict costs the least.
+fn cheapest_within(kept: &[Kept], columns: ColSet) -> Option<usize>
     ensures place { IfSome result (λ k. k < length kept.now) }
     ensures within { (k : ℕ) (d : Kept) → result ≡ Some k → subset (slice_index_or kept.now k d).columns columns ≡ true }
 {
     let mut best = None;
-    let mut fewest = usize::MAX;
+    let mut least = usize::MAX;
     for k in 0..kept.len() {
-        if is_better(&kept[k], columns, fewest) {
+        if is_better(&kept[k], columns, least) {
             best = Some(k);
-            fewest = kept[k].rows;
+            least = cost_of(&kept[k], columns);
         }
     }
     best
@@ -187,7 +194,7 @@ fn base(
     ensures place { IfOk result (λ k. k < vec_len kept.new) }
     ensures within { IfOk result (λ k. (d : Kept) → subset (slice_index_or kept.new.items k d).columns columns ≡ true) }
 {
-    if let Some(k) = smallest_within(kept, columns) {
+    if let Some(k) = cheapest_within(kept, columns) {
         return Ok(k);
     }
     let k = kept.len();

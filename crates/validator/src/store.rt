@@ -56,9 +56,9 @@ impl Store {
 
     /// Validates a job on the store's snapshot, as `validate` does, with the same answer to whether the dependency holds.
     ///
-    /// It starts from the kept partition by some columns of the left side that has the fewest rows, refines it by the others but
-    /// one, and compares the rows of each group by the last one's codes, up to the first difference. So a verdict takes time by the
-    /// rows of that partition. After want of memory the store is as useful as before.
+    /// It starts from the kept partition by columns of the left side from which the fewest rows are passed, refines it by the others
+    /// but one, and compares the rows of each group by the last one's codes, up to the first difference. So a verdict takes time by
+    /// the rows of that partition. After want of memory the store is as useful as before.
     pub fn validate<L: Ledger>(
         &mut self,
         alloc: Global,
