@@ -1,16 +1,15 @@
 -- Lists of kept partitions.
-use Rattle.std.proofs.Common.{inl, inr, ◌⊎◌, not, eqb, ◌≡◌, ℕ, zero, suc, ◌+◌, ◌<◌, ◌≤◌, ◌^◌, true, false, Bool, ◌&&◌, ◌||◌, ◌-◌, ap₂, refl, sym, ap, ◌∙◌, subst, arith, List, [], ◌∷◌, ◌++◌, length, get_or, Option, Some, None}
+use Rattle.std.proofs.Common.{inl, inr, ◌⊎◌, not, eqb, ◌≡◌, ℕ, ◌<◌, ◌≤◌, ◌^◌, true, false, Bool, ◌&&◌, ◌||◌, ap₂, refl, sym, ap, ◌∙◌, subst, arith, List, length, get_or, Option, Some, None}
 use Rattle.std.proofs.lemmas.Bool.{and_parts, false≢true}
 use Rattle.col_set.specs.ColSet.{has, subset, first, without, IsSubset}
 use Rattle.col_set.specs.Members.{has-without}
 use Rattle.col_set.specs.Subsets.{IsSubset-trans}
 use Rattle.col_set.proofs.EachColumn.{first-Some, without-lt}
-use Rattle.std.specs.List.{All}
 use Rattle.col_set.specs.ColSet.{empty, with, union, minus}
 use Rattle.col_set.specs.Members.{has-empty, has-union, has-minus, same_set}
 use Rattle.col_set.specs.Subsets.{true-subset, subset-true, has_within, subset_below}
 use Rattle.rel_base.specs.CodeTable.{CodeTable}
-use Rattle.stripped_partition.specs.Stripped.{stripped, IsPartitionOf}
+use Rattle.stripped_partition.specs.Stripped.{stripped}
 use Rattle.validator.specs.Kept.{IsKept, AreKept}
 use Rattle.validator.specs.Walk.{plus}
 use Rattle.validator.specs.declared.shelf.Kept.{Kept}

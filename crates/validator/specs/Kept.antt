@@ -1,5 +1,5 @@
 -- The partitions that a store keeps.
-use Rattle.std.specs.Prelude.{◌≡◌, ℕ, List}
+use Rattle.std.specs.Prelude.{◌≡◌, List}
 use Rattle.std.specs.List.{All}
 use Rattle.rel_base.specs.CodeTable.{CodeTable}
 use Rattle.stripped_partition.specs.Stripped.{stripped}

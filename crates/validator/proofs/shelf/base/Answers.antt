@@ -1,5 +1,4 @@
-use Rattle.std.proofs.Common.{◌≡◌, ℕ, List, get_or, true, ap, sym, ◌∙◌}
-use Rattle.validator.specs.declared.shelf.Kept.{Kept}
+use Rattle.std.proofs.Common.{ℕ, get_or, ap, ◌∙◌}
 use Rattle.validator.proofs.KeptLists.{empty_within}
 use Rattle.validator.proofs.shelf.base.Goals as goal
 

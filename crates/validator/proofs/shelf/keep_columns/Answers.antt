@@ -1,4 +1,4 @@
-use Rattle.std.proofs.Common.{◌≡◌, ◌<◌, ◌≤◌, ℕ, List, length, ap, sym, ◌∙◌, subst, Vec, Global, arith}
+use Rattle.std.proofs.Common.{◌<◌, ℕ, sym, subst, Vec, Global}
 use Rattle.col_set.proofs.EachColumn.{first-Some}
 use Rattle.validator.specs.Kept.{AreKept}
 use Rattle.validator.specs.declared.shelf.Kept.{Kept}

@@ -1,5 +1,5 @@
-use Rattle.std.proofs.Common.{inl, inr, ◌≡◌, ◌<◌, ◌≤◌, ℕ, refl, sym, ap, ◌∙◌, subst, arith}
-use Rattle.validator.proofs.KeptLists.{Chosen, chosen_start, chosen_next, chosen_smaller}
+use Rattle.std.proofs.Common.{inl, inr}
+use Rattle.validator.proofs.KeptLists.{chosen_start, chosen_next, chosen_smaller}
 use Rattle.validator.proofs.shelf.lightest.Goals as goal
 use Rattle.validator.proofs.shelf.lightest.Goals.{then-weights-column, else-weights-column}
 

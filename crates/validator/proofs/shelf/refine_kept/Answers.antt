@@ -1,9 +1,8 @@
-use Rattle.std.proofs.Common.{◌≡◌, ◌<◌, ◌≤◌, ◌+◌, ℕ, List, length, get_or, true, Bool, eqb, Option, Some, ap, ap₂, sym, ◌∙◌, subst, arith}
+use Rattle.std.proofs.Common.{◌<◌, ℕ, length, get_or, ap, sym, ◌∙◌, subst, arith}
 use Rattle.std.proofs.lemmas.Bool.{eqb-true}
 use Rattle.std.proofs.lemmas.Option.{same_Some}
-use Rattle.col_set.specs.ColSet.{union, with, has}
+use Rattle.col_set.specs.ColSet.{union}
 use Rattle.col_set.proofs.EachColumn.{first-Some}
-use Rattle.validator.specs.declared.shelf.Kept.{Kept}
 use Rattle.validator.proofs.KeptLists.{refining_end, refining_column, refining_last, refining_smaller, refining_next}
 use Rattle.validator.proofs.shelf.refine_kept.Goals as goal
 

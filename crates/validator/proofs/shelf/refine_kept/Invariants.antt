@@ -1,6 +1,5 @@
 use Rattle.std.proofs.Common.{get_or}
 use Rattle.col_set.specs.ColSet.{union}
-use Rattle.validator.specs.declared.shelf.Kept.{Kept}
 use Rattle.validator.proofs.KeptLists.{Refining}
 use Rattle.validator.proofs.shelf.refine_kept.Given as goal
 
