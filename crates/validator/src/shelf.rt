@@ -136,7 +136,7 @@ fn keep_columns(
     while let Some(column) = left.first() {
         if weights[column as usize] == UNKNOWN {
             let rows = push_column(alloc, snapshot, kept, column)?;
-            weights[column as usize] = rows as u32;
+            weights[column as usize] = rows;
         }
         left = left.without(column);
     }
@@ -283,7 +283,7 @@ pub(crate) fn trim(kept: &mut Vec<Kept>, first: usize, rows: usize, room: usize)
         if is_small(&kept[k], k, more, room) {
             total = more;
         } else {
-            let _large = kept.swap_remove(k);
+            drop(kept.swap_remove(k));
         }
     }
     total
