@@ -142,5 +142,7 @@ pub(crate) fn split(
         ends: Vec::new(alloc),
     };
     split_groups(&mut groups, &mut slots, rows, ends, codes)?;
+    groups.rows.shrink_to_fit();
+    groups.ends.shrink_to_fit();
     Ok(groups)
 }

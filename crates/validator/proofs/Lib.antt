@@ -3,3 +3,4 @@ pub mod Targets
 pub mod Soundness
 pub mod Refinements
 pub mod Exactly
+pub mod KeptLists

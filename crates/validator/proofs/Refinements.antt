@@ -18,7 +18,7 @@ or_false : (b : Bool) → (b || false) ≡ b
 or_false true = refl
 or_false false = refl
 
-union-empty : (x : ℕ) → union x empty ≡ x
+pub union-empty : (x : ℕ) → union x empty ≡ x
 union-empty x = same_set _ _ (λ k. has-union x empty k ∙ ap (λ b. has x k || b) (has-empty k) ∙ or_false (has x k))
 
 empty-union : (x : ℕ) → union empty x ≡ x
@@ -32,7 +32,7 @@ moved false true false f = refl
 moved false false true f = sym (f refl)
 moved false false false f = refl
 
-union-moved : (x y c : ℕ) → has y c ≡ true → union (with x c) (without y c) ≡ union x y
+pub union-moved : (x y c : ℕ) → has y c ≡ true → union (with x c) (without y c) ≡ union x y
 union-moved x y c h = same_set _ _ (λ k.
     has-union (with x c) (without y c) k ∙ ap₂ (λ a b. a || b) (has-with x c k) (has-without y c k)
     ∙ moved (has x k) (has y k) (eqb k c) (λ e. ap (has y) (eqb-true k c e) ∙ h) ∙ sym (has-union x y k))

@@ -3,10 +3,13 @@
 
 mod judge;
 mod refined;
+mod shelf;
+mod store;
 #[cfg(test)]
 mod tests;
 mod verdict;
 mod walk;
 
 pub use judge::validate;
+pub use store::Store;
 pub use verdict::Verdict;

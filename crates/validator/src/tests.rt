@@ -2,7 +2,7 @@ ghost use Rattle.std.specs.Prelude.{◌≡◌, ◌<◌, IsTrue};
 ghost use Rattle.col_set.specs.Target.{IsColumnTarget};
 ghost use Rattle.validator.specs.Verdicts.{IsFitting};
 
-use crate::{Verdict, validate};
+use crate::{Store, Verdict, validate};
 use col_set::{ColSet, Target};
 use rel_base::{Codes, Job, RowNo, Snapshot, Steps};
 use std::alloc::{AllocError, Global};
@@ -90,6 +90,64 @@ fn is_broken(verdict: Verdict, first: u32, second: u32) -> bool {
         Verdict::Holds { .. } => false,
         Verdict::Broken { i, j } => i.number() == first && j.number() == second,
     }
+}
+
+fn verdict_by<L: Ledger>(
+    alloc: Global,
+    rt: &impl Abort,
+    blank: Blank,
+    store: &mut Store,
+    job: &Job,
+) -> Result<Verdict, AllocError>
+    requires name { blank.name ≡ L.name }
+    requires parts { blank.parts ≡ L.parts }
+    requires some { 0 < L.parts }
+    requires same { store.old ≡ job.now.snapshot }
+    ensures { store.new ≡ store.old }
+{
+    assert!(rt; is_fitting(job));
+    let mut steps = Steps::<L>::none(blank);
+    store.validate(alloc, job, &mut steps)
+}
+
+// Whether a store and no store lead to one answer, twice.
+fn agrees(
+    alloc: Global,
+    rt: &impl Abort,
+    store: &mut Store,
+    snapshot: &Arc<Snapshot>,
+    left: ColSet,
+    target: Target,
+) -> Result<bool, AllocError>
+    requires { store.old ≡ snapshot.now.value }
+    ensures { store.new ≡ store.old }
+{
+    let job = Job::of(
+        target,
+        left,
+        RowNo::first(),
+        RowNo::of(6),
+        snapshot.clone()?,
+    );
+    let plain = verdict_on::<Brand>(alloc, rt, Blank::new(1), &job)?;
+    let first = verdict_by::<Brand>(alloc, rt, Blank::new(1), store, &job)?;
+    let again = verdict_by::<Brand>(alloc, rt, Blank::new(1), store, &job)?;
+    Ok(holds(plain) == holds(first) && holds(plain) == holds(again))
+}
+
+#[test]
+fn a_store_answers_as_none_does(rt: HostRuntime) -> Result<(), Fail> {
+    let alloc = rt.alloc();
+    let snapshot = Arc::new(alloc, five_rows(alloc, &rt, vec![in alloc; true; 5]?)?)?;
+    let mut store = Store::of(alloc, snapshot.clone()?, 12);
+    for bits in 0..8u32 {
+        let left = ColSet::of_bits(u128::from(bits));
+        assert!(rt; agrees(alloc, &rt, &mut store, &snapshot, left, Target::RowId)?);
+        assert!(rt; agrees(alloc, &rt, &mut store, &snapshot, left, Target::Col(0))?);
+        assert!(rt; agrees(alloc, &rt, &mut store, &snapshot, left, Target::Col(1))?);
+        assert!(rt; agrees(alloc, &rt, &mut store, &snapshot, left, Target::Col(2))?);
+    }
+    Ok(())
 }
 
 #[test]

@@ -1,0 +1,107 @@
+-- Lists of kept partitions.
+use Rattle.std.proofs.Common.{inl, inr, ◌⊎◌, not, eqb, ◌≡◌, ℕ, ◌<◌, ◌≤◌, ◌^◌, true, false, Bool, ◌&&◌, ◌||◌, ap₂, refl, sym, ap, ◌∙◌, subst, arith, List, length, get_or, Option, Some, None}
+use Rattle.std.proofs.lemmas.Bool.{and_parts, false≢true}
+use Rattle.col_set.specs.ColSet.{has, subset, first, without, IsSubset}
+use Rattle.col_set.specs.Members.{has-without}
+use Rattle.col_set.specs.Subsets.{IsSubset-trans}
+use Rattle.col_set.proofs.EachColumn.{first-Some, without-lt}
+use Rattle.col_set.specs.ColSet.{empty, with, union, minus}
+use Rattle.col_set.specs.Members.{has-empty, has-union, has-minus, same_set}
+use Rattle.col_set.specs.Subsets.{true-subset, subset-true, has_within, subset_below}
+use Rattle.rel_base.specs.CodeTable.{CodeTable}
+use Rattle.stripped_partition.specs.Stripped.{stripped}
+use Rattle.validator.specs.Kept.{IsKept, AreKept}
+use Rattle.validator.specs.Walk.{plus}
+use Rattle.validator.specs.declared.shelf.Kept.{Kept}
+use Rattle.validator.proofs.Refinements.{no_columns, union-moved, union-empty}
+
+-- the place found so far
+pub record Found (kept : List Kept) (columns : ℕ) (best : Option ℕ) (k : ℕ) : Type 0 where
+  pub place : (n : ℕ) → best ≡ Some n → n < k
+  pub within : (n : ℕ) (d : Kept) → best ≡ Some n → subset (get_or kept n d).columns columns ≡ true
+
+-- the column chosen so far
+pub record Chosen (columns best left : ℕ) : Type 0 where
+  pub column : has columns best ≡ true
+  pub bound : best < 128
+  pub inside : IsSubset left columns
+
+pub chosen_start : (columns first : ℕ) → has columns first ≡ true → first < 128 → Chosen columns first columns
+chosen_start columns first h l = record { column = h; bound = l; inside = record { each = λ k m. m } }
+
+module _ (columns best left column : ℕ) (p : Chosen columns best left) (e : Some column ≡ first left) where
+  smaller_set : IsSubset (without left column) left
+  smaller_set = record { each = λ k h. (and_parts (has left k) (not (eqb k column)) (sym (has-without left column k) ∙ h)).0 }
+
+  pub chosen_next : (new : ℕ) → (new ≡ best) ⊎ (new ≡ column) → column < 128 → (rest : ℕ) → rest ≡ without left column → Chosen columns new rest
+  chosen_next new (inl s) b rest r = record { column = ap (has columns) s ∙ p.column; bound = (let a = p.bound in omega arith); inside = subst (λ (x : ℕ). IsSubset x columns) (sym r) (IsSubset-trans smaller_set p.inside) }
+  chosen_next new (inr s) b rest r = record { column = ap (has columns) s ∙ p.inside.each column (first-Some left column e).had; bound = omega arith; inside = subst (λ (x : ℕ). IsSubset x columns) (sym r) (IsSubset-trans smaller_set p.inside) }
+
+  pub chosen_smaller : (rest : ℕ) → rest ≡ without left column → rest < left
+  chosen_smaller rest r = let a = (first-Some left column e).smaller in omega arith
+
+pub empty_within : (x columns : ℕ) → x ≡ empty → subset x columns ≡ true
+empty_within x columns e = true-subset (record { each = λ k h. absurd (false≢true (sym (has-empty k) ∙ ap (λ (z : ℕ). has z k) (sym e) ∙ h)) })
+
+-- a set and the columns that it lacks of a larger one
+pub union-minus : (x y : ℕ) → subset x y ≡ true → union x (minus y x) ≡ y
+union-minus x y e = same_set _ _ (λ k. has-union x (minus y x) k ∙ ap (λ b. has x k || b) (has-minus y x k) ∙ both (has x k) (has y k) ((subset-true e).each k))
+  where
+    both : (a b : Bool) → (a ≡ true → b ≡ true) → (a || (b && not a)) ≡ b
+    both true b f = sym (f refl)
+    both false true f = refl
+    both false false f = refl
+
+pub minus-below : (x y n : ℕ) → y < 2 ^ n → minus y x < 2 ^ n
+minus-below x y n l = subset_below {x = minus y x} {y = y} n (record { each = λ k h. (and_parts (has y k) (not (has x k)) (sym (has-minus y x k) ∙ h)).0 }) l
+
+-- ---- partitions made for the columns of a set
+pub record Keeping (s : CodeTable) (kept : List Kept) (left : ℕ) : Type 0 where
+  pub are : AreKept s kept
+  pub within : left < 2 ^ length s.codes
+
+pub keeping_column : (s : CodeTable) (kept : List Kept) (left column : ℕ) → Keeping s kept left → Some column ≡ first left → column < length s.codes
+keeping_column s kept left column p e = has_within left (length s.codes) column p.within (first-Some left column e).had
+
+pub keeping_next : (s : CodeTable) (kept now : List Kept) (left column rest : ℕ) → Keeping s kept left → Some column ≡ first left → AreKept s now → rest ≡ without left column → Keeping s now rest
+keeping_next s kept now left column rest p e are r = record { are = are; within = (let a = (first-Some left column e).smaller in let b = p.within in omega arith) }
+
+-- ---- a partition refined by columns in turn
+pub record Refining (s : CodeTable) (wanted : Kept → ℕ) (kept : List Kept) (k left : ℕ) : Type 0 where
+  pub are : AreKept s kept
+  pub place : k < length kept
+  pub columns : (d : Kept) → union (get_or kept k d).columns left ≡ wanted d
+  pub within : left < 2 ^ length s.codes
+
+module _ (s : CodeTable) (wanted : Kept → ℕ) (kept : List Kept) (k left : ℕ) (p : Refining s wanted kept k left) where
+  pub refining_end : None ≡ first left → (d : Kept) → plus (get_or kept k d).columns None ≡ wanted d
+  refining_end e d = sym (union-empty (get_or kept k d).columns) ∙ ap (union (get_or kept k d).columns) (sym (no_columns left e)) ∙ p.columns d
+
+  module _ (column : ℕ) (h : has left column ≡ true) where
+    pub refining_column : column < length s.codes
+    refining_column = has_within left (length s.codes) column p.within h
+
+    pub refining_last : without left column ≡ empty → (d : Kept) → plus (get_or kept k d).columns (Some column) ≡ wanted d
+    refining_last e d =
+        sym (union-empty (with (get_or kept k d).columns column)) ∙ ap (union (with (get_or kept k d).columns column)) (sym e)
+        ∙ union-moved (get_or kept k d).columns left column h ∙ p.columns d
+
+    pub refining_smaller : (rest : ℕ) → rest ≡ without left column → rest < left
+    refining_smaller rest r = let a = without-lt left column h in omega arith
+
+    pub refining_next : (now : List Kept) (next rest : ℕ) → AreKept s now → next < length now → ((d : Kept) → (get_or now next d).columns ≡ with (get_or kept k d).columns column) → rest ≡ without left column → Refining s wanted now next rest
+    refining_next now next rest are place columns r = record {
+      are = are;
+      place = place;
+      columns = λ d. ap₂ union (columns d) r ∙ union-moved (get_or kept k d).columns left column h ∙ p.columns d;
+      within = (let a = without-lt left column h in let b = p.within in omega arith);
+    }
+
+-- ---- partitions that are dropped
+pub record Trimmed (old kept : List Kept) (k : ℕ) : Type 0 where
+  pub are : (s : CodeTable) → AreKept s old → AreKept s kept
+  pub place : k ≤ length kept
+
+-- the partition at a place
+pub kept_of : (s : CodeTable) (kept : List Kept) (k : ℕ) (r : Kept) → AreKept s kept → k < length kept → r ≡ get_or kept k r → r.partition ≡ stripped s r.columns
+kept_of s kept k r are l e = subst (IsKept s) (sym e) (are k r l)
