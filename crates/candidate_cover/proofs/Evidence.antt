@@ -1,18 +1,16 @@
 -- What one more agree set refutes, what a part of a list refutes, and the least sets among some columns.
-use Rattle.std.proofs.Common.{inl, inr, ◌≡◌, ◌⊎◌, ℕ, ◌^◌, ◌<◌, Bool, true, false, not, ◌&&◌, ◌||◌, eqb, refl, sym, ap, ◌∙◌, subst, List, [], ◌∷◌, ◌++◌}
-use Rattle.std.specs.List.{list_any}
+use Rattle.std.proofs.Common.{◌≡◌, ℕ, ◌^◌, ◌<◌, Bool, true, false, not, ◌&&◌, ◌||◌, refl, sym, ap, ◌∙◌, List, [], ◌∷◌, ◌++◌}
 use Rattle.std.proofs.lemmas.List.Folds.{list_any-append}
-use Rattle.std.proofs.lemmas.Bool.{and_parts, and_from, true≢false, not-true, not_from_false, or_parts, or_from, false_from_ne_true, eqb-true, eq-eqb, ne_eqb, lt-ltb, ltb-true, cases_Bool}
+use Rattle.std.proofs.lemmas.Bool.{and_parts, and_from, true≢false, not-true, not_from_false, or_parts, or_from, false_from_ne_true, eq-eqb, ne_eqb, lt-ltb, ltb-true}
 use Rattle.col_set.specs.declared.target.Target.{Target}
 use Rattle.col_set.specs.declared.target.Target.TheVariants.{Col, RowId}
 use Rattle.col_set.specs.ColSet.{IsSubset, has, all, subset}
 use Rattle.col_set.specs.Target.{has_target}
 use Rattle.col_set.specs.Evidence.{IsLeast, refuted, least}
 use Rattle.col_set.specs.Members.{has-all, has-without}
-use Rattle.col_set.specs.Subsets.{IsSubset-trans, subset_below, has_within, below_from}
-use Rattle.col_set.specs.Lists.{Listed, list_any_at, list_any_which, Listed-append_left}
+use Rattle.col_set.specs.Subsets.{IsSubset-trans, has_within, below_from}
 use Rattle.col_set.proofs.Minimal.{minimal_below}
-use Rattle.col_set.proofs.Least.{Listed-least, IsLeast-listed, stands_above}
+use Rattle.col_set.proofs.Least.{Listed-least, IsLeast-listed}
 use Rattle.candidate_cover.specs.Growth.{choices, IsLeastAmong, ListsLeast}
 
 -- ---- one more agree set

@@ -1,7 +1,7 @@
 -- What is found inside withdrawn agree sets, from one to the next.
 use Rattle.std.proofs.Common.{inl, inr, ◌≡◌, ◌⊎◌, ℕ, ◌+◌, ◌^◌, ◌<◌, ◌≤◌, Bool, true, false, not, ◌&&◌, ◌||◌, refl, sym, ap, ◌∙◌, subst, List, [], ◌∷◌, ◌++◌, length, get_or, take}
-use Rattle.std.specs.List.{All, list_any}
-use Rattle.std.proofs.lemmas.Bool.{true≢false, false≢true, and_parts, and_from, or_cases, or_left, or_right, not-true, not_from_false, cases_Bool}
+use Rattle.std.specs.List.{All}
+use Rattle.std.proofs.lemmas.Bool.{true≢false, false≢true, and_parts, and_from, or_cases, or_left, or_right, not_from_false}
 use Rattle.std.proofs.lemmas.List.{take_more, take_all}
 use Rattle.std.proofs.lemmas.List.Folds.{list_any_at}
 use Rattle.col_set.specs.declared.target.Target.{Target}
@@ -9,7 +9,7 @@ use Rattle.col_set.specs.ColSet.{IsSubset, has, inter, subset}
 use Rattle.col_set.specs.Target.{has_target}
 use Rattle.col_set.specs.Evidence.{refuted}
 use Rattle.col_set.specs.Members.{has-empty, has-inter}
-use Rattle.col_set.specs.Subsets.{IsSubset-refl, IsSubset-trans, IsSubset-antisymm, subset-true, true-subset, subset_below}
+use Rattle.col_set.specs.Subsets.{IsSubset-trans, IsSubset-antisymm, subset-true, true-subset, subset_below}
 use Rattle.col_set.specs.Lists.{Listed, Listed-append_left, Listed-append_right, Listed-append_cases}
 use Rattle.col_set.proofs.Least.{refuted_inside}
 use Rattle.candidate_cover.specs.Growth.{IsLeastAmong, ListsLeast, IsExplored}
@@ -124,8 +124,7 @@ module _ (u : ℕ) (rest gone : List ℕ) (t : Target) (tops xs : List ℕ) (h :
       each : (x : ℕ) → Listed x xs ⊎ Listed x found → IsLeastAmong u rest t x × (refuted (gone ++ w ∷ []) t x ≡ true)
       each x (inl g) = let i = h.found.each x g in (i.0, refuted-push gone w t x ∙ or_left _ _ i.1)
       each x (inr g) =
-          let i = l.each x g in
-          (
+          let i = l.each x g in (
             record { within = IsSubset-trans i.within (inter_left u w); stands = i.stands; smallest = i.smallest },
             refuted-push gone w t x ∙ or_right _ _ (and_from _ _ (true-subset (IsSubset-trans i.within (inter_right u w))) (not_from_false _ apart)),
           )

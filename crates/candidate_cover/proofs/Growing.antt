@@ -1,13 +1,13 @@
 -- One more agree set: the sets that lie inside it give way to those that grow out of them.
-use Rattle.std.proofs.Common.{inl, inr, ◌≡◌, ◌⊎◌, ℕ, ◌+◌, ◌^◌, ◌<◌, ◌≤◌, Bool, true, false, cond, not, ◌&&◌, ◌||◌, eqb, refl, sym, ap, ◌∙◌, subst, arith, List, [], ◌∷◌, ◌++◌, map, length, get_or, take, zero, suc, append_assoc, append-nil, add-zero, zero-add, if◌then◌else◌}
-use Rattle.std.specs.List.{filter, list_any, flat_map, range_with_len}
+use Rattle.std.proofs.Common.{inl, inr, ◌≡◌, ◌⊎◌, ℕ, ◌+◌, ◌^◌, ◌<◌, Bool, true, false, cond, not, ◌&&◌, eqb, refl, sym, ap, ◌∙◌, subst, arith, List, [], ◌∷◌, ◌++◌, map, length, get_or, take, zero, suc, append_assoc, append-nil, add-zero, zero-add, if◌then◌else◌}
+use Rattle.std.specs.List.{list_any, flat_map, range_with_len}
 use Rattle.std.proofs.lemmas.List.{take_more, map-append}
 use Rattle.std.proofs.lemmas.List.Concat.{flat_map-append}
 use Rattle.std.proofs.lemmas.List.Elements.{filter-append}
 use Rattle.std.proofs.Math.Nat.{suc-add}
-use Rattle.std.proofs.lemmas.Bool.{and_parts, and_from, true≢false, false≢true, not-true, not_from_false, or_cases, or_left, or_right, false_from_ne_true, eqb-true, eq-eqb, ne_eqb, cases_Bool, cases_eq}
+use Rattle.std.proofs.lemmas.Bool.{and_parts, and_from, true≢false, false≢true, not-true, not_from_false, or_cases, or_right, false_from_ne_true, eqb-true, eq-eqb, cases_Bool}
 use Rattle.col_set.specs.declared.target.Target.{Target}
-use Rattle.col_set.specs.ColSet.{IsSubset, has, with, minus, size, columns, set_of, subset, upto}
+use Rattle.col_set.specs.ColSet.{IsSubset, has, with, minus, size, set_of, subset, upto}
 use Rattle.col_set.specs.Target.{has_target}
 use Rattle.col_set.specs.Evidence.{refuted}
 use Rattle.col_set.specs.Members.{has-with, has-minus, has-empty, same_set}

@@ -4,3 +4,4 @@ pub mod Exploring
 pub mod Parts
 pub mod Remarked
 pub mod Sorting
+pub mod Targets

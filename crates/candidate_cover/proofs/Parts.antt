@@ -1,5 +1,5 @@
 -- The target's list made anew: its left sides are the least sets, and each candidate that stays keeps its marks.
-use Rattle.std.proofs.Common.{inl, inr, ◌≡◌, ◌⊎◌, ℕ, ◌^◌, ◌<◌, Bool, true, false, cond, not, ◌&&◌, eqb, refl, sym, ap, ap₂, ◌∙◌, subst, List, [], ◌∷◌, ◌++◌, map, Option, Some, None, Less}
+use Rattle.std.proofs.Common.{inl, inr, ◌≡◌, ◌⊎◌, ℕ, Bool, true, false, cond, not, eqb, refl, sym, ap, ap₂, ◌∙◌, subst, List, [], ◌∷◌, ◌++◌, map, Some, None}
 use Rattle.std.specs.List.{filter, find, list_any}
 use Rattle.std.specs.Option.{unwrap_or}
 use Rattle.std.proofs.lemmas.Bool.{true≢false, false_from_ne_true, not-true, eq-eqb, or_parts, cases_Bool}
@@ -16,7 +16,7 @@ use Rattle.col_set.proofs.Least.{Listed-least, IsLeast-listed}
 use Rattle.set_tree.specs.Pairs.{keys, IsInOrder, is_key, added, inside as inside_pairs, not_inside}
 use Rattle.set_tree.proofs.Places.{apart_from_less}
 use Rattle.set_tree.proofs.Merging.{IsInOrder-added}
-use Rattle.set_tree.proofs.Added.{keys-listed, listed-keys, Rises-keys, keys-filter, is_key-listed, no_key, IsNew, added_keeps, added_has, added_only, keys_added, added_keys}
+use Rattle.set_tree.proofs.Added.{keys-listed, Rises-keys, keys-filter, is_key-listed, no_key, IsNew, added_has, added_only, keys_added, added_keys}
 use Rattle.candidate_cover.specs.declared.cand.Cand.{Cand}
 use Rattle.candidate_cover.specs.declared.cand.Mark.{Mark}
 use Rattle.candidate_cover.specs.Cands.{lefts, fresh, kept_or_fresh}
@@ -114,8 +114,11 @@ module _ (n : ℕ) (t : Target) (z : ℕ) (old new : List (ℕ × Mark)) (g : Is
 
       each : (p : ℕ × Mark) → Listed p (not_inside old z) ⊎ IsNew (not_inside old z) g.sets fresh_mark p → Listed p old ⊎ ((p.1 ≡ fresh_mark) × (is_key old p.0 ≡ false))
       each p (inl h) = inl (Listed-filter_parts (λ p. not (subset p.0 z)) p old h).0
-      each p (inr k) = inr (k.value, no_key old p.0 (λ q h e. true≢false (sym (is_key-listed (not_inside old z) q p.0
-          (Listed-filter (λ p. not (subset p.0 z)) q old h (ap not (ap (λ v. subset v z) e ∙ out p.0 k.listed))) e) ∙ k.absent)))
+      each p (inr k) = inr (
+        k.value,
+        no_key old p.0 (λ q h e. true≢false (sym (is_key-listed (not_inside old z) q p.0
+            (Listed-filter (λ p. not (subset p.0 z)) q old h (ap not (ap (λ v. subset v z) e ∙ out p.0 k.listed))) e) ∙ k.absent)),
+      )
 
 -- ---- after agree sets were withdrawn
 module _ (n : ℕ) (t : Target) (rest gone found : List ℕ) (old new : List (ℕ × Mark)) (o : IsInOrder old) (g : IsGeneralised found old new)
@@ -179,6 +182,9 @@ module _ (n : ℕ) (t : Target) (rest gone found : List ℕ) (old new : List (�
     where
       each : (p : ℕ × Mark) → Listed p left ⊎ IsNew left g.sets fresh_mark p → Listed p old ⊎ ((p.1 ≡ fresh_mark) × (is_key old p.0 ≡ false))
       each p (inl h) = inl (Listed-filter_parts (λ p. not (above p.0)) p old h).0
-      each p (inr k) = inr (k.value, no_key old p.0 (λ q h i.
-          let b = before.each q.0 (keys-listed old q h) in
-          true≢false (sym (x.each p.0 (g.members.each p.0 k.listed)).1 ∙ ap (refuted gone t) (sym i) ∙ stands_right rest gone t q.0 b.stands)))
+      each p (inr k) = inr (
+        k.value,
+        no_key old p.0 (λ q h i.
+            let b = before.each q.0 (keys-listed old q h) in
+            true≢false (sym (x.each p.0 (g.members.each p.0 k.listed)).1 ∙ ap (refuted gone t) (sym i) ∙ stands_right rest gone t q.0 b.stands)),
+      )

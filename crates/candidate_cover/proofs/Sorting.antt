@@ -1,6 +1,6 @@
 -- A list of column sets that was sorted, and then kept each once.
-use Rattle.std.proofs.Common.{inl, inr, ◌≡◌, ℕ, Bool, eqb, sym, subst, List, [], ◌∷◌, Ordering, Less, IsPermutation}
-use Rattle.std.specs.List.{AllByRecursion, Contains, dedup}
+use Rattle.std.proofs.Common.{inl, inr, ◌≡◌, ℕ, eqb, sym, subst, List, [], ◌∷◌, Ordering, Less, IsPermutation}
+use Rattle.std.specs.List.{AllByRecursion, dedup}
 use Rattle.std.specs.List.Sorted.{IsSorted, IsStrictlySortedBy}
 use Rattle.std.specs.List.Retain.{IsFiltered, DiffersFromLast}
 use Rattle.std.proofs.lemmas.List.Filters.{dedup_is}

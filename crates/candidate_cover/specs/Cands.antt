@@ -1,5 +1,5 @@
 -- Candidates: left sides with their marks, in a list for each target.
-use Rattle.std.specs.Prelude.{if◌then◌else◌, ◌≡◌, ℕ, ◌==◌, Bool, false, List, [], map, max, length, slice_index_or, slice_set}
+use Rattle.std.specs.Prelude.{if◌then◌else◌, ℕ, ◌==◌, Bool, false, List, [], map, max, length, slice_index_or, slice_set}
 use Rattle.std.specs.List.{find, list_any}
 use Rattle.std.specs.Option.{unwrap_or}
 use Rattle.col_set.specs.declared.target.Target.{Target}

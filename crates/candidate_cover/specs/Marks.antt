@@ -2,8 +2,8 @@
 use Rattle.std.specs.Prelude.{◌≡◌, ℕ, false, not, List, map}
 use Rattle.std.specs.List.{filter, list_any}
 use Rattle.col_set.specs.declared.target.Target.{Target}
-use Rattle.col_set.specs.ColSet.{Columns, subset, report_cmp}
-use Rattle.col_set.specs.Lists.{Listed, Rises}
+use Rattle.col_set.specs.ColSet.{Columns, subset}
+use Rattle.col_set.specs.Lists.{Listed}
 use Rattle.set_tree.specs.Pairs.{keys, IsInOrder, inside, not_inside, added}
 use Rattle.candidate_cover.specs.declared.cand.Cand.{Cand}
 use Rattle.candidate_cover.specs.declared.cand.Mark.{Mark}

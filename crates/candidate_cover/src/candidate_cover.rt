@@ -72,12 +72,7 @@ impl CandidateCover {
     /// Those inside z give way to their extensions by one column outside z and other than the target, of which the minimal ones
     /// are kept (Papenbrock and Naumann, 2016). Nothing changes here; `put` makes the part the target's list. It copies the
     /// target's list, and takes in addition the number of candidates inside z times that of those with one column outside it.
-    pub fn specialise(
-        &self,
-        alloc: Global,
-        target: Target,
-        z: ColSet,
-    ) -> Result<Part, AllocError>
+    pub fn specialise(&self, alloc: Global, target: Target, z: ColSet) -> Result<Part, AllocError>
         requires { IsColumnTarget (width self.now) target }
         ensures least { IfOk result (λ part. (ws : List ℕ) → lefts (cands_of self.now target) ≡ least (width self.now) ws target → lefts part ≡ least (width self.now) (ws ++ z ∷ []) target) }
         ensures marks { IfOk result (λ part. part ≡ map (kept_or_fresh (cands_of self.now target)) (lefts part)) }
@@ -165,9 +160,7 @@ impl CandidateCover {
         let meets = |left: ColSet, mark: Mark|
             requires { F.pre test (cand (left, mark)) }
             ensures { F.post test (cand (left, mark)) result }
-        {
-            test(mark.of(left))
-        };
+        { test(mark.of(left)) };
         let found = self.tree(target).first(meets);
         match found {
             Some((left, mark)) => Some(mark.of(left)),

@@ -1,8 +1,8 @@
 -- Which pairs a list has where pairs were added to it.
-use Rattle.std.proofs.Common.{inl, inr, ◌≡◌, ◌⊎◌, ℕ, Bool, true, false, eqb, refl, sym, ap, ap₂, ◌∙◌, subst, List, [], ◌∷◌, ◌++◌, map, if◌then◌else◌, Ordering, Less, Equal, Greater}
-use Rattle.std.specs.List.{filter, list_any}
+use Rattle.std.proofs.Common.{inl, inr, ◌≡◌, ◌⊎◌, ℕ, Bool, true, false, eqb, refl, sym, ap, ◌∙◌, subst, List, [], ◌∷◌, if◌then◌else◌, Ordering, Less, Equal, Greater}
+use Rattle.std.specs.List.{filter}
 use Rattle.std.specs.Ordering.{is_lt, ordering_reverse}
-use Rattle.std.proofs.lemmas.Bool.{true≢false, false_from_ne_true, eqb-true, eq-eqb, cases_Bool}
+use Rattle.std.proofs.lemmas.Bool.{true≢false, false_from_ne_true, eqb-true, eq-eqb}
 use Rattle.col_set.specs.ColSet.{report_cmp}
 use Rattle.col_set.specs.Columns.{report_total}
 use Rattle.col_set.specs.Lists.{Listed, Rises, Rises-map, Listed-map, Listed-map_which, Listed-append_left, Listed-append_right, Listed-append_cases, Listed-filter, Listed-filter_parts, list_any_at, list_any_which}

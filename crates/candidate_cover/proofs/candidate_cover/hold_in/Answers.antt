@@ -1,10 +1,8 @@
-use Rattle.std.proofs.Common.{◌≡◌, ◌∙◌, ap, sym, max, false, if◌then◌else◌}
-use Rattle.set_tree.specs.Pairs.{with_value}
+use Rattle.std.proofs.Common.{◌∙◌, ap, sym}
 use Rattle.candidate_cover.specs.declared.cand.Cand.{Cand}
 use Rattle.candidate_cover.specs.declared.cand.Mark.{Mark}
-use Rattle.candidate_cover.specs.declared.cand.Marking.TheVariants.{Marked, Dropped}
 use Rattle.candidate_cover.specs.Marks.{cands}
-use Rattle.candidate_cover.proofs.Remarked.{is_listed-cands, key_of_value, no_key_of_none, one_value, remarked, untouched}
+use Rattle.candidate_cover.proofs.Remarked.{is_listed-cands, no_key_of_none, one_value, remarked, untouched}
 use Rattle.candidate_cover.proofs.candidate_cover.hold_in.Goals as goal
 
 pub returns-in-Some-clause-answer : goal.returns-in-Some-clause-answer

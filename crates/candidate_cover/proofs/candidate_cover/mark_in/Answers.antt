@@ -1,4 +1,4 @@
-use Rattle.std.proofs.Common.{◌≡◌, ◌∙◌, ap, sym, max, false, if◌then◌else◌}
+use Rattle.std.proofs.Common.{◌∙◌, ap, sym, max, false, if◌then◌else◌}
 use Rattle.set_tree.specs.Pairs.{with_value}
 use Rattle.candidate_cover.specs.declared.cand.Cand.{Cand}
 use Rattle.candidate_cover.specs.declared.cand.Mark.{Mark}

@@ -15,6 +15,6 @@ returns g c = λ ws l.
     let out : c.in_ok-sides.sides.outside.items ≡ outside c.args.z c.args.found.items = c.in_ok-sides.ensures.outside ∙ ap (outside c.args.z) c.as_slice-2.ensures.value in
     let made : c.extend_from_slice.new.self.items ≡ outside c.args.z c.args.found.items ++ grown c.args.columns c.args.choices c.args.z (inside c.args.z c.args.found.items) (near c.args.z (outside c.args.z c.args.found.items))
     = c.in_ok-extend_from_slice.ensures.items ∙ ap₂ (λ (xs ys : List ℕ). xs ++ ys) out
-      (c.as_slice-6.ensures.value ∙ c.in_ok-grown.ensures ∙ ap₂ (grown c.args.columns c.args.choices c.args.z) (c.as_slice-4.ensures.value ∙ ins) (c.as_slice-5.ensures.value ∙ c.in_ok-near.ensures ∙ ap (near c.args.z) (c.as_slice-3.ensures.value ∙ out))) in
+    (c.as_slice-6.ensures.value ∙ c.in_ok-grown.ensures ∙ ap₂ (grown c.args.columns c.args.choices c.args.z) (c.as_slice-4.ensures.value ∙ ins) (c.as_slice-5.ensures.value ∙ c.in_ok-near.ensures ∙ ap (near c.args.z) (c.as_slice-3.ensures.value ∙ out))) in
     subst (ListsLeast c.args.choices (ws ++ c.args.z ∷ []) c.args.target) (sym made)
     (lists_after c.args.columns c.args.choices ws c.args.target c.args.z c.requires.few c.requires.apart c.args.found.items l)

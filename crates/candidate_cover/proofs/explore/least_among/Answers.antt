@@ -1,5 +1,4 @@
-use Rattle.std.proofs.Common.{◌≡◌, ◌++◌, ◌∷◌, [], List, ℕ, sym, ap, ap₂, ◌∙◌, subst, take}
-use Rattle.std.proofs.Common.{◌+◌}
+use Rattle.std.proofs.Common.{◌++◌, ◌∷◌, [], List, ℕ, sym, ap, ap₂, ◌∙◌, subst, take}
 use Rattle.candidate_cover.specs.Growth.{ListsLeast}
 use Rattle.candidate_cover.proofs.Exploring.{lists_none, lists_empty, lists_next, lists_pass}
 use Rattle.candidate_cover.proofs.explore.least_among.Goals as goal

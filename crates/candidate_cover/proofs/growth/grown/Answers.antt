@@ -1,4 +1,4 @@
-use Rattle.std.proofs.Common.{◌≡◌, ◌∙◌, sym, ap}
+use Rattle.std.proofs.Common.{◌∙◌, sym, ap}
 use Rattle.candidate_cover.proofs.Growing.{grown_push, grown_skip}
 use Rattle.candidate_cover.proofs.growth.grown.Goals as goal
 use Rattle.candidate_cover.proofs.growth.grown.Goals.{then-is_choice+in_ok-push_grown_by, else-is_choice}

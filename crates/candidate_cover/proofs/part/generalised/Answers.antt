@@ -1,4 +1,4 @@
-use Rattle.std.proofs.Common.{◌≡◌, List, ℕ, sym, ap, ap₂, ◌∙◌, subst, rules, not}
+use Rattle.std.proofs.Common.{List, ℕ, sym, ap, ap₂, ◌∙◌, subst, rules, not}
 use Rattle.std.specs.List.{filter, list_any}
 use Rattle.std.proofs.lemmas.Fn.{filter_same}
 use Rattle.col_set.specs.ColSet.{subset, report_cmp}

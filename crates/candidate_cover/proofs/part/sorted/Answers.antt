@@ -1,4 +1,3 @@
-use Rattle.std.proofs.Common.{◌≡◌}
 use Rattle.candidate_cover.proofs.Sorting.{sorted_order, sorted_members}
 use Rattle.candidate_cover.proofs.part.sorted.Goals as goal
 

@@ -1,8 +1,8 @@
-use Rattle.std.proofs.Common.{◌≡◌, List, ℕ, sym, ap, ap₂, ◌∙◌, subst}
+use Rattle.std.proofs.Common.{◌≡◌, List, ℕ, ap, ap₂, ◌∙◌, subst}
 use Rattle.set_tree.specs.Pairs.{keys, IsInOrder, inside, not_inside, added}
 use Rattle.candidate_cover.specs.declared.cand.Mark.{Mark}
 use Rattle.candidate_cover.specs.Growth.{choices, near, grown}
-use Rattle.candidate_cover.specs.Marks.{HasMembers, fresh_mark}
+use Rattle.candidate_cover.specs.Marks.{HasMembers}
 use Rattle.candidate_cover.proofs.part.specialised.Goals as goal
 
 pub returns : goal.returns

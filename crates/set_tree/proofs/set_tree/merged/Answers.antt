@@ -1,5 +1,5 @@
 use Rattle.std.proofs.Common.{◌+◌, ◌++◌, ◌∷◌, [], ap, ◌∙◌, take, drop, arith}
-use Rattle.set_tree.proofs.Merging.{rest_in_order, made_stands, made_lacks, made_all, made_as, rest_of}
+use Rattle.set_tree.proofs.Merging.{rest_in_order, made_stands, made_lacks, made_as, rest_of}
 use Rattle.set_tree.proofs.set_tree.merged.Goals as goal
 use Rattle.set_tree.proofs.set_tree.merged.Goals.{in-Ok+in_ok-extend_from_slice-in-Ok, in-Err+in_ok-extend_from_slice-in-Err+in_ok-push-in-Err}
 

@@ -1,4 +1,4 @@
-use Rattle.std.proofs.Common.{◌≡◌, ◌∙◌, Bool, Some, ap, sym, rules}
+use Rattle.std.proofs.Common.{◌∙◌, Some, ap, sym, rules}
 use Rattle.std.specs.List.{find}
 use Rattle.std.specs.Option.{option_map}
 use Rattle.candidate_cover.specs.Marks.{cand}

@@ -4,7 +4,7 @@ use Rattle.col_set.specs.Subsets.{IsSubset-refl}
 use Rattle.set_tree.specs.Pairs.{IsInOrder}
 use Rattle.candidate_cover.specs.declared.cand.Cand.{Cand}
 use Rattle.candidate_cover.specs.Growth.{choices, IsExplored}
-use Rattle.candidate_cover.specs.Cands.{width, cands_of, lefts, kept_or_fresh}
+use Rattle.candidate_cover.specs.Cands.{cands_of, lefts, kept_or_fresh}
 use Rattle.candidate_cover.specs.Marks.{cands}
 use Rattle.candidate_cover.proofs.Evidence.{choice_parts}
 use Rattle.candidate_cover.proofs.Parts.{marks_kept, general_least, general_marks}

@@ -4,8 +4,8 @@ use Rattle.col_set.proofs.Specialise.{least-push_known}
 use Rattle.set_tree.specs.Pairs.{IsInOrder}
 use Rattle.candidate_cover.specs.declared.cand.Cand.{Cand}
 use Rattle.candidate_cover.specs.declared.cand.Mark.{Mark}
-use Rattle.candidate_cover.specs.Cands.{width, cands_of, lefts, kept_or_fresh}
-use Rattle.candidate_cover.specs.Marks.{cands, IsGrown}
+use Rattle.candidate_cover.specs.Cands.{cands_of, lefts, kept_or_fresh}
+use Rattle.candidate_cover.specs.Marks.{cands}
 use Rattle.candidate_cover.proofs.Parts.{marks_same, marks_kept, grown_least, grown_marks}
 use Rattle.candidate_cover.proofs.candidate_cover.CandidateCover.specialise.Goals as goal
 use Rattle.candidate_cover.proofs.candidate_cover.CandidateCover.specialise.Goals.{then-has_target, else-has_target+in_ok-tree}
