@@ -1,9 +1,9 @@
 -- The distinct cells of a column, gathered from the codes that live rows use.
-use Rattle.std.proofs.Common.{inl, inr, ◌≡◌, ◌≢◌, ◌⊎◌, ◌↔◌, ℕ, zero, suc, ◌+◌, ◌-◌, ◌<◌, ◌≤◌, Bool, true, false, cond, refl, sym, ap, ◌∙◌, subst, arith, List, [], ◌∷◌, ◌++◌, length, map, get_or, set, slice_get, Some, Result, Ok, Err, IfOk}
+use Rattle.std.proofs.Common.{inl, inr, ◌≡◌, ◌≢◌, ◌⊎◌, ℕ, zero, suc, ◌+◌, ◌-◌, ◌<◌, ◌≤◌, Bool, true, false, refl, sym, ap, ◌∙◌, subst, arith, List, [], ◌∷◌, ◌++◌, length, map, get_or, set, slice_get, Some, Result, Ok, Err, IfOk}
 use Rattle.std.specs.Prelude.{replicate}
-use Rattle.std.specs.List.{All, AllPairs, Contains}
+use Rattle.std.specs.List.{AllPairs, Contains}
 use Rattle.std.proofs.lemmas.Bool.{cases_eq, cases_lt, true≢false}
-use Rattle.std.proofs.lemmas.List.{length-map, get_or-map, get_or-set_same, get_or-set_other, get_or-replicate, get_or_past, get_or_read, length-replicate}
+use Rattle.std.proofs.lemmas.List.{length-map, get_or-set_same, get_or-set_other, get_or-replicate, get_or_past, get_or_read, length-replicate}
 use Rattle.std.proofs.lemmas.Option.{slice_get-get_or, slice_get_within}
 use Rattle.col_set.specs.Lists.{Listed, Listed-append_left, Listed-append_right, Listed-append_cases, Listed-map, Listed-map_which}
 use Rattle.col_set.proofs.Places.{Contains-listed, Listed-contained, Listed-get_or}
@@ -15,7 +15,7 @@ use Rattle.rel_base.specs.RowState.{RowState, row}
 use Rattle.rel_base.proofs.Agree.{false-same_cell}
 use Rattle.column_dict.specs.Coding.{Coding, IsCoding, is_fresh}
 use Rattle.column_dict.proofs.Laid.{same_some}
-use Rattle.row_log.specs.Column.{ColumnCells, column_of}
+use Rattle.row_log.specs.Column.{ColumnCells}
 use Rattle.row_log.specs.Table.{live_of, column_at, IsLog}
 use Rattle.row_log.specs.Distinct.{AreDistinctCells, AreFlaggedCells, AreUsed}
 use Rattle.row_log.proofs.Columns.{cell_of, cell-decoded}

@@ -1,9 +1,9 @@
-use Rattle.std.proofs.Common.{inl, inr, ◌≡◌, ◌<◌, ◌≤◌, ◌∙◌, ◌++◌, ◌∷◌, [], true, ℕ, ap, sym, subst, map, List, Bool, length, IfOk, arith}
+use Rattle.std.proofs.Common.{inl, inr, ◌∙◌, ◌++◌, ◌∷◌, [], ℕ, ap, sym, subst, map, List, length, arith}
 use Rattle.std.proofs.lemmas.List.{map_push}
 use Rattle.rel_base.specs.Cells.{Cell}
 use Rattle.row_log.specs.Column.{ColumnCells}
 use Rattle.row_log.specs.Distinct.{AreFlaggedCells, AreUsed}
-use Rattle.row_log.proofs.Distinct.{AreCellsBelow, AreFlaggedCells-all, if_ok, looked_at}
+use Rattle.row_log.proofs.Distinct.{AreFlaggedCells-all, if_ok, looked_at}
 use Rattle.row_log.proofs.column.Column.flagged_cells.Goals as goal
 use Rattle.row_log.proofs.column.Column.flagged_cells.Goals.{then-is_wanted+in_ok-push, else-is_wanted}
 

@@ -1,9 +1,8 @@
-use Rattle.std.proofs.Common.{◌≡◌, ◌<◌, ◌∙◌, ap, ap₂, sym, subst, List, Bool, length, IfOk, arith}
+use Rattle.std.proofs.Common.{◌<◌, subst, List, Bool, length, arith}
 use Rattle.std.proofs.lemmas.List.{get_or_read}
-use Rattle.rel_base.specs.Cells.{Cell}
 use Rattle.rel_base.specs.RowState.{RowState}
 use Rattle.row_log.specs.Column.{ColumnCells}
-use Rattle.row_log.specs.Table.{no_column, column_at}
+use Rattle.row_log.specs.Table.{no_column}
 use Rattle.row_log.specs.Distinct.{AreDistinctCells, AreFlaggedCells}
 use Rattle.row_log.proofs.Log.{in_width}
 use Rattle.row_log.proofs.Distinct.{AreDistinctCells-kept, if_ok}

@@ -1,9 +1,9 @@
-use Rattle.std.proofs.Common.{◌≡◌, ◌+◌, ◌-◌, ◌∙◌, ℕ, List, map, take, length, ap, ap₂, arith}
+use Rattle.std.proofs.Common.{◌≡◌, ◌-◌, ◌∙◌, ℕ, List, map, take, length, ap, ap₂, arith}
 use Rattle.std.specs.Vec.{with_items}
 use Rattle.std.proofs.lemmas.List.{with_items_is, length-map}
 use Rattle.row_log.specs.Column.{ColumnCells}
 use Rattle.row_log.proofs.Rows.{cut_at}
-use Rattle.row_log.proofs.Changing.{some-flag, some-counted, IsLog-popped, kept-popped}
+use Rattle.row_log.proofs.Changing.{some-flag, IsLog-popped, kept-popped}
 use Rattle.row_log.proofs.row_log.RowLog.pop.Goals as goal
 
 pub overflow_sub-rows : goal.overflow_sub-rows
