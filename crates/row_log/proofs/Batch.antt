@@ -1,7 +1,7 @@
 -- Batches one operation at a time: what the last one did, what is left of one that fails, and how many rows come and end.
-use Rattle.std.proofs.Common.{inl, inr, ◌≡◌, ◌≢◌, ◌⊎◌, ℕ, zero, suc, ◌+◌, ◌-◌, ◌<◌, ◌≤◌, Bool, true, false, cond, not, eqb, refl, sym, ap, ap₂, ◌∙◌, subst, arith, List, [], ◌∷◌, ◌++◌, length, take, drop, get_or, Result, Ok, Err}
+use Rattle.std.proofs.Common.{inl, inr, ◌≡◌, ◌⊎◌, ℕ, suc, ◌+◌, ◌<◌, ◌≤◌, Bool, true, false, cond, not, eqb, refl, sym, ap, ap₂, ◌∙◌, subst, arith, List, [], ◌∷◌, ◌++◌, length, take, drop, get_or, Result, Ok, Err}
 use Rattle.std.specs.List.{All, filter, count_by}
-use Rattle.std.proofs.lemmas.Bool.{true≢false, ne_eqb}
+use Rattle.std.proofs.lemmas.Bool.{ne_eqb}
 use Rattle.std.proofs.lemmas.List.{length_push, length-take-le, take_more, take_all, take-append-drop, drop_more}
 use Rattle.std.proofs.lemmas.List.Sums.{sum_by-cons}
 use Rattle.col_set.specs.Lists.{Listed, Listed-append_cases, Listed-filter_parts}
@@ -19,7 +19,7 @@ use Rattle.rel_base.specs.Laws.{IsAsWide}
 use Rattle.row_log.specs.declared.applying.Applying.{Applying}
 use Rattle.row_log.specs.declared.applying.Halt.{Halt}
 use Rattle.row_log.specs.declared.applying.Halt.TheVariants.{Failed, Starved}
-use Rattle.row_log.specs.Applying.{Answers, Outcome, IsNumbered, LeadsFrom, IsFrom, IsEnded}
+use Rattle.row_log.specs.Applying.{Answers, Outcome, IsNumbered, LeadsFrom, IsFrom, CameLast, IsEnded}
 use Rattle.row_log.specs.Halting.{answer_at}
 use Rattle.row_log.proofs.Changing.{is_live-Listed, length-without}
 
@@ -130,14 +130,19 @@ from_update r s number row f =
     let w = refused_or (is_full r) Rows (inserted (deleted r number) row) s v.1 in
     (w.1, record { is = f.is; live = v.0; ended = refl })
 
+pub to_pop_inserted : (op : Op) (r s : RowState) (row : Row) → op ≡ Insert row → IsFrom op s r → CameLast s r
+to_pop_inserted op r s row e f =
+    let g = subst (λ (o : Op). IsFrom o s r) e f in
+    record { row = row; came = (refused_or (is_full r) Rows (inserted r row) s g.applied).1 }
+
 pub to_revive : (op : Op) (r s t : RowState) (number : ℕ) (row : Row) → op ≡ Update number row → IsFrom op s r
-    → ((x : RowState) (new : Row) → inserted x new ≡ s → t ≡ x) → IsEnded r number t
+    → ((x : RowState) → CameLast s x → t ≡ x) → IsEnded r number t
 to_revive op r s t number row e f popped =
     let w = from_update r s number row (subst (λ (o : Op). IsFrom o s r) e f) in
-    subst (λ (x : RowState). IsEnded r number x) (sym (popped (deleted r number) row w.0)) w.1
+    subst (λ (x : RowState). IsEnded r number x) (sym (popped (deleted r number) (record { row = row; came = w.0 }))) w.1
 
-pub to_pop : (op : Op) (r s : RowState) (number : ℕ) (row : Row) → op ≡ Update number row → IsFrom op s r → inserted (deleted r number) row ≡ s
-to_pop op r s number row e f = (from_update r s number row (subst (λ (o : Op). IsFrom o s r) e f)).0
+pub to_pop : (op : Op) (r s : RowState) (number : ℕ) (row : Row) → op ≡ Update number row → IsFrom op s r → CameLast s (deleted r number)
+to_pop op r s number row e f = record { row = row; came = (from_update r s number row (subst (λ (o : Op). IsFrom o s r) e f)).0 }
 
 -- ---- a batch
 -- the operations before the last one lead to a row state from which the last one leads on

@@ -1,21 +1,21 @@
 -- What a row that comes, ends, goes or lives again makes of what is kept of a row state.
-use Rattle.std.proofs.Common.{inl, inr, ◌≡◌, ◌≢◌, ◌⊎◌, ℕ, zero, suc, ◌+◌, ◌-◌, ◌<◌, ◌≤◌, Bool, true, false, cond, not, eqb, ltb, refl, sym, ap, ap₂, ◌∙◌, subst, arith, List, [], ◌∷◌, ◌++◌, length, map, take, get_or, set}
+use Rattle.std.proofs.Common.{inl, inr, ◌≡◌, ◌≢◌, ◌⊎◌, ℕ, suc, ◌+◌, ◌-◌, ◌<◌, ◌≤◌, Bool, true, false, cond, not, eqb, ltb, refl, sym, ap, ap₂, ◌∙◌, subst, arith, List, [], ◌∷◌, ◌++◌, length, map, take, get_or, set}
 use Rattle.std.specs.List.{All, filter, list_any, range_with_len}
-use Rattle.std.proofs.lemmas.Bool.{cases_eq, cases_lt, true≢false, false≢true, eqb-true, eq-eqb, ne_eqb, ltb-false}
-use Rattle.std.proofs.lemmas.List.{length-append, length-map, length-set, length-take-le, length_push, get_or-set_same, get_or-set_other, get_or-take, get_or_default, get_or_append_left, get_or_push, ext_get_or, same_from_push, take_at}
+use Rattle.std.proofs.lemmas.Bool.{cases_eq, cases_lt, true≢false, eqb-true, eq-eqb, ne_eqb, ltb-false}
+use Rattle.std.proofs.lemmas.List.{length-map, length-set, length-take-le, length_push, get_or-set_same, get_or-set_other, get_or-take, get_or_default, get_or_append_left, get_or_push, ext_get_or, same_from_push, take_at}
 use Rattle.std.proofs.lemmas.List.Filters.{length-filter_both}
-use Rattle.col_set.specs.Lists.{Listed, Listed-append_left, Listed-append_right, Listed-filter, Listed-filter_parts, list_any_at, list_any_which}
+use Rattle.col_set.specs.Lists.{Listed, Listed-append_right, Listed-filter, Listed-filter_parts, list_any_at, list_any_which}
 use Rattle.col_set.proofs.Places.{Climbs, Climbs-increasing}
 use Rattle.rel_base.specs.declared.nulls.Nulls.{Nulls}
 use Rattle.rel_base.specs.Cells.{Row}
-use Rattle.rel_base.specs.RowState.{RowState, next, width}
-use Rattle.rel_base.specs.Batches.{is_live, is_full, inserted, deleted}
+use Rattle.rel_base.specs.RowState.{RowState, next}
+use Rattle.rel_base.specs.Batches.{is_live, inserted, deleted}
 use Rattle.rel_base.proofs.States.{All-listed}
 use Rattle.row_log.specs.Column.{ColumnCells}
-use Rattle.row_log.specs.Table.{rows_of, live_of, no_column, column_at, IsColumnOf, HasRow, IsLog}
+use Rattle.row_log.specs.Table.{rows_of, live_of, no_column, column_at, HasRow, IsLog}
 use Rattle.row_log.specs.Applying.{IsEnded}
 use Rattle.row_log.proofs.Rows.{length-range, length-rows_of, rows_of-pushed, rows_of-cut, cut_at, column-cut}
-use Rattle.row_log.proofs.Flags.{IsFlagged, Listed-live_of, live_of-Listed, live_of-is, live_of-pushed, live_of-ended, Climbs-live_of, flag_within}
+use Rattle.row_log.proofs.Flags.{IsFlagged, Listed-live_of, live_of-Listed, live_of-is, live_of-pushed, live_of-ended, Climbs-live_of}
 use Rattle.row_log.proofs.Log.{kept, next-kept}
 
 -- ---- how many rows are live

@@ -4,3 +4,4 @@ pub mod Flags
 pub mod Log
 pub mod Changing
 pub mod Batch
+pub mod Distinct

@@ -4,8 +4,9 @@ use Rattle.std.specs.List.{All}
 use Rattle.std.specs.List.Sorted.{IsStrictlyIncreasing}
 use Rattle.rel_base.specs.declared.batch.Op.{Op}
 use Rattle.rel_base.specs.declared.why.Why.{Why}
+use Rattle.rel_base.specs.Cells.{Row}
 use Rattle.rel_base.specs.RowState.{RowState, IsRowState, next}
-use Rattle.rel_base.specs.Batches.{is_live, deleted, applied, after, insert_count, delete_count}
+use Rattle.rel_base.specs.Batches.{is_live, inserted, deleted, applied, after, insert_count, delete_count}
 use Rattle.row_log.specs.declared.applying.Applying.{Applying}
 use Rattle.row_log.specs.declared.applying.Applying.TheVariants.{Applied, Refused, NoMemory}
 use Rattle.row_log.specs.declared.applying.Halt.{Halt}
@@ -54,6 +55,11 @@ pub record LeadsFrom (ops : List Op) (s r : RowState) : Type 0 where
 pub record IsFrom (op : Op) (s r : RowState) : Type 0 where
   pub is : IsNumbered r
   pub applied : applied r op ≡ Ok s
+
+-- s is r and then one row more
+pub record CameLast (s r : RowState) : Type 0 where
+  pub row : Row
+  pub came : inserted r row ≡ s
 
 -- s is r without a row that is live in r
 pub record IsEnded (r : RowState) (number : ℕ) (s : RowState) : Type 0 where

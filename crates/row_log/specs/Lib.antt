@@ -2,3 +2,4 @@ pub mod Column
 pub mod Table
 pub mod Applying
 pub mod Halting
+pub mod Distinct

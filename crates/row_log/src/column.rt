@@ -1,9 +1,10 @@
 // The cells of one column, as codes.
-ghost use Rattle.std.specs.Prelude.{◌≡◌, ◌<◌, ◌≤◌, ◌-◌, ◌∷◌, [], ◌++◌, ℕ, OnOk, OnErr, IfOk, length, map, take, slice_index, slice_index_or, vec_len, vec_capacity};
+ghost use Rattle.std.specs.Prelude.{◌≡◌, ◌≢◌, ◌<◌, ◌≤◌, ◌-◌, ◌∷◌, [], ◌++◌, ℕ, true, false, OnOk, OnErr, IfOk, length, map, take, slice_index, slice_index_or, vec_len, vec_capacity};
 ghost use Rattle.std.specs.List.{All};
 ghost use Rattle.rel_base.specs.Agreement.{Agrees};
 ghost use Rattle.rel_base.specs.Cells.{cell};
 ghost use Rattle.row_log.specs.Column.{AreCodes};
+ghost use Rattle.row_log.specs.Distinct.{AreFlaggedCells, AreUsed};
 
 use column_dict::Dict;
 use rel_base::{Cell, Nulls, Row};
@@ -112,6 +113,52 @@ impl Column {
     {
         self.dict.cell(self.codes[place])
     }
+
+    /// The cells of the flagged rows, each once, NULL aside. It takes a step a row and a code.
+    pub fn flagged_cells(&self, alloc: Global, flags: &[bool]) -> Result<Row, AllocError>
+        requires { length flags.now ≡ length self.now.cells }
+        ensures { IfOk result (λ cells. AreFlaggedCells self.now.cells flags.now cells) }
+    {
+        let count = self.dict.len();
+        let used = used_codes(alloc, &self.codes, flags, count as usize)?;
+        let mut cells: Vec<&[u8]> = Vec::new(alloc);
+        for code in 0..count {
+            let cell = self.dict.cell(code);
+            if is_wanted(used[code as usize], cell) {
+                cells.push(cell.bytes())?;
+            }
+        }
+        Row::copied(alloc, &cells)
+    }
+}
+
+// Whether the code of a cell is used and the cell is not NULL.
+fn is_wanted(used: bool, cell: &Cell) -> bool
+    ensures yes { result ≡ true → (used ≡ true) × (cell.now ≢ []) }
+    ensures no { result ≡ false → used ≡ true → cell.now ≡ [] }
+{
+    used && !cell.is_null()
+}
+
+// For each of so many codes, whether a flagged row has it.
+fn used_codes(
+    alloc: Global,
+    codes: &[u32],
+    flags: &[bool],
+    count: usize,
+) -> Result<Vec<bool>, AllocError>
+    requires known { (i : ℕ) → i < length codes.now → slice_index codes.now i < count }
+    requires long { length flags.now ≡ length codes.now }
+    ensures long { IfOk result (λ used. length used.items ≡ count) }
+    ensures used { IfOk result (λ used. AreUsed flags.now codes.now (length codes.now) used.items) }
+{
+    let mut used = vec![in alloc; false; count]?;
+    for (place, code) in codes.iter().enumerate() {
+        if flags[place] {
+            used[*code as usize] = true;
+        }
+    }
+    Ok(used)
 }
 
 // Appends to a list that has room.

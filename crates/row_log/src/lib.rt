@@ -5,6 +5,8 @@ mod applying;
 mod column;
 mod row_log;
 mod table;
+#[cfg(test)]
+mod tests;
 
 pub use applying::Applying;
 pub use row_log::RowLog;

@@ -8,8 +8,8 @@ ghost use Rattle.rel_base.specs.Batches.{is_live, is_full, inserted, deleted, ap
 ghost use Rattle.rel_base.specs.Laws.{IsAsWide};
 ghost use Rattle.rel_base.specs.Shows.{Shows};
 ghost use Rattle.rel_base.specs.declared.batch.Op.TheVariants.{Insert, Delete, Update};
-ghost use Rattle.rel_base.specs.Cells.{Row as Row_};
-ghost use Rattle.row_log.specs.Applying.{Answers, Outcome, IsBefore, LeadsFrom, IsFrom, IsEnded};
+ghost use Rattle.row_log.specs.Distinct.{AreDistinctCells};
+ghost use Rattle.row_log.specs.Applying.{Answers, Outcome, IsBefore, LeadsFrom, IsFrom, CameLast, IsEnded};
 
 use crate::applying::{Applying, Halt};
 use crate::column::Column;
@@ -151,6 +151,16 @@ impl RowLog {
         ensures { result.now ≡ cell (row self.now number) column }
     {
         self.columns[column as usize].cell((number.number() - 1) as usize)
+    }
+
+    /// The cells that live rows have in a column, each once, NULL aside, in no order that is told.
+    ///
+    /// It takes a step a row and a distinct cell, and copies each distinct cell once.
+    pub fn distinct_cells(&self, alloc: Global, column: u8) -> Result<Row, AllocError>
+        requires { column < width self.now }
+        ensures { IfOk result (λ cells. AreDistinctCells self.now column cells) }
+    {
+        self.columns[column as usize].flagged_cells(alloc, &self.live)
     }
 
     /// The rows at this moment, as codes: a copy of 4 bytes a cell.
@@ -303,8 +313,8 @@ impl RowLog {
 
     // The row that came last goes, and its number is free again.
     fn pop(&mut self)
-        requires { (r : RowState) × (row : Row_) × (inserted r row ≡ self.old) }
-        ensures { (r : RowState) (row : Row_) → inserted r row ≡ self.old → self.new ≡ r }
+        requires { (r : RowState) × CameLast self.old r }
+        ensures { (r : RowState) → CameLast self.old r → self.new ≡ r }
     {
         let rows = self.live.len() - 1;
         truncate_rows(&mut self.columns, rows);

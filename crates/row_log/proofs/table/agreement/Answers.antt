@@ -1,8 +1,8 @@
-use Rattle.std.proofs.Common.{◌≡◌, ◌∙◌, ap, sym, subst, length, length-set, arith}
+use Rattle.std.proofs.Common.{◌∙◌, subst, length-set, arith}
 use Rattle.std.proofs.lemmas.List.{get_or_read}
 use Rattle.row_log.specs.Column.{ColumnCells, AreCodes}
-use Rattle.row_log.specs.Table.{no_column, column_at}
-use Rattle.row_log.proofs.Rows.{AgreeBelow, AgreeBelow-more, agree-read}
+use Rattle.row_log.specs.Table.{no_column}
+use Rattle.row_log.proofs.Rows.{AgreeBelow-more, agree-read}
 use Rattle.row_log.proofs.table.agreement.Goals as goal
 
 pub loop-place-preserved : goal.loop-place-preserved

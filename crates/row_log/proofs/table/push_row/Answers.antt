@@ -1,4 +1,4 @@
-use Rattle.std.proofs.Common.{◌≡◌, ◌∙◌}
+use Rattle.std.proofs.Common.{◌∙◌}
 use Rattle.row_log.proofs.Rows.{restored}
 use Rattle.row_log.proofs.table.push_row.Goals as goal
 

@@ -1,4 +1,4 @@
-use Rattle.std.proofs.Common.{◌≡◌, ◌<◌, ◌≤◌, ℕ, length}
+use Rattle.std.proofs.Common.{◌≡◌, ◌<◌, ◌≤◌, ℕ}
 use Rattle.row_log.specs.Table.{column_at, with_cell}
 use Rattle.row_log.proofs.table.push_row.Given as goal
 

@@ -1,6 +1,5 @@
-use Rattle.std.proofs.Common.{◌≡◌, ◌∙◌, ap, sym, set, subst, ◌++◌, map, take, drop, ◌+◌}
+use Rattle.std.proofs.Common.{◌∙◌, ap, sym, set}
 use Rattle.std.proofs.lemmas.List.Edits.{map_over_more}
-use Rattle.row_log.specs.Column.{ColumnCells}
 use Rattle.row_log.proofs.Rows.{cut_at}
 use Rattle.row_log.proofs.table.truncate_rows.Goals as goal
 

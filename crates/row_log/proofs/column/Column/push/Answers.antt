@@ -1,5 +1,4 @@
-use Rattle.std.proofs.Common.{◌≡◌, ◌<◌, ◌≤◌, ◌∷◌, [], ◌++◌, ℕ, List, length, map, sym, ap, ap₂, ◌∙◌, arith}
-use Rattle.column_dict.specs.Coding.{Coding}
+use Rattle.std.proofs.Common.{◌≡◌, ◌∷◌, [], ◌++◌, ℕ, List, length, map, ap, ap₂, ◌∙◌, arith}
 use Rattle.row_log.specs.Column.{ColumnCells, column_of, IsKept}
 use Rattle.row_log.proofs.Columns.{cell_of, pushed}
 use Rattle.row_log.proofs.column.Column.push.Goals as goal

@@ -1,8 +1,8 @@
-use Rattle.std.proofs.Common.{◌≡◌, ◌∙◌, ◌<◌, ◌≤◌, ◌+◌, ◌-◌, ℕ, List, length, take, Ok, sym, ap, subst, arith}
+use Rattle.std.proofs.Common.{◌∙◌, List, take, Ok, sym, ap, subst, arith}
 use Rattle.std.specs.List.{All}
 use Rattle.rel_base.specs.declared.batch.Op.{Op}
 use Rattle.rel_base.specs.Laws.{IsAsWide}
-use Rattle.rel_base.specs.RowState.{RowState, next, width}
+use Rattle.rel_base.specs.RowState.{width}
 use Rattle.rel_base.specs.Batches.{applied}
 use Rattle.row_log.specs.Applying.{LeadsFrom}
 use Rattle.row_log.proofs.Batch.{from_state, DidAll-after, as_wide, stepped, halted, answered, whole}

@@ -1,6 +1,6 @@
-use Rattle.std.proofs.Common.{◌≡◌, ◌+◌, ◌-◌, ◌<◌, ◌∙◌, ℕ, [], List, length, get_or, ap, sym, arith}
+use Rattle.std.proofs.Common.{◌≡◌, ◌-◌, ◌<◌, ◌∙◌, ℕ, [], List, length, get_or, ap, sym, arith}
 use Rattle.std.proofs.lemmas.List.{get_or_read}
-use Rattle.rel_base.specs.Cells.{Cell, cell}
+use Rattle.rel_base.specs.Cells.{cell}
 use Rattle.rel_base.specs.RowState.{RowState, row}
 use Rattle.row_log.specs.Column.{ColumnCells}
 use Rattle.row_log.specs.Table.{no_column, column_at}

@@ -1,8 +1,6 @@
-use Rattle.std.proofs.Common.{◌≡◌, ◌<◌, ◌-◌, ◌∙◌, ℕ, true, eqb, subst, ap, sym, arith}
-use Rattle.std.specs.List.{list_any}
+use Rattle.std.proofs.Common.{◌≡◌, ◌∙◌, ℕ, true, subst, ap, sym, arith}
 use Rattle.rel_base.specs.RowState.{RowState}
 use Rattle.rel_base.specs.Batches.{is_live, deleted}
-use Rattle.row_log.specs.Table.{live_of}
 use Rattle.row_log.proofs.Log.{kept}
 use Rattle.row_log.proofs.Changing.{placed-live, IsLog-ended, kept-ended}
 use Rattle.row_log.proofs.row_log.RowLog.end.Goals as goal

@@ -1,7 +1,5 @@
-use Rattle.std.proofs.Common.{inl, inr, ◌≡◌, ◌⊎◌, ◌+◌, ◌<◌, ◌≤◌, ◌∙◌, ℕ, leb, ltb, ap, sym, arith}
-use Rattle.std.proofs.lemmas.Bool.{cases_lt, lt-ltb, le-ltb}
+use Rattle.std.proofs.Common.{◌≡◌, ◌+◌, ◌∙◌, ℕ, leb, ltb, ap, sym, arith}
 use Rattle.std.proofs.lemmas.Bool.Decides.{nat_tests}
-use Rattle.rel_base.specs.RowState.{RowState, next}
 use Rattle.rel_base.specs.Batches.{is_full}
 use Rattle.row_log.proofs.Log.{next-kept}
 use Rattle.row_log.proofs.row_log.RowLog.is_full.Goals as goal

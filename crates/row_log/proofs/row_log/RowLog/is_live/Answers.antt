@@ -1,4 +1,4 @@
-use Rattle.std.proofs.Common.{◌≡◌, ◌+◌, ◌-◌, ◌<◌, ◌≤◌, ◌∙◌, Bool, true, false, eqb, ltb, ℕ, List, length, get_or, refl, ap, ap₂, sym, arith}
+use Rattle.std.proofs.Common.{◌≡◌, ◌+◌, ◌-◌, ◌<◌, ◌∙◌, Bool, true, false, eqb, ltb, ℕ, List, length, get_or, refl, ap, ap₂, sym, arith}
 use Rattle.std.proofs.lemmas.Bool.{le-ltb}
 use Rattle.std.proofs.lemmas.List.{get_or_read_under, get_or_past}
 use Rattle.rel_base.specs.RowState.{RowState, next}

@@ -1,4 +1,4 @@
-use Rattle.std.proofs.Common.{◌<◌, ap, arith, subst}
+use Rattle.std.proofs.Common.{ap, arith, subst}
 use Rattle.rel_base.specs.RowState.{IsRowState, next}
 use Rattle.row_log.proofs.Log.{next-kept, IsRowState-kept}
 use Rattle.row_log.proofs.Changing.{live-few}

@@ -1,4 +1,4 @@
-use Rattle.std.proofs.Common.{◌≡◌, ◌+◌, ◌∙◌, ℕ, length, ap, sym, subst}
+use Rattle.std.proofs.Common.{◌+◌, ◌∙◌, ℕ, ap, sym, subst}
 use Rattle.rel_base.specs.RowState.{IsRowState, next}
 use Rattle.row_log.proofs.Log.{next-kept, IsRowState-kept}
 use Rattle.row_log.proofs.row_log.RowLog.next.Goals as goal

@@ -1,4 +1,4 @@
-use Rattle.std.proofs.Common.{◌≡◌, ◌∙◌, ap, length, map}
+use Rattle.std.proofs.Common.{◌≡◌, ◌∙◌, map}
 use Rattle.rel_base.specs.Cells.{Row, cell}
 use Rattle.std.proofs.Common.{ℕ, List, ◌<◌, subst}
 use Rattle.rel_base.specs.declared.nulls.Nulls.{Nulls}

@@ -1,11 +1,11 @@
-use Rattle.std.proofs.Common.{◌≡◌, ◌<◌, ◌+◌, ◌++◌, ◌∷◌, [], ◌∙◌, ℕ, true, false, List, Bool, subst, ap, sym, length, arith}
+use Rattle.std.proofs.Common.{◌≡◌, ◌++◌, ◌∷◌, [], ◌∙◌, true, false, List, Bool, subst, ap, sym, length, arith}
 use Rattle.std.specs.Vec.{with_items}
 use Rattle.std.proofs.lemmas.List.{with_items_is}
 use Rattle.rel_base.specs.Cells.{Row}
 use Rattle.rel_base.specs.RowState.{RowState, width}
 use Rattle.rel_base.specs.Batches.{is_full, inserted}
 use Rattle.row_log.specs.Column.{ColumnCells}
-use Rattle.row_log.specs.Table.{IsLog, HasRow}
+use Rattle.row_log.specs.Table.{HasRow}
 use Rattle.row_log.proofs.Log.{kept}
 use Rattle.row_log.proofs.Changing.{live-few, room-kept, IsLog-pushed, kept-pushed}
 use Rattle.row_log.proofs.row_log.RowLog.push.Goals as goal

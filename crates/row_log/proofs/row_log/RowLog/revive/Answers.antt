@@ -1,4 +1,4 @@
-use Rattle.std.proofs.Common.{◌≡◌, ◌<◌, ◌+◌, ◌-◌, ◌∙◌, ℕ, subst, ap, sym, arith}
+use Rattle.std.proofs.Common.{◌≡◌, ℕ, subst, sym, arith}
 use Rattle.rel_base.specs.RowState.{RowState}
 use Rattle.row_log.specs.Applying.{IsEnded}
 use Rattle.row_log.proofs.Changing.{live-few, placed-ended, IsLog-revived, kept-revived}

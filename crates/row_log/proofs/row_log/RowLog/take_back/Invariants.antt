@@ -1,4 +1,4 @@
-use Rattle.std.proofs.Common.{ℕ, length}
+use Rattle.std.proofs.Common.{length}
 use Rattle.rel_base.specs.RowState.{RowState}
 use Rattle.row_log.specs.Applying.{LeadsFrom}
 use Rattle.row_log.proofs.row_log.RowLog.take_back.Given as goal
