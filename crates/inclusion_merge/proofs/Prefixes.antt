@@ -1,5 +1,5 @@
 -- Cells of no more bytes than the prefix has are equal where prefix and length are.
-use Rattle.std.proofs.Common.{◌≡◌, ◌∙◌, ◌+◌, ◌-◌, ◌*◌, ◌%◌, ◌^◌, ◌<◌, ◌≤◌, ℕ, zero, suc, arith, refl, sym, ap, ap₂, subst, List, [], ◌∷◌, fold, length, get_or, take}
+use Rattle.std.proofs.Common.{◌≡◌, ◌∙◌, ◌+◌, ◌-◌, ◌*◌, ◌^◌, ◌<◌, ◌≤◌, ℕ, zero, suc, arith, refl, sym, ap, ap₂, subst, List, [], ◌∷◌, fold, length, get_or, take}
 use Rattle.std.proofs.lemmas.Nat.{pow-add}
 use Rattle.std.proofs.Math.Pow.{pow_mono}
 use Rattle.std.specs.Ordering.{nat_cmp}

@@ -1,4 +1,4 @@
-use Rattle.std.proofs.Common.{◌≡◌, ◌∙◌, ℕ, List, sym, subst}
+use Rattle.std.proofs.Common.{◌∙◌, ℕ, List, sym, subst}
 use Rattle.std.proofs.lemmas.List.Filters.{dedup_is}
 use Rattle.col_set.specs.Lists.{Listed, Rises}
 use Rattle.inclusion_merge.specs.Values.{value_cmp}

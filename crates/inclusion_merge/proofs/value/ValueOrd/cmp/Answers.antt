@@ -1,5 +1,5 @@
 use Rattle.std.proofs.Common.{◌∙◌, sym}
-use Rattle.inclusion_merge.proofs.Prefixes.{same_number, same_short, value_cmp-short}
+use Rattle.inclusion_merge.proofs.Prefixes.{same_number, value_cmp-short}
 use Rattle.inclusion_merge.proofs.value.ValueOrd.cmp.Goals as goal
 
 pub returns-then-self-le-PREFIX : goal.returns-then-self-le-PREFIX
