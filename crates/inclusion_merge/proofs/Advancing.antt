@@ -1,5 +1,5 @@
 -- A step of a pass, list by list.
-use Rattle.std.proofs.Common.{◌≡◌, ◌∙◌, ◌↔◌, ◌&&◌, ◌||◌, ◌+◌, ◌<◌, ◌≤◌, ◌⊎◌, ℕ, arith, Bool, true, false, cond, eqb, inl, inr, refl, sym, ap, subst, List, [], length, drop, get_or, set, below_more}
+use Rattle.std.proofs.Common.{◌≡◌, ◌∙◌, ◌↔◌, ◌&&◌, ◌||◌, ◌+◌, ◌<◌, ◌≤◌, ◌⊎◌, ℕ, arith, Bool, true, false, cond, eqb, inl, inr, refl, sym, ap, subst, List, [], length, drop, set, below_more}
 use Rattle.std.proofs.lemmas.Bool.{cases_eq, eq-eqb, false≢true, ne_eqb}
 use Rattle.std.proofs.lemmas.List.{get_or-set_other, get_or-set_same}
 use Rattle.rel_base.specs.Cells.{Cell}

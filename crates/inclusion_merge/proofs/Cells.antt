@@ -1,26 +1,17 @@
--- Values are equal where their cells are, and the values of a column.
-use Rattle.std.proofs.Common.{◌≡◌, ◌∙◌, ◌<◌, ◌+◌, inl, inr, ℕ, arith, Bool, true, false, cond, not, eqb, refl, sym, ap, subst, List, [], ◌∷◌, ◌++◌, length, take, get_or, append-nil, filter, Contains, Ordering, Less}
+-- The values of a column.
+use Rattle.std.proofs.Common.{◌≡◌, ◌∙◌, inl, inr, arith, true, not, refl, sym, ap, subst, List, [], ◌∷◌, length, filter, Ordering, Less}
 use Rattle.std.specs.Prelude.{nat_eq}
 use Rattle.std.specs.List.{AllByRecursion, dedup}
 use Rattle.std.specs.List.Sorted.{IsPermutation, IsSorted, IsStrictlySortedBy}
 use Rattle.std.specs.Cmp.Lexicographic.{nat_list_eq_equiv, pointwise, same_text}
-use Rattle.std.proofs.lemmas.Bool.{false≢true, ne_eqb, eqb-false, not-true}
-use Rattle.std.proofs.lemmas.List.Elements.{filter_more}
+use Rattle.std.proofs.lemmas.Bool.{false≢true, ne_eqb}
 use Rattle.std.proofs.lemmas.List.Kept.{Contains-dedup, Contains-from_dedup, IsStrictlySortedBy-dedup}
 use Rattle.std.proofs.lemmas.List.Sorted.{Contains-permutation, IsPermutation-sym}
 use Rattle.col_set.specs.Lists.{Listed, Listed-filter, Listed-filter_parts, Rises}
 use Rattle.col_set.proofs.Places.{Contains-listed, Listed-contained}
 use Rattle.rel_base.specs.Cells.{Cell}
-use Rattle.inclusion_merge.specs.Values.{IsValuesOf, is_filled, prefix_of, value_cmp}
+use Rattle.inclusion_merge.specs.Values.{IsValuesOf, is_filled, value_cmp}
 use Rattle.inclusion_merge.specs.Order.{value_ties, value_total}
-
--- cells whose first bytes differ are not equal
-pub prefix_apart : (x y : Cell) (p q : ℕ) → p ≡ prefix_of x → q ≡ prefix_of y → (p ≡ q → ⊥) → nat_eq p q ≡ pointwise nat_eq x y
-prefix_apart x y p q e f other = go (pointwise nat_eq x y) refl
-  where
-    go : (b : Bool) → pointwise nat_eq x y ≡ b → nat_eq p q ≡ b
-    go true h = absurd (other (e ∙ ap prefix_of (same_text x y (sym h)) ∙ sym f))
-    go false h = ne_eqb p q other
 
 -- ---- in order, each once
 Listed-all : {X : Type 0} (P : X → Type 0) (xs : List X) → AllByRecursion P xs → (y : X) → Listed y xs → P y

@@ -5,3 +5,4 @@ pub mod Merging
 pub mod Advancing
 pub mod Pairing
 pub mod Settling
+pub mod Prefixes

@@ -1,5 +1,5 @@
 -- The pairs that are left, and what they are of the columns.
-use Rattle.std.proofs.Common.{◌≡◌, ◌∙◌, ◌+◌, ◌↔◌, ◌⊎◌, inl, inr, ◌&&◌, ◌||◌, ◌<◌, ℕ, zero, suc, arith, Bool, true, false, cond, not, eqb, refl, sym, ap, subst, List, [], ◌∷◌, ◌++◌, length, map, filter, flat_map, get_or, append_assoc, append-nil, add-zero, Result, Ok, Err, Vec, IfOk, Contains, MatchResult}
+use Rattle.std.proofs.Common.{◌≡◌, ◌∙◌, ◌+◌, ◌⊎◌, inl, inr, ◌&&◌, ◌||◌, ◌<◌, ℕ, zero, suc, arith, Bool, true, false, cond, not, eqb, refl, sym, ap, subst, List, [], ◌∷◌, ◌++◌, length, map, filter, flat_map, get_or, append_assoc, append-nil, add-zero, Result, Ok, Err, Vec, IfOk, Contains, MatchResult}
 use Rattle.std.specs.declared.alloc.Global.{Global}
 use Rattle.std.specs.declared.alloc.AllocError.{AllocError}
 use Rattle.std.specs.List.{AllZip, list_all, list_any, range_with_len}

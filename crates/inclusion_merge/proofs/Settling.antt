@@ -1,5 +1,5 @@
 -- Lists that are no longer needed.
-use Rattle.std.proofs.Common.{◌≡◌, ◌∙◌, ◌⊎◌, inl, inr, ◌+◌, ◌<◌, ◌≤◌, ℕ, arith, Bool, true, false, refl, sym, ap, subst, List, [], ◌∷◌, ◌++◌, length, append-nil, set, below_more}
+use Rattle.std.proofs.Common.{◌≡◌, ◌∙◌, ◌⊎◌, inl, inr, ◌+◌, ◌<◌, ◌≤◌, ℕ, arith, true, sym, ap, subst, List, [], ◌++◌, length, append-nil, set, below_more}
 use Rattle.std.proofs.lemmas.Bool.{cases_eq, false≢true}
 use Rattle.std.proofs.lemmas.List.{get_or-set_other, get_or-set_same}
 use Rattle.col_set.specs.Lists.{Listed, Listed-append_left}

@@ -1,5 +1,5 @@
 -- What `has_wide` answers of each operation on sets in parts.
-use Rattle.std.proofs.Common.{◌≡◌, ◌∙◌, ◌⊎◌, inl, inr, ◌&&◌, ◌||◌, ◌+◌, ◌*◌, ◌/◌, ◌%◌, ◌<◌, ◌≤◌, ℕ, zero, suc, arith, Bool, true, false, eqb, refl, sym, ap, ap₂, subst, List, [], ◌∷◌, ◌++◌, length, drop, get_or, set, replicate}
+use Rattle.std.proofs.Common.{◌≡◌, ◌∙◌, ◌⊎◌, inl, inr, ◌&&◌, ◌||◌, ◌+◌, ◌*◌, ◌/◌, ◌%◌, ◌<◌, ◌≤◌, ℕ, zero, suc, arith, Bool, true, false, eqb, refl, sym, ap, ap₂, List, [], ◌∷◌, ◌++◌, length, drop, get_or, set, replicate}
 use Rattle.std.proofs.lemmas.Bool.{cases_eq, cases_lt, eq-eqb, lt-ltb, ne_eqb}
 use Rattle.std.proofs.lemmas.List.{get_or-drop, get_or-replicate, get_or-set_other, get_or-set_same, get_or_past}
 use Rattle.col_set.specs.ColSet.{Columns, all, has, inter, with}

@@ -2,7 +2,6 @@ use crate::included;
 use rel_base::Row;
 use std::alloc::{AllocError, Global};
 use std::process::Abort;
-use std::sync::Wait;
 use std::test::Fail;
 use std::thread::Threads;
 

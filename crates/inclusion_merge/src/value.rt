@@ -2,7 +2,7 @@
 ghost use Rattle.std.specs.Prelude.{◌≡◌, ℕ, List, Some, refl, nat_eq};
 ghost use Rattle.std.specs.Cmp.{partial_equiv_from_equiv};
 ghost use Rattle.std.specs.Cmp.Lexicographic.{pointwise, nat_list_eq_equiv};
-ghost use Rattle.inclusion_merge.specs.Values.{prefix_of, value_cmp};
+ghost use Rattle.inclusion_merge.specs.Values.{IsPrefixed, prefix_of, value_cmp};
 ghost use Rattle.inclusion_merge.specs.Order.{value_total, value_ties, value_po};
 
 use std::cmp::Ordering;
@@ -25,7 +25,7 @@ impl<'a> Model for Value<'a> {
 
     ghost view = { λ v. v.bytes.now };
 
-    ghost invariant = { λ v. v.prefix ≡ prefix_of v.bytes.now };
+    ghost invariant = { λ v. IsPrefixed v.prefix v.bytes.now };
 }
 
 fn prefix_of(bytes: &[u8]) -> u128
@@ -53,7 +53,7 @@ impl<'a> PartialEq for Value<'a> {
     ghost laws = { partial_equiv_from_equiv nat_list_eq_equiv };
 
     fn eq(&self, other: &Value<'a>) -> bool {
-        self.prefix == other.prefix && self.bytes == other.bytes
+        self.cmp(other).is_eq()
     }
 }
 
@@ -83,7 +83,13 @@ impl<'a> Ord for Value<'a> {
     fn cmp(&self, other: &Value<'a>) -> Ordering {
         match self.prefix.cmp(&other.prefix) {
             Ordering::Equal => match self.bytes.len().cmp(&other.bytes.len()) {
-                Ordering::Equal => self.bytes.cmp(other.bytes),
+                Ordering::Equal => {
+                    if self.bytes.len() <= PREFIX {
+                        Ordering::Equal
+                    } else {
+                        self.bytes.cmp(other.bytes)
+                    }
+                }
                 unequal => unequal,
             },
             unequal => unequal,

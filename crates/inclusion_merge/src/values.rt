@@ -36,5 +36,6 @@ fn distinct_in_order<'a>(cells: Vec<Value<'a>>) -> Vec<Value<'a>>
     let mut values = cells;
     values.sort_unstable();
     values.dedup();
+    values.shrink_to_fit();
     values
 }

@@ -1,8 +1,5 @@
-use Rattle.std.proofs.Common.{◌≡◌, ◌∙◌, ap, List, Result, Vec, Ok, Err, IfOk}
-use Rattle.std.specs.declared.alloc.Global.{Global}
-use Rattle.std.specs.declared.alloc.AllocError.{AllocError}
+use Rattle.std.proofs.Common.{◌∙◌, ap, IfOk}
 use Rattle.rayon.proofs.ToStd.{slice-AllZip}
-use Rattle.rel_base.specs.Cells.{Cell}
 use Rattle.inclusion_merge.specs.Values.{IsValuesOf}
 use Rattle.inclusion_merge.proofs.Pairing.{values_made}
 use Rattle.inclusion_merge.proofs.value_lists.Goals as goal

@@ -1,7 +1,7 @@
 use Rattle.std.proofs.Common.{◌+◌, ◌≡◌, ap, ◌∙◌, sym, subst, MatchOption, List, [], ℕ}
 use Rattle.std.proofs.lemmas.List.{get_or-map}
 use Rattle.std.specs.Borrow.{Bor}
-use Rattle.inclusion_merge.specs.Sharing.{AllEnded, IsFirstOf, IsLeastFirst, lesser_of, list_at, lists_of}
+use Rattle.inclusion_merge.specs.Sharing.{AllEnded, IsFirstOf, IsLeastFirst, list_at, lists_of}
 use Rattle.inclusion_merge.proofs.Merging.{least_more}
 use Rattle.inclusion_merge.proofs.merge.least_of.Goals as goal
 

@@ -1,8 +1,8 @@
-use Rattle.std.proofs.Common.{◌≡◌, ◌∙◌, ◌<◌, ◌≤◌, arith, refl, sym, ap, subst, List, ℕ, Bool, false, true, cond, drop, get_or, length, length-drop}
+use Rattle.std.proofs.Common.{◌∙◌, ◌<◌, ◌≤◌, arith, refl, sym, subst, ℕ}
 use Rattle.inclusion_merge.specs.Candidates.{may}
 use Rattle.inclusion_merge.specs.WideSet.{has_wide}
-use Rattle.inclusion_merge.specs.Sharing.{AllEnded, IsLeastFirst, list_at, lists_of}
-use Rattle.inclusion_merge.proofs.Merging.{Merged, Merged-all, Merged-more, Merged-none, total, total_falls}
+use Rattle.inclusion_merge.specs.Sharing.{AllEnded, IsLeastFirst, lists_of}
+use Rattle.inclusion_merge.proofs.Merging.{Merged-all, Merged-more, Merged-none, total, total_falls}
 use Rattle.inclusion_merge.proofs.Settling.{Merged-settled, total_settled}
 use Rattle.inclusion_merge.proofs.Places.{length-lists_of}
 use Rattle.inclusion_merge.proofs.merge.pass.Goals as goal

@@ -1,4 +1,4 @@
-use Rattle.std.proofs.Common.{◌≡◌, length}
+use Rattle.std.proofs.Common.{◌≡◌}
 use Rattle.inclusion_merge.specs.Candidates.{may}
 use Rattle.inclusion_merge.specs.Sharing.{lists_of}
 use Rattle.inclusion_merge.proofs.Merging.{Merged, total}

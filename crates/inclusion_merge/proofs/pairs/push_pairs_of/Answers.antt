@@ -1,4 +1,4 @@
-use Rattle.std.proofs.Common.{◌∙◌, ◌≡◌, ◌++◌, ◌∷◌, [], ℕ, List, Vec, ap, sym}
+use Rattle.std.proofs.Common.{◌∙◌, ℕ, Vec, ap, sym}
 use Rattle.std.specs.declared.alloc.Global.{Global}
 use Rattle.inclusion_merge.specs.Candidates.{is_left}
 use Rattle.inclusion_merge.proofs.Pairing.{row_left, row_pushed}

@@ -1,5 +1,5 @@
-use Rattle.std.proofs.Common.{rules, ◌≡◌, ◌∙◌, ◌*◌, ap, ap₂, arith, drop, replicate, ℕ, List, true}
-use Rattle.col_set.specs.ColSet.{Columns, all}
+use Rattle.std.proofs.Common.{rules, ◌≡◌, ◌∙◌, ◌*◌, ap, ap₂, drop, replicate, ℕ, List}
+use Rattle.col_set.specs.ColSet.{Columns}
 use Rattle.inclusion_merge.specs.WideSet.{has_wide}
 use Rattle.inclusion_merge.proofs.Wide.{has_wide-all}
 use Rattle.inclusion_merge.proofs.candidates.Candidates.all.Goals as goal

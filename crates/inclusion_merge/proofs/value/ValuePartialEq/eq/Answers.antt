@@ -1,8 +1,7 @@
-use Rattle.std.proofs.Common.{◌≡◌, ◌∙◌, ap, List, ℕ}
-use Rattle.inclusion_merge.specs.Values.{prefix_of}
-use Rattle.inclusion_merge.proofs.Cells.{prefix_apart}
+use Rattle.std.proofs.Common.{◌∙◌, ap, sym}
+use Rattle.std.specs.Ordering.{is_eq}
+use Rattle.inclusion_merge.specs.Order.{value_ties}
 use Rattle.inclusion_merge.proofs.value.ValuePartialEq.eq.Goals as goal
 
-pub returns-else-self-other : goal.returns-else-self-other
-returns-else-self-other c =
-    prefix_apart c.args.self.now c.args.other.now _ _ (c.self.invariant ∙ ap prefix_of c.self.view_is) (c.other.invariant ∙ ap prefix_of c.other.view_is) c.if-self-other.false
+pub returns : goal.returns
+returns c = c.is_eq.ensures ∙ ap is_eq c.cmp.ensures ∙ sym (value_ties c.args.self.now c.args.other.now)
