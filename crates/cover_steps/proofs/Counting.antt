@@ -76,7 +76,7 @@ length-map_sets (w ∷ ws) = ap (λ (k : ℕ). suc k) (length-map_sets ws)
 pub witnesses_few : (s : Core) → Sound s → length s.witnesses ≤ length (different (agree_sets s.rows))
 witnesses_few s sound =
     let l = no_longer (sets_of s.witnesses) (different (agree_sets s.rows)) (Pairwise-map (λ (w : Witness). w.agree) s.witnesses (Pairwise-AllPairs (λ v w. v.agree ≢ w.agree) s.witnesses sound.once))
-        (λ x h. Listed-different x (agree_sets s.rows) (agree-listed s sound x h)) in
+    (λ x h. Listed-different x (agree_sets s.rows) (agree-listed s sound x h)) in
     let e = length-map_sets s.witnesses in omega arith
 
 -- ---- what a step does to the rows, and to the number of witnesses

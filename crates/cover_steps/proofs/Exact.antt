@@ -70,9 +70,11 @@ module _ (s : Core) (sound : Sound s) where
   finished_holds none t l c h =
       let m = cand-marked s t c sound l h in
       let g = ltb-false c.upto (next s.rows) (all_finished s t c none l h) in
-      let all : Holds s.rows c.left t = record { each = λ i j a b ne w. m.holds.each i j a b
-          (let u = live_numbered s.rows i sound.rows (Listed-contained i s.rows.live a) in omega arith)
-          (let u = live_numbered s.rows j sound.rows (Listed-contained j s.rows.live b) in omega arith) ne w } in
+      let all : Holds s.rows c.left t = record {
+        each = λ i j a b ne w. m.holds.each i j a b
+            (let u = live_numbered s.rows i sound.rows (Listed-contained i s.rows.live a) in omega arith)
+            (let u = live_numbered s.rows j sound.rows (Listed-contained j s.rows.live b) in omega arith) ne w;
+      } in
       not-true _ (sym (holds-refuted s.rows c.left t) ∙ holds-true s.rows c.left t (live_climbs s.rows sound.rows) all)
 
   pub lefts-exact : first_unfinished s ≡ None → (t : Target) → IsColumnTarget (width s.rows) t → lefts (cands s t) ≡ least (width s.rows) (agree_sets s.rows) t
