@@ -4,3 +4,6 @@ pub mod Putting
 pub mod Measure
 pub mod Booking
 pub mod Refuting
+pub mod Calls
+pub mod Upto
+pub mod Whole

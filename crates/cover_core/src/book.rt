@@ -73,8 +73,9 @@ impl Book {
     {
         let rows = RowLog::open_with(alloc, relation, limits, nulls)?;
         let snapshot = rows.snapshot(alloc)?;
-        let columns = rows.names().len() as u8;
-        let candidates = CandidateCover::new(alloc, columns)?;
+        // `names` is called for its clause that the rows are a row state.
+        let _names = rows.names();
+        let candidates = CandidateCover::new(alloc, snapshot.columns())?;
         Ok(Book {
             rows,
             witnesses: NegativeCover::new(alloc),

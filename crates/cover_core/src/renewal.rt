@@ -1,5 +1,6 @@
 // What a batch of changes makes of the book, made before the first change.
 ghost use Rattle.std.specs.Prelude.{◌≡◌, ◌<◌, IfOk};
+ghost use Rattle.rel_base.specs.CodeTable.{IsCodeTable};
 ghost use Rattle.rel_base.specs.Shows.{Shows};
 ghost use Rattle.candidate_cover.specs.Cands.{width};
 ghost use Rattle.negative_cover.specs.Witnesses.{sets_of, live_of};
@@ -38,10 +39,13 @@ pub(crate) fn renewed_after<L: Ledger>(
     requires some { 0 < L.parts }
     requires least { AreLeast (width candidates.now) (sets_of witnesses.now) candidates.now }
     ensures snapshot { IfOk result (λ made. Shows made.snapshot.value rows.now) }
+    ensures table { IfOk result (λ made. IsCodeTable made.snapshot.value) }
     ensures dead { IfOk result (λ made. made.dead.items ≡ rows_of.ended batch.now) }
     ensures parts { IfOk result (λ made. AreParts (width candidates.now) (sets_of (live_of (rows_of.ended batch.now) witnesses.now)) candidates.now made.parts.rows made.parts.columns.items) }
 {
     let snapshot = rows.snapshot(alloc)?;
+    // `columns` is called for its clause on the snapshot's lists.
+    let _count = snapshot.columns();
     let dead = ended(alloc, batch)?;
     let parted = witnesses.parted(alloc, dead.as_slice())?;
     let mut steps = Steps::<L>::none(blank);

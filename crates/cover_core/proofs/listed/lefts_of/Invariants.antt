@@ -1,11 +1,6 @@
-use Rattle.std.proofs.Common.{◌≡◌, ◌++◌, map, IfOk, OnOk, ℕ, ◌+◌, ◌-◌, ◌*◌, ◌<◌, ◌≤◌, length}
-use Rattle.std.specs.List.{flat_map}
-use Rattle.col_set.specs.declared.target.Target.TheVariants.{Col, RowId}
-use Rattle.col_set.specs.ColSet.{upto}
-use Rattle.col_set.specs.Target.{IsColumnTarget}
-use Rattle.rel_base.specs.Covers.{fds_to}
-use Rattle.candidate_cover.specs.Cands.{cands_of, lefts, width}
+use Rattle.std.proofs.Common.{◌≡◌, take}
+use Rattle.candidate_cover.specs.Cands.{lefts}
 use Rattle.cover_core.proofs.listed.lefts_of.Given as goal
 
 abbrev pub invariant-loop-cand : goal.invariant-loop-cand
-invariant-loop-cand l = ?
+invariant-loop-cand l = l.sets.items ≡ lefts (take l.cand-index l.cand-items)

@@ -1,20 +1,20 @@
-use Rattle.std.proofs.Common.{rules, ◌≡◌, ◌++◌, map, IfOk, OnOk, ℕ, ◌+◌, ◌-◌, ◌*◌, ◌<◌, ◌≤◌, length, ◌/◌, ◌%◌, Bool, true, false, nat_eq, nat_lt, List, [], ◌∷◌, slice_index_or, slice_set, bit_and, bit_or, Fits, w8, w32, w64, Bor, MutBor}
+use Rattle.std.proofs.Common.{◌≡◌, ◌∙◌, ◌++◌, List, ℕ, sym, ap, ap₂, arith, length}
 use Rattle.std.specs.List.{flat_map}
-use Rattle.col_set.specs.declared.target.Target.TheVariants.{Col, RowId}
-use Rattle.col_set.specs.ColSet.{upto}
-use Rattle.col_set.specs.Target.{IsColumnTarget}
+use Rattle.col_set.specs.declared.target.Target.TheVariants.{Col}
+use Rattle.col_set.specs.ColSet.{Columns, upto}
+use Rattle.rel_base.specs.declared.dependency.Fd.{Fd}
 use Rattle.rel_base.specs.Covers.{fds_to}
-use Rattle.candidate_cover.specs.Cands.{cands_of, lefts, width}
+use Rattle.candidate_cover.specs.Cands.{cands_of, lefts}
+use Rattle.cover_core.proofs.Upto.{flat_map-upto_more}
 use Rattle.cover_core.proofs.listed.listed.Goals as goal
 
--- src/listed.rt:48:5
-pub loop-column-init : goal.loop-column-init
-loop-column-init c = ?
-
--- src/listed.rt:48:5
 pub loop-column-preserved : goal.loop-column-preserved
-loop-column-preserved c = ?
+loop-column-preserved c =
+    c.in_ok-push_fds.ensures
+    ∙ ap₂ (λ (old : List Fd) (sets : List Columns). old ++ fds_to c.loop-column.column sets) c.loop-column.invariant (c.as_slice.ensures.value ∙ c.in_ok-sets.ensures)
+    ∙ sym (flat_map-upto_more (λ a. fds_to a (lefts (cands_of c.args.candidates.now (Col a)))) c.loop-column.column)
 
--- src/listed.rt:42:1
 pub returns-clause-fds : goal.returns-clause-fds
-returns-clause-fds c = ?
+returns-clause-fds c =
+    let e : c.loop-column.column ≡ length c.args.candidates.now.columns = omega (arith, c.columns-column-end.ensures.width) in
+    ?

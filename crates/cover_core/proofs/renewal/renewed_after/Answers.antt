@@ -1,11 +1,9 @@
-use Rattle.std.proofs.Common.{rules, ◌≡◌, ◌<◌, IfOk, ℕ, ◌+◌, ◌-◌, ◌*◌, ◌≤◌, length, ◌/◌, ◌%◌, Bool, true, false, nat_eq, nat_lt, List, [], ◌∷◌, ◌++◌, slice_index_or, slice_set, bit_and, bit_or, Fits, w8, w32, w64, Bor, MutBor}
-use Rattle.rel_base.specs.Shows.{Shows}
+use Rattle.std.proofs.Common.{◌≡◌, ◌∙◌, ap}
 use Rattle.candidate_cover.specs.Cands.{width}
-use Rattle.negative_cover.specs.Witnesses.{sets_of, live_of}
-use Rattle.cover_core.specs.EndedRows as rows_of
-use Rattle.cover_core.specs.NewLists.{AreLeast, AreParts}
+use Rattle.negative_cover.specs.Witnesses.{sets_of, live_of, dead_of}
+use Rattle.cover_core.proofs.Calls.{AreLeast-parted}
 use Rattle.cover_core.proofs.renewal.renewed_after.Goals as goal
 
--- src/renewal.rt:48:17
 pub generalised-requires : goal.generalised-requires
-generalised-requires g c = ?
+generalised-requires g c = AreLeast-parted (width c.args.candidates.now) c.args.candidates.now c.args.witnesses.now c.as_slice.result.now c.as_slice-2.result.now c.as_slice-3.result.now c.requires.least
+    (c.as_slice-2.ensures.value ∙ c.in_ok-parted.ensures.rest) (c.as_slice-3.ensures.value ∙ c.in_ok-parted.ensures.gone)

@@ -14,30 +14,30 @@ use Rattle.cover_core.specs.Replies.{reply_of_draw, reply_of_refutation, reply_o
 use Rattle.rel_base.specs.declared.nulls.Nulls.TheVariants.{Equal}
 use Rattle.cover_core.proofs.book.Book.apply.Goals as goal
 
--- src/book.rt:190:13
+-- src/book.rt:191:13
 pub renewed_after-made-requires-clause-name : goal.renewed_after-made-requires-clause-name
 renewed_after-made-requires-clause-name c = ?
 
--- src/book.rt:190:13
+-- src/book.rt:191:13
 pub renewed_after-made-requires-clause-parts : goal.renewed_after-made-requires-clause-parts
 renewed_after-made-requires-clause-parts c = ?
 
--- src/book.rt:190:13
+-- src/book.rt:191:13
 pub renewed_after-made-requires-clause-some : goal.renewed_after-made-requires-clause-some
 renewed_after-made-requires-clause-some c = ?
 
--- src/book.rt:199:16
+-- src/book.rt:200:16
 pub invariant_of-self-in-Ok : goal.invariant_of-self-in-Ok
 invariant_of-self-in-Ok c = ?
 
--- src/book.rt:180:5
+-- src/book.rt:181:5
 pub returns-in-Ok-clause-step : goal.returns-in-Ok-clause-step
 returns-in-Ok-clause-step c = ?
 
--- src/book.rt:180:5
+-- src/book.rt:181:5
 pub returns-in-Ok-clause-fits : goal.returns-in-Ok-clause-fits
 returns-in-Ok-clause-fits c = ?
 
--- src/book.rt:180:5
+-- src/book.rt:181:5
 pub returns-in-Ok-clause-sound : goal.returns-in-Ok-clause-sound
 returns-in-Ok-clause-sound c = ?

@@ -1,27 +1,16 @@
-use Rattle.std.proofs.Common.{rules, ◌≡◌, ◌≢◌, ◌<◌, ◌^◌, ◌↔◌, true, None, IfOk, IsTrue, OnErr, ℕ, ◌+◌, ◌-◌, ◌*◌, ◌≤◌, length, ◌/◌, ◌%◌, Bool, false, nat_eq, nat_lt, List, [], ◌∷◌, ◌++◌, slice_index_or, slice_set, bit_and, bit_or, w8, w32, w64, Bor, MutBor}
-use Rattle.std.specs.List.{All}
-use Rattle.col_set.specs.Target.{IsColumnTarget}
-use Rattle.rel_base.specs.JobParts.{JobParts}
-use Rattle.rel_base.specs.RowState.{opened, width}
-use Rattle.rel_base.specs.Shows.{holds_in}
-use Rattle.rel_base.specs.Covers.{covers}
-use Rattle.rel_base.specs.Laws.{IsAsWide}
-use Rattle.cover_steps.specs.Core.{opened_core}
-use Rattle.cover_steps.specs.Core.{first_unfinished as first_unfinished_of}
-use Rattle.cover_steps.specs.Steps as steps
-use Rattle.cover_steps.specs.Sound.{Sound, Fits}
-use Rattle.cover_core.specs.Replies.{reply_of_draw, reply_of_refutation, reply_of_mark, reply_of_release, reply_of_batch, reply_of_settle, IfJob, IfReady}
-use Rattle.rel_base.specs.declared.nulls.Nulls.TheVariants.{Equal}
+use Rattle.std.proofs.Common.{◌≡◌}
+use Rattle.cover_core.proofs.Whole.{MarkAll, mark-all}
 use Rattle.cover_core.proofs.book.Book.mark.Goals as goal
+use Rattle.cover_core.proofs.book.Book.mark.Goals.{After-mark}
 
--- src/book.rt:147:5
+all : (c : After-mark) → MarkAll _ _ _ _ _ c.args.job.now c.mark.result c.mark.new.self
+all c = mark-all _ _ _ c.self.invariant c.self.view_is c.args.job.now c.target.result c.left.result c.to.result c.mark.result c.mark.new.self c.target.ensures c.left.ensures c.to.ensures c.requires.fits c.requires.holds c.mark.ensures.answer c.mark.ensures.list
+
 pub invariant_of-self : goal.invariant_of-self
-invariant_of-self c = ?
+invariant_of-self c = (all c).book
 
--- src/book.rt:147:5
 pub returns-clause-step : goal.returns-clause-step
-returns-clause-step c = ?
+returns-clause-step c = (all c).step
 
--- src/book.rt:147:5
 pub returns-clause-sound : goal.returns-clause-sound
-returns-clause-sound c = ?
+returns-clause-sound c = (all c).book.sound

@@ -14,6 +14,6 @@ use Rattle.cover_core.specs.Replies.{reply_of_draw, reply_of_refutation, reply_o
 use Rattle.rel_base.specs.declared.nulls.Nulls.TheVariants.{Equal}
 use Rattle.cover_core.proofs.book.Book.open_with.Goals as goal
 
--- src/book.rt:78:9
+-- src/book.rt:79:9
 pub invariant_of-result : goal.invariant_of-result
 invariant_of-result c = ?

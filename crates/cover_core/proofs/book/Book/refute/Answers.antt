@@ -1,35 +1,35 @@
-use Rattle.std.proofs.Common.{rules, ◌≡◌, ◌≢◌, ◌<◌, ◌^◌, ◌↔◌, true, None, IfOk, IsTrue, OnErr, ℕ, ◌+◌, ◌-◌, ◌*◌, ◌≤◌, length, ◌/◌, ◌%◌, Bool, false, nat_eq, nat_lt, List, [], ◌∷◌, ◌++◌, slice_index_or, slice_set, bit_and, bit_or, w8, w32, w64, Bor, MutBor}
-use Rattle.std.specs.List.{All}
-use Rattle.col_set.specs.Target.{IsColumnTarget}
-use Rattle.rel_base.specs.JobParts.{JobParts}
-use Rattle.rel_base.specs.RowState.{opened, width}
-use Rattle.rel_base.specs.Shows.{holds_in}
-use Rattle.rel_base.specs.Covers.{covers}
-use Rattle.rel_base.specs.Laws.{IsAsWide}
-use Rattle.cover_steps.specs.Core.{opened_core}
-use Rattle.cover_steps.specs.Core.{first_unfinished as first_unfinished_of}
-use Rattle.cover_steps.specs.Steps as steps
-use Rattle.cover_steps.specs.Sound.{Sound, Fits}
-use Rattle.cover_core.specs.Replies.{reply_of_draw, reply_of_refutation, reply_of_mark, reply_of_release, reply_of_batch, reply_of_settle, IfJob, IfReady}
-use Rattle.rel_base.specs.declared.nulls.Nulls.TheVariants.{Equal}
+use Rattle.std.proofs.Common.{◌≡◌, ◌∙◌, sym, refl}
+use Rattle.negative_cover.specs.Witnesses.{sets_of}
+use Rattle.cover_core.proofs.Calls.{are_least}
+use Rattle.cover_core.proofs.Whole.{RefuteAll, refute-all, refutes-found, live-found}
 use Rattle.cover_core.proofs.book.Book.refute.Goals as goal
+use Rattle.cover_core.proofs.book.Book.refute.Goals.{After-put_all}
 
--- src/book.rt:137:13
 pub returns-then-not-refutes_some-clause-step : goal.returns-then-not-refutes_some-clause-step
-returns-then-not-refutes_some-clause-step c = ?
+returns-then-not-refutes_some-clause-step c = (
+  live-found _ _ _ c.self.invariant c.self.view_is c.args.i c.args.j c.is_live.result c.is_live-2.result c.is_live.ensures.value c.if-not-is_live.false c.is_live-2.ensures.value c.if-not-is_live-2.false,
+  refutes-found _ _ _ c.self.invariant c.self.view_is c.args.i c.args.j c.agree-agree.result c.refutes_some.result _ c.agree-agree.ensures c.refutes_some.ensures c.if-not-refutes_some.true,
+  refl,
+)
 
--- src/book.rt:141:9
 pub put_all-requires : goal.put_all-requires
-put_all-requires c = ?
+put_all-requires c = (c.in_ok-parts.ensures (sets_of c.self.inside.witnesses) (are_least _ _ c.self.invariant)).count
 
--- src/book.rt:121:5
+all : (c : After-put_all) → RefuteAll _ _ _ _ _ c.args.i c.args.j (record { rows = c.self.inside.rows; witnesses = c.add.new.self; candidates = c.put_all.new.candidates })
+all c = refute-all _ _ _ c.self.invariant c.self.view_is c.args.i c.args.j c.agree-agree.result c.add.new.self c.put_all.new.candidates c.requires
+    (live-found _ _ _ c.self.invariant c.self.view_is c.args.i c.args.j c.is_live.result c.is_live-2.result c.is_live.ensures.value c.if-not-is_live.false c.is_live-2.ensures.value c.if-not-is_live-2.false)
+    (refutes-found _ _ _ c.self.invariant c.self.view_is c.args.i c.args.j c.agree-agree.result c.refutes_some.result _ c.agree-agree.ensures c.refutes_some.ensures c.if-not-refutes_some.false)
+    c.agree-agree.ensures c.in_ok-add.ensures.ok (c.put_all.ensures _ (c.in_ok-parts.ensures (sets_of c.self.inside.witnesses) (are_least _ _ c.self.invariant)))
+
 pub invariant_of-self-2 : goal.invariant_of-self-2
-invariant_of-self-2 c = ?
+invariant_of-self-2 c = (all c).book
 
--- src/book.rt:121:5
 pub returns-clause-step : goal.returns-clause-step
-returns-clause-step c = ?
+returns-clause-step c = (
+  live-found _ _ _ c.self.invariant c.self.view_is c.args.i c.args.j c.is_live.result c.is_live-2.result c.is_live.ensures.value c.if-not-is_live.false c.is_live-2.ensures.value c.if-not-is_live-2.false,
+  refutes-found _ _ _ c.self.invariant c.self.view_is c.args.i c.args.j c.agree-agree.result c.refutes_some.result _ c.agree-agree.ensures c.refutes_some.ensures c.if-not-refutes_some.false,
+  (all c).state,
+)
 
--- src/book.rt:121:5
 pub returns-clause-sound : goal.returns-clause-sound
-returns-clause-sound c = ?
+returns-clause-sound c = (all c).book.sound

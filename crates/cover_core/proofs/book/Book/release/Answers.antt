@@ -1,27 +1,23 @@
-use Rattle.std.proofs.Common.{rules, ◌≡◌, ◌≢◌, ◌<◌, ◌^◌, ◌↔◌, true, None, IfOk, IsTrue, OnErr, ℕ, ◌+◌, ◌-◌, ◌*◌, ◌≤◌, length, ◌/◌, ◌%◌, Bool, false, nat_eq, nat_lt, List, [], ◌∷◌, ◌++◌, slice_index_or, slice_set, bit_and, bit_or, w8, w32, w64, Bor, MutBor}
-use Rattle.std.specs.List.{All}
-use Rattle.col_set.specs.Target.{IsColumnTarget}
-use Rattle.rel_base.specs.JobParts.{JobParts}
-use Rattle.rel_base.specs.RowState.{opened, width}
-use Rattle.rel_base.specs.Shows.{holds_in}
-use Rattle.rel_base.specs.Covers.{covers}
-use Rattle.rel_base.specs.Laws.{IsAsWide}
-use Rattle.cover_steps.specs.Core.{opened_core}
-use Rattle.cover_steps.specs.Core.{first_unfinished as first_unfinished_of}
-use Rattle.cover_steps.specs.Steps as steps
-use Rattle.cover_steps.specs.Sound.{Sound, Fits}
-use Rattle.cover_core.specs.Replies.{reply_of_draw, reply_of_refutation, reply_of_mark, reply_of_release, reply_of_batch, reply_of_settle, IfJob, IfReady}
-use Rattle.rel_base.specs.declared.nulls.Nulls.TheVariants.{Equal}
+use Rattle.std.proofs.Common.{◌≡◌, ◌∙◌, sym, ap, cond}
+use Rattle.cover_core.specs.declared.answers.Release.TheVariants as releases
+use Rattle.cover_core.proofs.Whole.{ReleaseAll, release-all}
 use Rattle.cover_core.proofs.book.Book.release.Goals as goal
+use Rattle.cover_core.proofs.book.Book.release.Goals.{Joined-hold, then-hold, else-hold}
 
--- src/book.rt:160:5
+told : (c : Joined-hold) → c.if-hold.result ≡ cond c.hold.result releases.Released releases.Dropped
+told c = elim c.if-hold.branch [
+  | then-hold w ↦ w.result-is ∙ sym (ap (λ b. cond b releases.Released releases.Dropped) w.if-hold.true)
+  | else-hold w ↦ w.result-is ∙ sym (ap (λ b. cond b releases.Released releases.Dropped) w.if-hold.false)
+]
+
+all : (c : Joined-hold) → ReleaseAll _ _ _ _ _ c.args.job.now c.if-hold.result c.hold.new.self
+all c = release-all _ _ _ c.self.invariant c.self.view_is c.args.job.now c.target.result c.left.result c.hold.result c.if-hold.result c.hold.new.self c.target.ensures c.left.ensures c.requires.target c.hold.ensures.answer (told c) c.hold.ensures.list
+
 pub invariant_of-self : goal.invariant_of-self
-invariant_of-self c = ?
+invariant_of-self c = (all c).book
 
--- src/book.rt:160:5
 pub returns-clause-step : goal.returns-clause-step
-returns-clause-step c = ?
+returns-clause-step c = (all c).step
 
--- src/book.rt:160:5
 pub returns-clause-sound : goal.returns-clause-sound
-returns-clause-sound c = ?
+returns-clause-sound c = (all c).book.sound

@@ -14,14 +14,14 @@ use Rattle.cover_core.specs.Replies.{reply_of_draw, reply_of_refutation, reply_o
 use Rattle.rel_base.specs.declared.nulls.Nulls.TheVariants.{Equal}
 use Rattle.cover_core.proofs.book.Book.settle.Goals as goal
 
--- src/book.rt:214:5
+-- src/book.rt:215:5
 pub returns-in-Some-clause-step : goal.returns-in-Some-clause-step
 returns-in-Some-clause-step c = ?
 
--- src/book.rt:214:5
+-- src/book.rt:215:5
 pub returns-in_ok-listed-in-None-clause-step : goal.returns-in_ok-listed-in-None-clause-step
 returns-in_ok-listed-in-None-clause-step c = ?
 
--- src/book.rt:214:5
+-- src/book.rt:215:5
 pub returns-in_ok-listed-in-None-clause-exact : goal.returns-in_ok-listed-in-None-clause-exact
 returns-in_ok-listed-in-None-clause-exact c = ?

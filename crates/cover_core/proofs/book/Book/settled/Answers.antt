@@ -14,6 +14,6 @@ use Rattle.cover_core.specs.Replies.{reply_of_draw, reply_of_refutation, reply_o
 use Rattle.rel_base.specs.declared.nulls.Nulls.TheVariants.{Equal}
 use Rattle.cover_core.proofs.book.Book.settled.Goals as goal
 
--- src/book.rt:229:5
+-- src/book.rt:230:5
 pub returns : goal.returns
 returns c = ?
