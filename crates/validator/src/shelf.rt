@@ -74,7 +74,7 @@ fn cheapest_within(kept: &[Kept], columns: ColSet) -> Option<usize>
     best
 }
 
-// The column of these whose own partition has the fewest rows, as far as that is known.
+// The column of these that tells the most rows apart, as far as that is known.
 fn lightest(columns: ColSet, first: u8, weights: &[u32; 128]) -> u8
     requires first { has columns first ≡ true }
     requires bound { first < 128 }
@@ -138,15 +138,15 @@ fn keep_columns(
     let mut left = columns;
     while let Some(column) = left.first() {
         if weights[column as usize] == UNKNOWN {
-            let rows = push_column(alloc, snapshot, kept, column)?;
-            weights[column as usize] = rows;
+            let weight = push_column(alloc, snapshot, kept, column)?;
+            weights[column as usize] = weight;
         }
         left = left.without(column);
     }
     Ok(())
 }
 
-// Keeps the partition by a column, and answers how many rows its groups have.
+// Keeps the partition by a column, and answers its weight.
 fn push_column(
     alloc: Global,
     snapshot: &Snapshot,
@@ -160,12 +160,13 @@ fn push_column(
 {
     let partition = Partition::of_column(alloc, snapshot, column)?;
     let rows = rows_of(&partition);
+    let weight = partition.error_count();
     kept.push(Kept {
         partition,
         columns: ColSet::empty().with(column),
         rows,
     })?;
-    Ok(u32::try_from(rows).unwrap_or(HEAVIEST))
+    Ok(weight)
 }
 
 // Keeps the partition by no column.

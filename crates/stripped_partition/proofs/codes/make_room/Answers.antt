@@ -1,4 +1,4 @@
-use Rattle.std.proofs.Common.{◌≡◌, ◌<◌, ◌≤◌, ◌+◌, ℕ, List, length, arith}
+use Rattle.std.proofs.Common.{◌<◌, ◌≤◌, ℕ, List, arith}
 use Rattle.std.specs.List.{All}
 use Rattle.std.proofs.lemmas.List.Elements.{All-weaker}
 use Rattle.stripped_partition.specs.Codes.{IsRecoded}
