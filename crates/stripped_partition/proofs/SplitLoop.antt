@@ -54,7 +54,7 @@ pub record Splitted (bound : ℕ) (all : List (ℕ × ℕ)) (ends rows_made ends
   pub at : start ≡ start_at ends i
   pub flat : IsFlat rows_made ends_made (flat_map (parts bound) (take i (cut 0 all ends)))
   pub long : length slots ≡ bound
-  pub clear : start < length all → slots ≡ replicate (length slots) 0
+  pub clear : slots ≡ replicate (length slots) 0
   pub few : length rows_made ≤ start
 
 pub splitted_none : (bound : ℕ) (all : List (ℕ × ℕ)) (ends slots : List ℕ) → slots ≡ replicate bound 0 → length slots ≡ bound → Splitted bound all ends [] [] slots 0 0
@@ -63,7 +63,7 @@ splitted_none bound all ends slots is long = record {
   at = refl;
   flat = record { laid = refl; cuts = refl };
   long = long;
-  clear = λ l. is ∙ ap (λ (n : ℕ). replicate n 0) (sym long);
+  clear = is ∙ ap (λ (n : ℕ). replicate n 0) (sym long);
   few = omega arith;
 }
 
@@ -73,7 +73,7 @@ module _ (bound : ℕ) (all : List (ℕ × ℕ)) (ends rows_made ends_made slots
 
   pub splitted_more : (end : ℕ) (rows_after ends_after slots_after : List ℕ) → end ≡ get_or ends i 0
       → rows_after ≡ rows_made ++ concat (parts bound (slice_range all start end)) → ends_after ≡ ends_made ++ ends_of (length rows_made) (parts bound (slice_range all start end))
-      → length slots_after ≡ bound → (end < length all → slots_after ≡ replicate (length slots_after) 0) → Splitted bound all ends rows_after ends_after slots_after (i + 1) end
+      → length slots_after ≡ bound → slots_after ≡ replicate (length slots_after) 0 → Splitted bound all ends rows_after ends_after slots_after (i + 1) end
   splitted_more end rows_after ends_after slots_after e er ee long clear = record {
     at = e ∙ sym (ap (start_at ends) (let d : i + 1 ≡ suc i = omega arith in d));
     flat = record {

@@ -1,5 +1,5 @@
 // Codes of rows.
-ghost use Rattle.std.specs.Prelude.{◌≡◌, ◌<◌, ◌≤◌, ◌==◌, ℕ, nat_lt, length, vec_len, map, count_by, slice_index, slice_index_or, cond, option_map, find, IfOk, ◌-◌, ◌^◌};
+ghost use Rattle.std.specs.Prelude.{◌≡◌, ◌<◌, ◌≤◌, ◌==◌, ℕ, nat_lt, length, vec_len, map, count_by, slice_index, slice_index_or, cond, option_map, find, replicate, IfOk, OnOk, ◌-◌, ◌^◌};
 ghost use Rattle.std.specs.List.{All, list_any};
 ghost use Rattle.std.specs.List.Sorted.{IsNonDecreasing};
 ghost use Rattle.rel_base.specs.CodeTable.{code_at};
@@ -72,7 +72,7 @@ fn rank(sorted: &[u32], code: u32) -> u32
 }
 
 // The greatest of the codes, or 0.
-fn greatest_code(codes: &[u32]) -> u32
+pub(crate) fn greatest_code(codes: &[u32]) -> u32
     ensures { All (λ code. code ≤ result) codes.now }
 {
     codes.iter().copied().max().unwrap_or(0)
@@ -90,6 +90,19 @@ pub(crate) fn dense(alloc: Global, codes: Vec<u32>) -> Result<(Vec<u32>, usize),
     let bound = codes.len();
     let ranks = ranks(alloc, &codes)?;
     Ok((ranks, bound))
+}
+
+// Makes room for a slot for each of the codes, where all slots are clear.
+pub(crate) fn make_room(slots: &mut Vec<u32>, codes: &[u32]) -> Result<(), AllocError>
+    requires clear { slots.old.items ≡ replicate (vec_len slots.old) 0 }
+    ensures clear { slots.new.items ≡ replicate (vec_len slots.new) 0 }
+    ensures room { OnOk result (IsRecoded codes.now codes.now (vec_len slots.new)) }
+{
+    let bound = greatest_code(codes) as usize + 1;
+    if slots.len() < bound {
+        slots.resize(bound, 0)?;
+    }
+    Ok(())
 }
 
 // Writes a place at each of these rows.

@@ -39,11 +39,15 @@ fn count(slots: &mut [u32], codes: &[u32])
     }
 }
 
-// Clears the slots of these codes.
+// Clears the slots of these codes, where no other holds anything.
 fn clear(slots: &mut [u32], codes: &[u32])
     requires { (c : ℕ) → c < length slots.old → count_by (λ d. d == c) codes.now ≡ 0 → slice_index slots.old c ≡ 0 }
     ensures { slots.new ≡ replicate (length slots.old) 0 }
 {
+    if slots.len() <= codes.len() {
+        slots.fill(0);
+        return;
+    }
     for code in codes {
         let slot = *code as usize;
         if slot < slots.len() {
@@ -110,21 +114,44 @@ fn split_groups(
     requires coded { length codes.now ≡ length rows.now }
     requires none { (groups.old.rows.items ≡ []) × (groups.old.ends.items ≡ []) }
     requires clear { slots.old ≡ replicate (length slots.old) 0 }
-    ensures { OnOk result (IsFlat groups.new.rows.items groups.new.ends.items (flat_map (parts (length slots.old)) (cut 0 (zip rows.now codes.now) ends.now))) }
+    ensures flat { OnOk result (IsFlat groups.new.rows.items groups.new.ends.items (flat_map (parts (length slots.old)) (cut 0 (zip rows.now codes.now) ends.now))) }
+    ensures clear { OnOk result (slots.new ≡ replicate (length slots.old) 0) }
 {
     let mut start = 0;
     for end in ends {
         let end = *end as usize;
         split_group(groups, slots, &rows[start..end], &codes[start..end])?;
-        if end < rows.len() {
-            clear(slots, &codes[start..end]);
-        }
+        clear(slots, &codes[start..end]);
         start = end;
     }
     Ok(())
 }
 
-// The parts of two rows or more of each group by the codes of its rows. A code at or beyond the bound makes no part.
+// The parts of two rows or more of each group by the codes of its rows. A code that has no slot makes no part.
+pub(crate) fn split_in(
+    alloc: Global,
+    slots: &mut [u32],
+    rows: &[RowNo],
+    ends: &[u32],
+    codes: &[u32],
+) -> Result<Groups, AllocError>
+    requires cut { IsCut rows.now ends.now }
+    requires coded { length codes.now ≡ length rows.now }
+    requires clear { slots.old ≡ replicate (length slots.old) 0 }
+    ensures flat { IfOk result (λ g. IsFlat g.rows.items g.ends.items (flat_map (parts (length slots.old)) (cut 0 (zip rows.now codes.now) ends.now))) }
+    ensures clear { OnOk result (slots.new ≡ replicate (length slots.old) 0) }
+{
+    let mut groups = Groups {
+        rows: Vec::with_capacity(alloc, rows.len())?,
+        ends: Vec::new(alloc),
+    };
+    split_groups(&mut groups, slots, rows, ends, codes)?;
+    groups.rows.shrink_to_fit();
+    groups.ends.shrink_to_fit();
+    Ok(groups)
+}
+
+// The same with slots of its own for the codes below a bound.
 pub(crate) fn split(
     alloc: Global,
     rows: &[RowNo],
@@ -137,12 +164,5 @@ pub(crate) fn split(
     ensures { IfOk result (λ g. IsFlat g.rows.items g.ends.items (flat_map (parts bound) (cut 0 (zip rows.now codes.now) ends.now))) }
 {
     let mut slots = vec![in alloc; 0u32; bound]?;
-    let mut groups = Groups {
-        rows: Vec::with_capacity(alloc, rows.len())?,
-        ends: Vec::new(alloc),
-    };
-    split_groups(&mut groups, &mut slots, rows, ends, codes)?;
-    groups.rows.shrink_to_fit();
-    groups.ends.shrink_to_fit();
-    Ok(groups)
+    split_in(alloc, &mut slots, rows, ends, codes)
 }

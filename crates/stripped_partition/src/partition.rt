@@ -1,5 +1,5 @@
 // Stripped partitions.
-ghost use Rattle.std.specs.Prelude.{◌≡◌, ◌<◌, ◌≤◌, ◌↔◌, [], length, slice_index_or, IfOk, IsNone};
+ghost use Rattle.std.specs.Prelude.{◌≡◌, ◌<◌, ◌≤◌, ◌↔◌, [], length, slice_index_or, replicate, vec_len, IfOk, OnOk, IsNone};
 ghost use Rattle.std.specs.List.{All};
 ghost use Rattle.col_set.specs.ColSet.{Columns, empty, with, union};
 ghost use Rattle.rel_base.specs.CodeTable.{CodeTable};
@@ -77,6 +77,29 @@ impl Partition {
         let codes = codes::codes_of(alloc, snapshot, column, &self.rows)?;
         let (codes, bound) = codes::dense(alloc, codes)?;
         let groups = groups::split(alloc, &self.rows, &self.ends, &codes, bound)?;
+        let Groups { rows, ends } = order::in_order(alloc, groups)?;
+        Ok(Partition { rows, ends })
+    }
+
+    /// The same as `refine`, with a table of slots that callers keep from one call to the next, so that a small partition is refined
+    /// in time by its rows, however large the codes. The table grows to the greatest code, and is clear again after an `Ok`.
+    pub fn refine_in(
+        &self,
+        alloc: Global,
+        snapshot: &Snapshot,
+        column: u8,
+        slots: &mut Vec<u32>,
+    ) -> Result<Partition, AllocError>
+        requires of { IsPartitionOf snapshot.now self.now }
+        requires column { column < length snapshot.now.codes }
+        requires clear { slots.old.items ≡ replicate (vec_len slots.old) 0 }
+        ensures value { IfOk result (λ p. (x : Columns) → self.now ≡ stripped snapshot.now x → p ≡ stripped snapshot.now (with x column)) }
+        ensures of { IfOk result (λ p. IsPartitionOf snapshot.now p) }
+        ensures clear { OnOk result (slots.new.items ≡ replicate (vec_len slots.new) 0) }
+    {
+        let codes = codes::codes_of(alloc, snapshot, column, &self.rows)?;
+        codes::make_room(slots, &codes)?;
+        let groups = groups::split_in(alloc, slots, &self.rows, &self.ends, &codes)?;
         let Groups { rows, ends } = order::in_order(alloc, groups)?;
         Ok(Partition { rows, ends })
     }

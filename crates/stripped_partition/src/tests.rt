@@ -61,6 +61,11 @@ fn groups_by_two_columns(rt: HostRuntime) -> Result<(), Fail> {
     assert!(rt; is_group(&both, 0, &[3, 4]));
     let refined = second.refine(alloc, &snapshot, 0)?;
     assert!(rt; refined.group_count() == 1 && is_group(&refined, 0, &[3, 4]));
+    let mut slots = Vec::new(alloc);
+    let again = second.refine_in(alloc, &snapshot, 0, &mut slots)?;
+    assert!(rt; again.group_count() == 1 && is_group(&again, 0, &[3, 4]));
+    let again = first.refine_in(alloc, &snapshot, 1, &mut slots)?;
+    assert!(rt; again.group_count() == 1 && is_group(&again, 0, &[3, 4]));
     Ok(())
 }
 

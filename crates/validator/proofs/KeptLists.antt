@@ -11,7 +11,7 @@ use Rattle.col_set.specs.Subsets.{true-subset, subset-true, has_within, subset_b
 use Rattle.rel_base.specs.CodeTable.{CodeTable}
 use Rattle.stripped_partition.specs.Stripped.{stripped}
 use Rattle.validator.specs.Kept.{IsKept, AreKept}
-use Rattle.validator.specs.Walk.{plus}
+use Rattle.validator.specs.Walk.{plus, IsClear}
 use Rattle.validator.specs.declared.shelf.Kept.{Kept}
 use Rattle.validator.proofs.Refinements.{no_columns, union-moved, union-empty}
 
@@ -67,13 +67,14 @@ pub keeping_next : (s : CodeTable) (kept now : List Kept) (left column rest : �
 keeping_next s kept now left column rest p e are r = record { are = are; within = (let a = (first-Some left column e).smaller in let b = p.within in omega arith) }
 
 -- ---- a partition refined by columns in turn
-pub record Refining (s : CodeTable) (wanted : Kept → ℕ) (kept : List Kept) (k left : ℕ) : Type 0 where
+pub record Refining (s : CodeTable) (wanted : Kept → ℕ) (kept : List Kept) (slots : List ℕ) (k left : ℕ) : Type 0 where
   pub are : AreKept s kept
   pub place : k < length kept
   pub columns : (d : Kept) → union (get_or kept k d).columns left ≡ wanted d
+  pub clear : IsClear slots
   pub within : left < 2 ^ length s.codes
 
-module _ (s : CodeTable) (wanted : Kept → ℕ) (kept : List Kept) (k left : ℕ) (p : Refining s wanted kept k left) where
+module _ (s : CodeTable) (wanted : Kept → ℕ) (kept : List Kept) (slots : List ℕ) (k left : ℕ) (p : Refining s wanted kept slots k left) where
   pub refining_end : None ≡ first left → (d : Kept) → plus (get_or kept k d).columns None ≡ wanted d
   refining_end e d = sym (union-empty (get_or kept k d).columns) ∙ ap (union (get_or kept k d).columns) (sym (no_columns left e)) ∙ p.columns d
 
@@ -89,10 +90,11 @@ module _ (s : CodeTable) (wanted : Kept → ℕ) (kept : List Kept) (k left : �
     pub refining_smaller : (rest : ℕ) → rest ≡ without left column → rest < left
     refining_smaller rest r = let a = without-lt left column h in omega arith
 
-    pub refining_next : (now : List Kept) (next rest : ℕ) → AreKept s now → next < length now → ((d : Kept) → (get_or now next d).columns ≡ with (get_or kept k d).columns column) → rest ≡ without left column → Refining s wanted now next rest
-    refining_next now next rest are place columns r = record {
+    pub refining_next : (now : List Kept) (slots_after : List ℕ) (next rest : ℕ) → AreKept s now → next < length now → ((d : Kept) → (get_or now next d).columns ≡ with (get_or kept k d).columns column) → rest ≡ without left column → IsClear slots_after → Refining s wanted now slots_after next rest
+    refining_next now slots_after next rest are place columns r clear = record {
       are = are;
       place = place;
+      clear = clear;
       columns = λ d. ap₂ union (columns d) r ∙ union-moved (get_or kept k d).columns left column h ∙ p.columns d;
       within = (let a = without-lt left column h in let b = p.within in omega arith);
     }

@@ -74,7 +74,7 @@ fn cheapest_within(kept: &[Kept], columns: ColSet) -> Option<usize>
     best
 }
 
-// The column of these whose own partition has the fewest rows, as far as that is known.
+// The column of these that tells the most rows apart, as far as that is known.
 fn lightest(columns: ColSet, first: u8, weights: &[u32; 128]) -> u8
     requires first { has columns first ≡ true }
     requires bound { first < 128 }
@@ -97,20 +97,23 @@ fn push_refined(
     alloc: Global,
     snapshot: &Snapshot,
     kept: &mut Vec<Kept>,
+    slots: &mut Vec<u32>,
     k: usize,
     column: u8,
 ) -> Result<(), AllocError>
     requires kept { AreKept snapshot.now kept.old.items }
+    requires clear { IsClear slots.old.items }
     requires place { k < vec_len kept.old }
     requires column { column < length snapshot.now.codes }
     requires bound { column < 128 }
     ensures kept { AreKept snapshot.now kept.new.items }
     ensures len { OnOk result (vec_len kept.new ≡ vec_len kept.old + 1) }
     ensures columns { OnOk result ((d : Kept) → (slice_index_or kept.new.items (vec_len kept.old) d).columns ≡ with (slice_index_or kept.old.items k d).columns column) }
+    ensures clear { OnOk result (IsClear slots.new.items) }
 {
     let entry = &kept[k];
     let columns = entry.columns.with(column);
-    let partition = entry.partition.refine(alloc, snapshot, column)?;
+    let partition = entry.partition.refine_in(alloc, snapshot, column, slots)?;
     let rows = rows_of(&partition);
     kept.push(Kept {
         partition,
@@ -135,15 +138,15 @@ fn keep_columns(
     let mut left = columns;
     while let Some(column) = left.first() {
         if weights[column as usize] == UNKNOWN {
-            let rows = push_column(alloc, snapshot, kept, column)?;
-            weights[column as usize] = rows;
+            let weight = push_column(alloc, snapshot, kept, column)?;
+            weights[column as usize] = weight;
         }
         left = left.without(column);
     }
     Ok(())
 }
 
-// Keeps the partition by a column, and answers how many rows its groups have.
+// Keeps the partition by a column, and answers its weight.
 fn push_column(
     alloc: Global,
     snapshot: &Snapshot,
@@ -157,12 +160,13 @@ fn push_column(
 {
     let partition = Partition::of_column(alloc, snapshot, column)?;
     let rows = rows_of(&partition);
+    let weight = partition.error_count();
     kept.push(Kept {
         partition,
         columns: ColSet::empty().with(column),
         rows,
     })?;
-    Ok(u32::try_from(rows).unwrap_or(HEAVIEST))
+    Ok(weight)
 }
 
 // Keeps the partition by no column.
@@ -209,16 +213,19 @@ fn refine_kept(
     snapshot: &Snapshot,
     kept: &mut Vec<Kept>,
     weights: &[u32; 128],
+    slots: &mut Vec<u32>,
     base: usize,
     columns: ColSet,
 ) -> Result<(usize, Option<u8>), AllocError>
     requires kept { AreKept snapshot.now kept.old.items }
+    requires clear { IsClear slots.old.items }
     requires place { base < vec_len kept.old }
     requires columns { columns < 2 ^ length snapshot.now.codes }
     ensures kept { AreKept snapshot.now kept.new.items }
     ensures place { IfOk result (λ r. r.0 < vec_len kept.new) }
     ensures columns { IfOk result (λ r. (d : Kept) → plus (slice_index_or kept.new.items r.0 d).columns r.1 ≡ union (slice_index_or kept.old.items base d).columns columns) }
     ensures by { IfOk result (λ r. ForSome r.1 (λ column. column < length snapshot.now.codes)) }
+    ensures clear { OnOk result (IsClear slots.new.items) }
 {
     let mut k = base;
     let mut left = columns;
@@ -228,7 +235,7 @@ fn refine_kept(
         }
         let column = lightest(left, first, weights);
         let next = kept.len();
-        push_refined(alloc, snapshot, kept, k, column)?;
+        push_refined(alloc, snapshot, kept, slots, k, column)?;
         k = next;
         left = left.without(column);
     }
@@ -257,7 +264,7 @@ pub(crate) fn search<L: Ledger>(
     keep_columns(alloc, snapshot, kept, weights, left)?;
     let base = base(alloc, snapshot, kept, left)?;
     let rest = left.minus(kept[base].columns);
-    let (k, by) = refine_kept(alloc, snapshot, kept, weights, base, rest)?;
+    let (k, by) = refine_kept(alloc, snapshot, kept, weights, slots, base, rest)?;
     let question = Question {
         target: job.target(),
         by,

@@ -6,7 +6,6 @@ use Rattle.stripped_partition.proofs.Cuts.{length-slice}
 use Rattle.stripped_partition.proofs.PlacingStep.{long_pairs}
 use Rattle.stripped_partition.proofs.SplitLoop.{Splitted, splitted_none, splitted_more, splitted_all, bounds, zip-slice}
 use Rattle.stripped_partition.proofs.groups.split_groups.Goals as goal
-use Rattle.stripped_partition.proofs.groups.split_groups.Goals.{then-end-rows, else-end-rows}
 
 pub loop-end-init : goal.loop-end-init
 loop-end-init c =
@@ -60,10 +59,7 @@ split_group-requires-clause-short c =
     let s = w.2 in omega (arith, c.loop-end.groups.rows.ok.0)
 
 pub split_group-requires-clause-clear : goal.split_group-requires-clause-clear
-split_group-requires-clause-clear c =
-    let w = within (length c.loop-end.slots) c.args.rows.now c.args.codes.now c.args.ends.now c.loop-end.groups.rows.items c.loop-end.groups.ends.items c.loop-end.slots c.loop-end.end-index c.loop-end.start c.requires.cut c.requires.coded c.loop-end.invariant c.loop-end-test.true in
-    let a = w.0 in let b = w.1 in let n = long_pairs c.args.rows.now c.args.codes.now c.requires.coded in
-    c.loop-end.invariant.clear (omega arith)
+split_group-requires-clause-clear c = c.loop-end.invariant.clear
 
 pub slice_bounds-clear-count : goal.slice_bounds-clear-count
 slice_bounds-clear-count c =
@@ -75,12 +71,18 @@ slice_bounds-clear-start c =
     let w = within (length c.loop-end.slots) c.args.rows.now c.args.codes.now c.args.ends.now c.loop-end.groups.rows.items c.loop-end.groups.ends.items c.loop-end.slots c.loop-end.end-index c.loop-end.start c.requires.cut c.requires.coded c.loop-end.invariant c.loop-end-test.true in
     let a = w.0 in let g : c.loop-end.start ≤ get_or c.args.ends.now c.loop-end.end-index 0 = omega arith in search rules
 
+pub slice_bounds-clear-end : goal.slice_bounds-clear-end
+slice_bounds-clear-end c =
+    let w = within (length c.loop-end.slots) c.args.rows.now c.args.codes.now c.args.ends.now c.loop-end.groups.rows.items c.loop-end.groups.ends.items c.loop-end.slots c.loop-end.end-index c.loop-end.start c.requires.cut c.requires.coded c.loop-end.invariant c.loop-end-test.true in
+    let b = w.1 in let e = c.requires.coded in
+    let g : get_or c.args.ends.now c.loop-end.end-index 0 ≤ length c.args.codes.now = omega arith in search rules
+
 -- one more group is split
 more : (rows codes ends rows_made ends_made slots : List ℕ) (i start made : ℕ) → IsCut rows ends → length codes ≡ length rows → Splitted (length slots) (zip rows codes) ends rows_made ends_made slots i start → i < length ends
     → (end : ℕ) (rows_after ends_after slots_after : List ℕ) → end ≡ get_or ends i 0 → made ≡ length rows_made
     → rows_after ≡ rows_made ++ concat (parts (length slots) (zip (slice_range rows start (get_or ends i 0)) (slice_range codes start (get_or ends i 0))))
     → ends_after ≡ ends_made ++ ends_of made (parts (length slots) (zip (slice_range rows start (get_or ends i 0)) (slice_range codes start (get_or ends i 0))))
-    → length slots_after ≡ length slots → (end < length rows → slots_after ≡ replicate (length slots_after) 0)
+    → length slots_after ≡ length slots → slots_after ≡ replicate (length slots_after) 0
     → Splitted (length slots_after) (zip rows codes) ends rows_after ends_after slots_after (i + 1) end
 more rows codes ends rows_made ends_made slots i start made is coded p l end rows_after ends_after slots_after e m er ee long clear =
     let n = long_pairs rows codes coded in
@@ -89,23 +91,20 @@ more rows codes ends rows_made ends_made slots i start made is coded p l end row
     (splitted_more (length slots) (zip rows codes) ends rows_made ends_made slots i start p (subst (λ (m : ℕ). EndsRise 0 m ends) (sym n) is.rise) l end rows_after ends_after slots_after e
     (er ∙ ap (λ (es : List (ℕ × ℕ)). rows_made ++ concat (parts (length slots) es)) part)
     (ee ∙ ap₂ (λ (k : ℕ) (es : List (ℕ × ℕ)). ends_made ++ ends_of k (parts (length slots) es)) m part)
-    long (λ q. clear (omega arith)))
+    long clear)
 
 pub loop-end-preserved : goal.loop-end-preserved
 loop-end-preserved c =
     let at = c.loop-end.groups in
     let made : vec_len at.rows ≡ length at.rows.items = omega (arith, at.rows.ok.0) in
-    elim c.if-end-rows.branch [
-      | then-end-rows w ↦ more c.args.rows.now c.args.codes.now c.args.ends.now at.rows.items at.ends.items c.loop-end.slots c.loop-end.end-index c.loop-end.start (vec_len at.rows) c.requires.cut c.requires.coded c.loop-end.invariant c.loop-end-test.true
-          c.if-end-rows.start c.split_group.new.groups.rows.items c.split_group.new.groups.ends.items c.if-end-rows.slots w.start-is made c.in_ok-split_group.ensures.rows c.in_ok-split_group.ensures.ends
-          (ap length w.slots-is ∙ w.clear.auto.slots ∙ c.split_group.auto.slots)
-          (λ l. w.slots-is ∙ w.clear.ensures ∙ ap (λ (n : ℕ). replicate n 0) (sym (ap length w.slots-is ∙ w.clear.auto.slots)))
-      | else-end-rows w ↦ more c.args.rows.now c.args.codes.now c.args.ends.now at.rows.items at.ends.items c.loop-end.slots c.loop-end.end-index c.loop-end.start (vec_len at.rows) c.requires.cut c.requires.coded c.loop-end.invariant c.loop-end-test.true
-          c.if-end-rows.start c.split_group.new.groups.rows.items c.split_group.new.groups.ends.items c.if-end-rows.slots w.start-is made c.in_ok-split_group.ensures.rows c.in_ok-split_group.ensures.ends
-          (ap length w.slots-is ∙ c.split_group.auto.slots)
-          (λ l. let s = w.start-is in let f = w.if-end-rows.false in absurd (omega arith))
-    ]
+    more c.args.rows.now c.args.codes.now c.args.ends.now at.rows.items at.ends.items c.loop-end.slots c.loop-end.end-index c.loop-end.start (vec_len at.rows) c.requires.cut c.requires.coded c.loop-end.invariant c.loop-end-test.true
+    (get_or c.args.ends.now c.loop-end.end-index 0) c.split_group.new.groups.rows.items c.split_group.new.groups.ends.items c.clear.new.slots refl made c.in_ok-split_group.ensures.rows c.in_ok-split_group.ensures.ends
+    (c.clear.auto.slots ∙ c.split_group.auto.slots)
+    (c.clear.ensures ∙ ap (λ (n : ℕ). replicate n 0) (sym c.clear.auto.slots))
 
-pub returns : goal.returns
-returns c = subst (λ (b : ℕ). IsFlat c.loop-end.groups.rows.items c.loop-end.groups.ends.items (flat_map (parts b) (cut 0 (zip c.args.rows.now c.args.codes.now) c.args.ends.now))) c.loop-end.auto.slots
+pub returns-clause-flat : goal.returns-clause-flat
+returns-clause-flat c = subst (λ (b : ℕ). IsFlat c.loop-end.groups.rows.items c.loop-end.groups.ends.items (flat_map (parts b) (cut 0 (zip c.args.rows.now c.args.codes.now) c.args.ends.now))) c.loop-end.auto.slots
     (splitted_all (length c.loop-end.slots) (zip c.args.rows.now c.args.codes.now) c.args.ends.now c.loop-end.groups.rows.items c.loop-end.groups.ends.items c.loop-end.slots c.loop-end.end-index c.loop-end.start c.loop-end-test.false c.loop-end.invariant)
+
+pub returns-clause-clear : goal.returns-clause-clear
+returns-clause-clear c = c.loop-end.invariant.clear ∙ ap (λ (n : ℕ). replicate n 0) c.loop-end.auto.slots

@@ -4,7 +4,7 @@ use Rattle.validator.specs.Kept.{AreKept}
 use Rattle.validator.specs.declared.shelf.Kept.{Kept}
 use Rattle.validator.proofs.KeptLists.{keeping_column, keeping_next}
 use Rattle.validator.proofs.shelf.keep_columns.Goals as goal
-use Rattle.validator.proofs.shelf.keep_columns.Goals.{then-weights-column+in_ok-rows, else-weights-column}
+use Rattle.validator.proofs.shelf.keep_columns.Goals.{then-weights-column+in_ok-weight, else-weights-column}
 
 pub push_column-requires-clause-column : goal.push_column-requires-clause-column
 push_column-requires-clause-column c = keeping_column c.args.snapshot.now c.loop-column.kept.items c.loop-column.left c.in-Some.column c.loop-column.invariant c.in-Some.ensures.value
@@ -15,7 +15,7 @@ loop-column-smaller c = subst (λ (n : ℕ). n < c.loop-column.left) (sym c.with
 pub loop-column-preserved : goal.loop-column-preserved
 loop-column-preserved c =
     elim c.if-weights-column.branch [
-      | then-weights-column+in_ok-rows w ↦ keeping_next c.args.snapshot.now c.loop-column.kept.items c.if-weights-column.kept.items c.loop-column.left c.in-Some.column c.without-left.result c.loop-column.invariant c.in-Some.ensures.value
+      | then-weights-column+in_ok-weight w ↦ keeping_next c.args.snapshot.now c.loop-column.kept.items c.if-weights-column.kept.items c.loop-column.left c.in-Some.column c.without-left.result c.loop-column.invariant c.in-Some.ensures.value
           (subst (λ (v : Vec Kept Global). AreKept c.args.snapshot.now v.items) (sym w.kept-is) w.push_column.ensures) c.without-left.ensures
       | else-weights-column w ↦ keeping_next c.args.snapshot.now c.loop-column.kept.items c.if-weights-column.kept.items c.loop-column.left c.in-Some.column c.without-left.result c.loop-column.invariant c.in-Some.ensures.value
           (subst (λ (v : Vec Kept Global). AreKept c.args.snapshot.now v.items) (sym w.kept-is) c.loop-column.invariant.are) c.without-left.ensures
