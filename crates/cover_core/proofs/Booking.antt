@@ -27,7 +27,8 @@ use Rattle.cover_steps.proofs.Found.{IsEntry, IsEntry-listed, Listed-entries}
 use Rattle.cover_steps.proofs.Fitting.{Fits-shown}
 use Rattle.cover_steps.proofs.Keeping.{cand-least, cand-marked}
 use Rattle.validator.specs.Verdicts.{IsBreach, IsFitting}
-use Rattle.cover_core.proofs.Measure.{work, work-less, marked-no_more, marked-fewer}
+use Rattle.cover_core.specs.Work.{work}
+use Rattle.cover_core.proofs.Measure.{work-less, marked-no_more, marked-fewer}
 
 -- the job of a candidate
 abbrev pub job_of : Core → Target → Cand → CodeTable → JobParts

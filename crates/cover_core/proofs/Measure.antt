@@ -19,24 +19,10 @@ use Rattle.cover_steps.specs.Core.{Core, targets, cands, is_unfinished, with_can
 use Rattle.negative_cover.specs.Witnesses.{sets_of}
 use Rattle.cover_steps.specs.Sound.{Sound}
 use Rattle.cover_steps.specs.Laws.{different}
+use Rattle.cover_core.specs.Work.{unfinished_of, unfinished, bound, work}
 use Rattle.cover_steps.proofs.Found.{targets_within, Listed-targets}
 use Rattle.cover_steps.proofs.Kept.{cands_of-with_list, target_cases}
 use Rattle.cover_steps.proofs.Counting.{witnesses_few}
-
--- how many candidates of a target, and of all, are unfinished
-abbrev pub unfinished_of : Core → Target → ℕ
-unfinished_of s t = count_by (is_unfinished (next s.rows)) (cands s t)
-
-unfoldable pub unfinished : Core → ℕ
-unfinished s = sum_by (unfinished_of s) (targets (width s.rows))
-
--- more than there can be
-unfoldable pub bound : ℕ → ℕ
-bound n = length (targets n) * length (all_sets n) + 1
-
--- what falls with each turn: the agree sets that are not booked yet count for more than all candidates
-unfoldable pub work : Core → ℕ
-work s = (length (different (agree_sets s.rows)) - length s.witnesses) * bound (width s.rows) + unfinished s
 
 sum_by-cons : {X : Type 0} (f : X → ℕ) (x : X) (xs : List X) → sum_by f (x ∷ xs) ≡ f x + sum_by f xs
 sum_by-cons f x xs = let e : sum_by f (x ∷ xs) ≡ 0 + f x + sum_by f xs = sum_by-append f (x ∷ []) xs in omega arith

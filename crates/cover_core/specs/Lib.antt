@@ -3,3 +3,4 @@ pub mod Kept
 pub mod Tests
 pub mod NewLists
 pub mod Replies
+pub mod Work

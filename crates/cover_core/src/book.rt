@@ -1,5 +1,6 @@
 // The book.
-ghost use Rattle.std.specs.Prelude.{◌≡◌, ◌≢◌, ◌<◌, ◌^◌, ◌↔◌, true, None, IfOk, IsTrue, OnErr};
+ghost use Rattle.std.specs.Prelude.{◌≡◌, ◌≢◌, ◌<◌, ◌^◌, ◌↔◌, true, None, IfOk, IsTrue, OnOk, OnErr};
+ghost use Rattle.std.specs.Bool.{OnTrue, OnFalse};
 ghost use Rattle.std.specs.List.{All};
 ghost use Rattle.col_set.specs.Target.{IsColumnTarget};
 ghost use Rattle.rel_base.specs.JobParts.{JobParts};
@@ -10,6 +11,7 @@ ghost use Rattle.rel_base.specs.Laws.{IsAsWide};
 ghost use Rattle.cover_steps.specs.Core.{opened_core, first_unfinished as first_unfinished_of};
 ghost use Rattle.cover_steps.specs.Steps as steps;
 ghost use Rattle.cover_steps.specs.Sound.{Sound, Fits};
+ghost use Rattle.cover_core.specs.Work.{Extends, work};
 ghost use Rattle.cover_core.specs.Replies.{reply_of_draw, reply_of_refutation, reply_of_mark, reply_of_release, reply_of_batch, reply_of_settle, IfJob, IfReady};
 
 use crate::answers::{Draw, Refutation, Release, Settling};
@@ -17,14 +19,16 @@ use crate::listed::listed;
 use crate::parts::{put_all, specialised};
 use crate::renewal::renewed_after;
 use crate::searching::{first_drawable, first_unfinished, refutes_some};
+use crate::verdict::{store_of, verdict_on};
 use candidate_cover::{CandidateCover, Marking};
 use negative_cover::{NegativeCover, Witness};
-use rel_base::{Batch, Job, Limits, Nulls, Relation, RowNo, Snapshot};
+use rel_base::{Batch, Covers, Job, Limits, Nulls, Relation, RowNo, Snapshot};
 use row_log::{Applying, RowLog};
 use std::alloc::{AllocError, Global};
 use std::marker::{Brand, Model};
 use std::sync::Arc;
 use std::sync::ledger::Blank;
+use validator::{Store, Verdict};
 
 /// The rows of a relation, the witnesses that refute dependencies, and for each target the candidates that they leave.
 ///
@@ -36,11 +40,12 @@ pub struct Book {
     witnesses: NegativeCover,
     candidates: CandidateCover,
     snapshot: Arc<Snapshot>,
+    store: Store,
     alloc: Global,
 }
 
 impl Model for Book {
-    ghost use Rattle.rel_base.specs.Shows.{Shows};
+    ghost use Rattle.std.specs.Prelude.{◌≡◌};
     ghost use Rattle.cover_steps.specs.Core.{Core};
     ghost use Rattle.cover_core.specs.Kept.{IsBook};
 
@@ -48,7 +53,7 @@ impl Model for Book {
 
     ghost view = { λ b. record { rows = b.rows; witnesses = b.witnesses; candidates = b.candidates } };
 
-    ghost invariant = { λ b. IsBook (record { rows = b.rows; witnesses = b.witnesses; candidates = b.candidates }) b.snapshot.value };
+    ghost invariant = { λ b. IsBook (record { rows = b.rows; witnesses = b.witnesses; candidates = b.candidates }) b.snapshot.value × (b.store ≡ b.snapshot.value) };
 }
 
 impl Book {
@@ -76,11 +81,13 @@ impl Book {
         // `names` is called for its clause that the rows are a row state.
         let _names = rows.names();
         let candidates = CandidateCover::new(alloc, snapshot.columns())?;
+        let store = store_of(alloc, &snapshot)?;
         Ok(Book {
             rows,
             witnesses: NegativeCover::new(alloc),
             candidates,
             snapshot,
+            store,
             alloc,
         })
     }
@@ -201,6 +208,7 @@ impl Book {
                 self.witnesses.withdraw(made.dead.as_slice());
                 put_all(&mut self.candidates, made.parts);
                 self.snapshot = made.snapshot;
+                self.store = made.store;
                 answer
             }
             Err(_) => {
@@ -231,6 +239,54 @@ impl Book {
         ensures { IsTrue result ↔ (first_unfinished_of self.now ≡ None) }
     {
         first_unfinished(&self.candidates, self.rows.next()).is_none()
+    }
+
+    /// Finds the covers of the rows: validates one candidate after another, the first unfinished one each time, and books each
+    /// verdict, until each candidate is known to hold in all rows.
+    ///
+    /// After want of memory the rows are the same, and the book is sound, with all witnesses that were booked so far.
+    pub fn finish(&mut self) -> Result<Covers, AllocError>
+        ensures covers { IfOk result (λ found. found ≡ covers self.new.rows) }
+        ensures settled { OnOk result (first_unfinished_of self.new ≡ None) }
+        ensures rows { self.new.rows ≡ self.old.rows }
+        ensures witnesses { Extends self.old.witnesses self.new.witnesses }
+        ensures fits { (job : JobParts) → Fits self.old.rows job → Fits self.new.rows job }
+        ensures sound { Sound self.new }
+    {
+        while self.advance()? {}
+        self.covers()
+    }
+
+    // Validates the first unfinished candidate and books the verdict, and tells whether there was one.
+    fn advance(&mut self) -> Result<bool, AllocError>
+        ensures less { IfOk result (λ more. OnTrue more (work self.new < work self.old)) }
+        ensures done { IfOk result (λ more. OnFalse more (first_unfinished_of self.new ≡ None)) }
+        ensures rows { self.new.rows ≡ self.old.rows }
+        ensures witnesses { Extends self.old.witnesses self.new.witnesses }
+        ensures sound { Sound self.new }
+    {
+        let next = self.rows.next();
+        let Some((target, cand)) = first_unfinished(&self.candidates, next) else {
+            return Ok(false);
+        };
+        let job = Job::of(target, cand.left, cand.upto, next, self.snapshot.clone()?);
+        match verdict_on::<Brand>(&mut self.store, self.alloc, &job, Blank::new(1))? {
+            Verdict::Holds { .. } => {
+                self.mark(&job);
+            }
+            Verdict::Broken { i, j } => {
+                self.refute(i, j)?;
+            }
+        }
+        Ok(true)
+    }
+
+    // The covers, where each candidate is known to hold in all rows.
+    fn covers(&self) -> Result<Covers, AllocError>
+        requires { first_unfinished_of self.now ≡ None }
+        ensures { IfOk result (λ found. found ≡ covers self.now.rows) }
+    {
+        listed(self.alloc, &self.candidates)
     }
 
     /// The rows.

@@ -9,6 +9,7 @@ mod listed;
 mod parts;
 mod renewal;
 mod searching;
+mod verdict;
 
 pub use answers::{Draw, Refutation, Release, Settling};
 pub use book::Book;

@@ -9,6 +9,7 @@ ghost use Rattle.cover_core.specs.NewLists.{AreLeast, AreParts};
 
 use crate::ended::ended;
 use crate::parts::{Parts, generalised};
+use crate::verdict::store_of;
 use candidate_cover::CandidateCover;
 use negative_cover::NegativeCover;
 use rel_base::{Batch, RowNo, Snapshot, Steps};
@@ -16,11 +17,13 @@ use row_log::RowLog;
 use std::alloc::{AllocError, Global};
 use std::sync::Arc;
 use std::sync::ledger::{Blank, Ledger};
+use validator::Store;
 
-// The new snapshot, the rows that end, and the new lists of candidates.
+// The new snapshot and its store, the rows that end, and the new lists of candidates.
 #[derive(Drop)]
 pub(crate) struct Renewal {
     pub(crate) snapshot: Arc<Snapshot>,
+    pub(crate) store: Store,
     pub(crate) dead: Vec<RowNo>,
     pub(crate) parts: Parts,
 }
@@ -40,6 +43,7 @@ pub(crate) fn renewed_after<L: Ledger>(
     requires least { AreLeast (width candidates.now) (sets_of witnesses.now) candidates.now }
     ensures snapshot { IfOk result (λ made. Shows made.snapshot.value rows.now) }
     ensures table { IfOk result (λ made. IsCodeTable made.snapshot.value) }
+    ensures store { IfOk result (λ made. made.store ≡ made.snapshot.value) }
     ensures dead { IfOk result (λ made. made.dead.items ≡ rows_of.ended batch.now) }
     ensures parts { IfOk result (λ made. AreParts (width candidates.now) (sets_of (live_of (rows_of.ended batch.now) witnesses.now)) candidates.now made.parts.rows made.parts.columns.items) }
 {
@@ -56,8 +60,10 @@ pub(crate) fn renewed_after<L: Ledger>(
         parted.gone.as_slice(),
         &mut steps,
     )?;
+    let store = store_of(alloc, &snapshot)?;
     Ok(Renewal {
         snapshot,
+        store,
         dead,
         parts,
     })

@@ -17,4 +17,4 @@ loop-column-preserved c =
 pub returns-clause-fds : goal.returns-clause-fds
 returns-clause-fds c =
     let e : c.loop-column.column ≡ length c.args.candidates.now.columns = omega (arith, c.columns-column-end.ensures.width) in
-    ?
+    c.of.ensures.fds ∙ c.loop-column.invariant ∙ ap (λ (n : ℕ). flat_map (λ a. fds_to a (lefts (cands_of c.args.candidates.now (Col a)))) (upto n)) e

@@ -1,43 +1,32 @@
-use Rattle.std.proofs.Common.{rules, ◌≡◌, ◌≢◌, ◌<◌, ◌^◌, ◌↔◌, true, None, IfOk, IsTrue, OnErr, ℕ, ◌+◌, ◌-◌, ◌*◌, ◌≤◌, length, ◌/◌, ◌%◌, Bool, false, nat_eq, nat_lt, List, [], ◌∷◌, ◌++◌, slice_index_or, slice_set, bit_and, bit_or, w8, w32, w64, Bor, MutBor}
-use Rattle.std.specs.List.{All}
-use Rattle.col_set.specs.Target.{IsColumnTarget}
-use Rattle.rel_base.specs.JobParts.{JobParts}
-use Rattle.rel_base.specs.RowState.{opened, width}
-use Rattle.rel_base.specs.Shows.{holds_in}
-use Rattle.rel_base.specs.Covers.{covers}
-use Rattle.rel_base.specs.Laws.{IsAsWide}
-use Rattle.cover_steps.specs.Core.{opened_core}
-use Rattle.cover_steps.specs.Core.{first_unfinished as first_unfinished_of}
+use Rattle.std.proofs.Common.{◌≡◌, ◌∙◌, sym, ap, subst, refl, List, ℕ}
+use Rattle.rel_base.specs.Batches.{after}
+use Rattle.negative_cover.specs.Witnesses.{live_of}
+use Rattle.row_log.specs.declared.applying.Applying.{Applying}
+use Rattle.cover_steps.specs.Core.{Core}
 use Rattle.cover_steps.specs.Steps as steps
-use Rattle.cover_steps.specs.Sound.{Sound, Fits}
-use Rattle.cover_core.specs.Replies.{reply_of_draw, reply_of_refutation, reply_of_mark, reply_of_release, reply_of_batch, reply_of_settle, IfJob, IfReady}
-use Rattle.rel_base.specs.declared.nulls.Nulls.TheVariants.{Equal}
+use Rattle.cover_core.specs.Replies.{reply_of_batch}
+use Rattle.cover_core.proofs.Whole.{ApplyAll, apply-all}
 use Rattle.cover_core.proofs.book.Book.apply.Goals as goal
+use Rattle.cover_core.proofs.book.Book.apply.Goals.{After-drop-made}
 
--- src/book.rt:191:13
-pub renewed_after-made-requires-clause-name : goal.renewed_after-made-requires-clause-name
-renewed_after-made-requires-clause-name c = ?
+all : (c : After-drop-made) → ApplyAll _ _ _ _ _ c.args.batch.now c.apply-answer.new.self c.in-Ok.made.snapshot.value (record { rows = c.apply-answer.new.self; witnesses = c.withdraw.new.self; candidates = c.put_all.new.candidates })
+all c = apply-all _ _ _ c.self.invariant.0 c.self.view_is c.args.batch.now c.apply-answer.new.self c.in-Ok.made.snapshot.value c.withdraw.new.self c.put_all.new.candidates c.requires c.in-Applied.ensures.after c.in-Ok.ensures.table c.in-Ok.ensures.snapshot
+    (c.withdraw.ensures ∙ ap (λ (dead : List ℕ). live_of dead c.self.inside.witnesses) (c.as_slice.ensures.value ∙ c.in-Ok.ensures.dead)) (c.put_all.ensures _ c.in-Ok.ensures.parts)
 
--- src/book.rt:191:13
-pub renewed_after-made-requires-clause-parts : goal.renewed_after-made-requires-clause-parts
-renewed_after-made-requires-clause-parts c = ?
-
--- src/book.rt:191:13
-pub renewed_after-made-requires-clause-some : goal.renewed_after-made-requires-clause-some
-renewed_after-made-requires-clause-some c = ?
-
--- src/book.rt:200:16
 pub invariant_of-self-in-Ok : goal.invariant_of-self-in-Ok
-invariant_of-self-in-Ok c = ?
+invariant_of-self-in-Ok c = ((all c).book, c.in-Ok.ensures.store)
 
--- src/book.rt:181:5
 pub returns-in-Ok-clause-step : goal.returns-in-Ok-clause-step
-returns-in-Ok-clause-step c = ?
+returns-in-Ok-clause-step c = subst (λ (a : Applying). steps.Applying c.args.self.now c.args.batch.now (reply_of_batch a) (record { rows = c.apply-answer.new.self; witnesses = c.withdraw.new.self; candidates = c.put_all.new.candidates })) (sym c.in-Applied.is) (record {
+  rows = c.apply-answer.new.self;
+  after = ap (λ (s : Core). after s.rows c.args.batch.now) (sym c.self.view_is) ∙ c.in-Applied.ensures.after;
+  inserts = c.in-Applied.ensures.inserted;
+  deletes = c.in-Applied.ensures.deleted;
+  state = (all c).state;
+})
 
--- src/book.rt:181:5
 pub returns-in-Ok-clause-fits : goal.returns-in-Ok-clause-fits
-returns-in-Ok-clause-fits c = ?
+returns-in-Ok-clause-fits c = (all c).fits
 
--- src/book.rt:181:5
 pub returns-in-Ok-clause-sound : goal.returns-in-Ok-clause-sound
-returns-in-Ok-clause-sound c = ?
+returns-in-Ok-clause-sound c = (all c).book.sound

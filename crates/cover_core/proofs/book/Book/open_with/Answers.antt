@@ -1,19 +1,15 @@
-use Rattle.std.proofs.Common.{rules, ◌≡◌, ◌≢◌, ◌<◌, ◌^◌, ◌↔◌, true, None, IfOk, IsTrue, OnErr, ℕ, ◌+◌, ◌-◌, ◌*◌, ◌≤◌, length, ◌/◌, ◌%◌, Bool, false, nat_eq, nat_lt, List, [], ◌∷◌, ◌++◌, slice_index_or, slice_set, bit_and, bit_or, w8, w32, w64, Bor, MutBor}
-use Rattle.std.specs.List.{All}
-use Rattle.col_set.specs.Target.{IsColumnTarget}
-use Rattle.rel_base.specs.JobParts.{JobParts}
-use Rattle.rel_base.specs.RowState.{opened, width}
-use Rattle.rel_base.specs.Shows.{holds_in}
-use Rattle.rel_base.specs.Covers.{covers}
-use Rattle.rel_base.specs.Laws.{IsAsWide}
-use Rattle.cover_steps.specs.Core.{opened_core}
-use Rattle.cover_steps.specs.Core.{first_unfinished as first_unfinished_of}
-use Rattle.cover_steps.specs.Steps as steps
-use Rattle.cover_steps.specs.Sound.{Sound, Fits}
-use Rattle.cover_core.specs.Replies.{reply_of_draw, reply_of_refutation, reply_of_mark, reply_of_release, reply_of_batch, reply_of_settle, IfJob, IfReady}
-use Rattle.rel_base.specs.declared.nulls.Nulls.TheVariants.{Equal}
+use Rattle.std.proofs.Common.{◌≡◌, ◌∙◌, ap, sym, subst, length, List}
+use Rattle.rel_base.specs.CodeTable.{CodeTable, IsCodeTable}
+use Rattle.negative_cover.specs.declared.negative_cover.Witness.{Witness}
+use Rattle.cover_steps.specs.Core.{one_each}
+use Rattle.cover_core.specs.Kept.{IsBook}
+use Rattle.cover_core.proofs.Calls.{IsBook-opened}
 use Rattle.cover_core.proofs.book.Book.open_with.Goals as goal
 
--- src/book.rt:79:9
 pub invariant_of-result : goal.invariant_of-result
-invariant_of-result c = ?
+invariant_of-result c = (
+  subst (λ (ws : List Witness). IsBook (record { rows = c.in_ok-rows.rows; witnesses = ws; candidates = c.in_ok-candidates.candidates }) c.in_ok-snapshot.snapshot.value) (sym c.new-2.ensures)
+    (IsBook-opened c.in_ok-rows.rows c.in_ok-candidates.candidates c.in_ok-snapshot.snapshot.value c.names-names.ensures.state (subst IsCodeTable c.deref.ensures c.columns.ensures.bounds) c.in_ok-snapshot.ensures
+    (c.in_ok-candidates.ensures ∙ ap one_each (c.columns.ensures.value ∙ ap (λ (t : CodeTable). length t.codes) c.deref.ensures))),
+  c.in_ok-store.ensures,
+)

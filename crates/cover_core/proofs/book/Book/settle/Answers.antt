@@ -1,27 +1,23 @@
-use Rattle.std.proofs.Common.{rules, ◌≡◌, ◌≢◌, ◌<◌, ◌^◌, ◌↔◌, true, None, IfOk, IsTrue, OnErr, ℕ, ◌+◌, ◌-◌, ◌*◌, ◌≤◌, length, ◌/◌, ◌%◌, Bool, false, nat_eq, nat_lt, List, [], ◌∷◌, ◌++◌, slice_index_or, slice_set, bit_and, bit_or, w8, w32, w64, Bor, MutBor}
-use Rattle.std.specs.List.{All}
-use Rattle.col_set.specs.Target.{IsColumnTarget}
-use Rattle.rel_base.specs.JobParts.{JobParts}
-use Rattle.rel_base.specs.RowState.{opened, width}
-use Rattle.rel_base.specs.Shows.{holds_in}
+use Rattle.std.proofs.Common.{◌≡◌, ◌∙◌, sym, ap, refl, None}
 use Rattle.rel_base.specs.Covers.{covers}
-use Rattle.rel_base.specs.Laws.{IsAsWide}
-use Rattle.cover_steps.specs.Core.{opened_core}
-use Rattle.cover_steps.specs.Core.{first_unfinished as first_unfinished_of}
-use Rattle.cover_steps.specs.Steps as steps
-use Rattle.cover_steps.specs.Sound.{Sound, Fits}
-use Rattle.cover_core.specs.Replies.{reply_of_draw, reply_of_refutation, reply_of_mark, reply_of_release, reply_of_batch, reply_of_settle, IfJob, IfReady}
-use Rattle.rel_base.specs.declared.nulls.Nulls.TheVariants.{Equal}
+use Rattle.cover_steps.specs.Core.{Core, listed_covers, first_unfinished}
+use Rattle.cover_core.proofs.Calls.{listed-is, listed-exact}
+use Rattle.cover_core.proofs.Whole.{unfinished-found}
 use Rattle.cover_core.proofs.book.Book.settle.Goals as goal
+use Rattle.cover_core.proofs.book.Book.settle.Goals.{In_ok-listed-in-None}
 
--- src/book.rt:215:5
+none : (c : In_ok-listed-in-None) → first_unfinished c.args.self.now ≡ None
+none c = unfinished-found _ _ _ c.self.invariant.0 c.self.view_is c.next.result c.first_unfinished.result _ c.next.ensures.value c.first_unfinished.ensures c.in-None.is
+
+is : (c : In_ok-listed-in-None) → c.in_ok-listed-in-None.field-0 ≡ listed_covers (record { rows = c.self.inside.rows; witnesses = c.self.inside.witnesses; candidates = c.self.inside.candidates })
+is c = listed-is _ _ c.self.invariant.0 c.in_ok-listed-in-None.field-0 c.in_ok-listed-in-None.ensures.keys c.in_ok-listed-in-None.ensures.fds
+
 pub returns-in-Some-clause-step : goal.returns-in-Some-clause-step
-returns-in-Some-clause-step c = ?
+returns-in-Some-clause-step c = ((c.in-Some.cand, unfinished-found _ _ _ c.self.invariant.0 c.self.view_is c.next.result c.first_unfinished.result _ c.next.ensures.value c.first_unfinished.ensures c.in-Some.is, refl, refl), refl)
 
--- src/book.rt:215:5
 pub returns-in_ok-listed-in-None-clause-step : goal.returns-in_ok-listed-in-None-clause-step
-returns-in_ok-listed-in-None-clause-step c = ?
+returns-in_ok-listed-in-None-clause-step c = (none c, is c ∙ ap listed_covers c.self.view_is, refl)
 
--- src/book.rt:215:5
 pub returns-in_ok-listed-in-None-clause-exact : goal.returns-in_ok-listed-in-None-clause-exact
-returns-in_ok-listed-in-None-clause-exact c = ?
+returns-in_ok-listed-in-None-clause-exact c =
+    listed-exact _ _ c.self.invariant.0 c.in_ok-listed-in-None.field-0 (ap first_unfinished c.self.view_is ∙ none c) (is c) ∙ ap (λ (s : Core). covers s.rows) c.self.view_is

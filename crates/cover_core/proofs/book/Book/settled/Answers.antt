@@ -1,4 +1,5 @@
-use Rattle.std.proofs.Common.{rules, ◌≡◌, ◌≢◌, ◌<◌, ◌^◌, ◌↔◌, true, None, IfOk, IsTrue, OnErr, ℕ, ◌+◌, ◌-◌, ◌*◌, ◌≤◌, length, ◌/◌, ◌%◌, Bool, false, nat_eq, nat_lt, List, [], ◌∷◌, ◌++◌, slice_index_or, slice_set, bit_and, bit_or, w8, w32, w64, Bor, MutBor}
+use Rattle.std.proofs.Common.{rules, ◌≡◌, ◌≢◌, ◌<◌, ◌^◌, ◌↔◌, true, None, IfOk, IsTrue, OnOk, OnErr, ℕ, ◌+◌, ◌-◌, ◌*◌, ◌≤◌, length, ◌/◌, ◌%◌, Bool, false, nat_eq, nat_lt, List, [], ◌∷◌, ◌++◌, slice_index_or, slice_set, bit_and, bit_or, w8, w32, w64, Bor, MutBor}
+use Rattle.std.specs.Bool.{OnTrue, OnFalse}
 use Rattle.std.specs.List.{All}
 use Rattle.col_set.specs.Target.{IsColumnTarget}
 use Rattle.rel_base.specs.JobParts.{JobParts}
@@ -10,10 +11,11 @@ use Rattle.cover_steps.specs.Core.{opened_core}
 use Rattle.cover_steps.specs.Core.{first_unfinished as first_unfinished_of}
 use Rattle.cover_steps.specs.Steps as steps
 use Rattle.cover_steps.specs.Sound.{Sound, Fits}
+use Rattle.cover_core.specs.Work.{Extends, work}
 use Rattle.cover_core.specs.Replies.{reply_of_draw, reply_of_refutation, reply_of_mark, reply_of_release, reply_of_batch, reply_of_settle, IfJob, IfReady}
 use Rattle.rel_base.specs.declared.nulls.Nulls.TheVariants.{Equal}
 use Rattle.cover_core.proofs.book.Book.settled.Goals as goal
 
--- src/book.rt:230:5
+-- src/book.rt:238:5
 pub returns : goal.returns
 returns c = ?

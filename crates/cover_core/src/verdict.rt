@@ -1,0 +1,38 @@
+// Verdicts on the snapshot of a book.
+ghost use Rattle.std.specs.Prelude.{◌≡◌, ◌<◌, IfOk};
+ghost use Rattle.validator.specs.Verdicts.{IsFitting, IsVerdict};
+
+use rel_base::{Job, Snapshot, Steps};
+use std::alloc::{AllocError, Global};
+use std::sync::Arc;
+use std::sync::ledger::{Blank, Ledger};
+use validator::{Store, Verdict};
+
+// How many row numbers a store keeps, 4 bytes each.
+const STORE_ROOM: usize = 1 << 25;
+
+// An empty store for a snapshot.
+pub(crate) fn store_of(alloc: Global, snapshot: &Arc<Snapshot>) -> Result<Store, AllocError>
+    ensures { IfOk result (λ store. store ≡ snapshot.now.value) }
+{
+    Ok(Store::of(alloc, snapshot.clone()?, STORE_ROOM))
+}
+
+// The verdict on a job, whose steps are not counted.
+pub(crate) fn verdict_on<L: Ledger>(
+    store: &mut Store,
+    alloc: Global,
+    job: &Job,
+    blank: Blank,
+) -> Result<Verdict, AllocError>
+    requires name { blank.name ≡ L.name }
+    requires parts { blank.parts ≡ L.parts }
+    requires some { 0 < L.parts }
+    requires same { store.old ≡ job.now.snapshot }
+    requires fitting { IsFitting job.now }
+    ensures verdict { IfOk result (IsVerdict job.now) }
+    ensures store { store.new ≡ store.old }
+{
+    let mut steps = Steps::<L>::none(blank);
+    store.validate(alloc, job, &mut steps)
+}
