@@ -1,7 +1,6 @@
 // The cells of one column, as codes.
 ghost use Rattle.std.specs.Prelude.{◌≡◌, ◌≢◌, ◌<◌, ◌≤◌, ◌-◌, ◌∷◌, [], ◌++◌, ℕ, true, false, OnOk, OnErr, IfOk, length, map, take, slice_index, slice_index_or, vec_len, vec_capacity};
 ghost use Rattle.std.specs.List.{All};
-ghost use Rattle.rel_base.specs.Agreement.{Agrees};
 ghost use Rattle.rel_base.specs.Cells.{cell};
 ghost use Rattle.row_log.specs.Column.{AreCodes};
 ghost use Rattle.row_log.specs.Distinct.{AreFlaggedCells, AreUsed};

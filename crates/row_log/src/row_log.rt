@@ -1,10 +1,10 @@
 // The log.
-ghost use Rattle.std.specs.Prelude.{◌≡◌, ◌≢◌, ◌<◌, ◌≤◌, ◌-◌, ◌∷◌, [], ◌++◌, ℕ, true, false, Ok, Err, IfOk, OnOk, OnErr, IsTrue, length, slice_index_or, cond};
+ghost use Rattle.std.specs.Prelude.{◌≡◌, ◌≢◌, ◌<◌, true, false, IfOk, OnOk, OnErr, length};
 ghost use Rattle.std.specs.List.{All};
 ghost use Rattle.rel_base.specs.Cells.{cell};
 ghost use Rattle.rel_base.specs.RowState.{RowState, IsRowState, opened, width, next, row};
 ghost use Rattle.rel_base.specs.Validity.{agree_of};
-ghost use Rattle.rel_base.specs.Batches.{is_live, is_full, inserted, deleted, applied, after};
+ghost use Rattle.rel_base.specs.Batches.{is_live, is_full, inserted, deleted, applied};
 ghost use Rattle.rel_base.specs.Laws.{IsAsWide};
 ghost use Rattle.rel_base.specs.Shows.{Shows};
 ghost use Rattle.rel_base.specs.declared.batch.Op.TheVariants.{Insert, Delete, Update};

@@ -1,11 +1,10 @@
 // The columns and the flags of the live rows.
-ghost use Rattle.std.specs.Prelude.{◌≡◌, ◌≢◌, ◌<◌, ◌≤◌, ◌+◌, ◌-◌, ◌∷◌, [], ◌++◌, ◌↔◌, ℕ, true, OnOk, OnErr, IfOk, length, map, take, slice_index_or, vec_len, vec_capacity};
+ghost use Rattle.std.specs.Prelude.{◌≡◌, ◌≢◌, ◌<◌, ◌≤◌, ◌∷◌, [], ◌++◌, ℕ, true, OnOk, OnErr, IfOk, length, map, take, slice_index_or, vec_len, vec_capacity};
 ghost use Rattle.std.specs.List.{All};
-ghost use Rattle.col_set.specs.ColSet.{has};
 ghost use Rattle.rel_base.specs.Agreement.{agree};
 ghost use Rattle.rel_base.specs.Cells.{cell};
 ghost use Rattle.row_log.specs.Column.{AreCodes};
-ghost use Rattle.row_log.specs.Table.{row_at, IsColumnOf, HasRow, column_at};
+ghost use Rattle.row_log.specs.Table.{row_at, HasRow, column_at};
 
 use crate::column::Column;
 use agree_sets::agree_codes;

@@ -1,8 +1,8 @@
 // Batches on small relations, under both readings of NULL, and after each allocation that fails.
-ghost use Rattle.std.specs.Prelude.{◌≡◌, ◌≤◌, ◌<◌, ℕ, true, length};
+ghost use Rattle.std.specs.Prelude.{◌≡◌, true, length};
 ghost use Rattle.std.specs.List.{All};
 ghost use Rattle.rel_base.specs.Relation.{IsContent};
-ghost use Rattle.rel_base.specs.RowState.{width, next, IsRowState};
+ghost use Rattle.rel_base.specs.RowState.{width};
 ghost use Rattle.rel_base.specs.Laws.{IsAsWide};
 
 use crate::column::Column;
