@@ -1,14 +1,9 @@
 -- A step of a pass, list by list.
-use Rattle.std.proofs.Common.{◌≡◌, ◌∙◌, ◌↔◌, ◌&&◌, ◌||◌, ◌+◌, ◌<◌, ◌≤◌, ◌⊎◌, ℕ, arith, Bool, true, false, cond, eqb, inl, inr, refl, sym, ap, subst, List, [], length, drop, set, below_more}
-use Rattle.std.proofs.lemmas.Bool.{cases_eq, eq-eqb, false≢true, ne_eqb}
+use Rattle.std.proofs.Common.{◌≡◌, ◌∙◌, ◌&&◌, ◌+◌, ◌<◌, ◌≤◌, ◌⊎◌, ℕ, arith, Bool, true, false, cond, inl, inr, refl, sym, ap, subst, List, [], length, drop, set, below_more}
+use Rattle.std.proofs.lemmas.Bool.{cases_eq}
 use Rattle.std.proofs.lemmas.List.{get_or-set_other, get_or-set_same}
 use Rattle.rel_base.specs.Cells.{Cell}
-use Rattle.inclusion_merge.specs.Sharing.{BeginsWith, list_at}
-
--- the first so many lists are marked where they begin with this value, and no others are
-pub record Marked (shared : ℕ → Bool) (value : Cell) (lists : List (List Cell)) (count : ℕ) : Type 0 where
-  pub done : (k : ℕ) → k < count → (shared k ≡ true) ↔ BeginsWith value (list_at lists k)
-  pub ahead : (k : ℕ) → count ≤ k → shared k ≡ false
+use Rattle.inclusion_merge.specs.Sharing.{list_at}
 
 -- of the marked ones among the first so many lists, the first value was taken off
 pub record Moved (shared : ℕ → Bool) (initial now : List (List Cell)) (count : ℕ) : Type 0 where
@@ -19,33 +14,6 @@ pub record Moved (shared : ℕ → Bool) (initial now : List (List Cell)) (count
 pub record Narrowed (shared : ℕ → Bool) (columns : ℕ) (initial now : ℕ → ℕ → Bool) (count : ℕ) : Type 0 where
   pub done : (c d : ℕ) → c < count → d < columns → now c d ≡ (initial c d && cond (shared c) (shared d) true)
   pub ahead : (c d : ℕ) → count ≤ c → c < columns → d < columns → now c d ≡ initial c d
-
-or-cases : (a : Bool) (k i : ℕ) → (k ≡ i → ⊥) → (a || eqb k i) ≡ a
-or-cases a k i other = ap (λ b. a || b) (ne_eqb k i other) ∙ or-false a
-  where
-    or-false : (b : Bool) → (b || false) ≡ b
-    or-false true = refl
-    or-false false = refl
-
-or-true : (b : Bool) → (b || true) ≡ true
-or-true true = refl
-or-true false = refl
-
-module _ (shared : ℕ → Bool) (value : Cell) (lists : List (List Cell)) (i : ℕ) (marked : Marked shared value lists i) where
-  pub Marked-more : (shared' : ℕ → Bool) → BeginsWith value (list_at lists i) → ((k : ℕ) → shared' k ≡ (shared k || eqb k i)) → Marked shared' value lists (i + 1)
-  Marked-more shared' begins is = record {
-    done = below_more (λ k. (shared' k ≡ true) ↔ BeginsWith value (list_at lists k)) i
-        (λ k l. let same = is k ∙ or-cases (shared k) k i (omega arith) in ((λ e. (marked.done k l).0 (sym same ∙ e)), (λ h. same ∙ (marked.done k l).1 h)))
-        ((λ e. begins), (λ h. is i ∙ ap (λ b. shared i || b) (eq-eqb i i refl) ∙ or-true (shared i)));
-    ahead = λ k l. is k ∙ or-cases (shared k) k i (omega arith) ∙ marked.ahead k (omega arith);
-  }
-
-  pub Marked-same : (BeginsWith value (list_at lists i) → ⊥) → Marked shared value lists (i + 1)
-  Marked-same other = record {
-    done = below_more (λ k. (shared k ≡ true) ↔ BeginsWith value (list_at lists k)) i marked.done
-        ((λ e. absurd (false≢true (sym (marked.ahead i (omega arith)) ∙ e))), (λ h. absurd (other h)));
-    ahead = λ k l. marked.ahead k (omega arith);
-  }
 
 and-true : (b : Bool) → b ≡ (b && true)
 and-true true = refl

@@ -2,6 +2,7 @@ pub mod Places
 pub mod Wide
 pub mod Cells
 pub mod Merging
+pub mod Meeting
 pub mod Advancing
 pub mod Pairing
 pub mod Settling

@@ -1,5 +1,5 @@
 -- What a pass over lists of values keeps, from their least values upwards.
-use Rattle.std.proofs.Common.{◌≡◌, ◌∙◌, ◌↔◌, ◌⊎◌, inl, inr, ◌<◌, ◌≤◌, ◌+◌, ◌&&◌, ℕ, zero, suc, arith, Bool, true, false, cond, refl, sym, ap, subst, List, [], ◌∷◌, ◌++◌, length, drop, append_assoc, append-nil, below_more, Option, Some, None, MatchOption, Ordering, Less, Equal, Greater}
+use Rattle.std.proofs.Common.{◌≡◌, ◌∙◌, ◌↔◌, ◌⊎◌, inl, inr, ◌<◌, ◌≤◌, ◌+◌, ◌&&◌, ℕ, zero, suc, arith, Bool, true, false, cond, refl, sym, ap, subst, List, [], ◌∷◌, ◌++◌, length, drop, append_assoc, append-nil, below_more, Some, None, Ordering, Less, Equal, Greater}
 use Rattle.std.specs.Borrow.{Bor}
 use Rattle.std.specs.Ordering.{is_gt, is_lt, ordering_reverse}
 use Rattle.std.proofs.lemmas.Bool.{false≢true, and_parts, and_from}
@@ -8,7 +8,7 @@ use Rattle.col_set.specs.Lists.{Listed, Listed-append_cases, Listed-append_left,
 use Rattle.rel_base.specs.Cells.{Cell}
 use Rattle.inclusion_merge.specs.Values.{value_cmp}
 use Rattle.inclusion_merge.specs.Order.{value_total}
-use Rattle.inclusion_merge.specs.Sharing.{AllEnded, AllRise, BeginsWith, IsFirstOf, IsLeastFirst, IsNotAbove, IsPart, TellsParts, lesser_of, list_at}
+use Rattle.inclusion_merge.specs.Sharing.{AllEnded, AllRise, BeginsWith, IsFirstOf, IsLeastFirst, IsNotAbove, IsPart, TellsParts, list_at}
 
 -- ---- the order
 not_gt_itself : (x : Cell) → is_gt (value_cmp x x) ≡ false
@@ -19,42 +19,31 @@ gt_turned Less = refl
 gt_turned Equal = refl
 gt_turned Greater = refl
 
-not_gt : (x y : Cell) → is_lt (value_cmp y x) ≡ false → is_gt (value_cmp x y) ≡ false
-not_gt x y e = ap is_gt (value_total.antisymm x y) ∙ gt_turned (value_cmp y x) ∙ e
-
-gt-lt : (x y : Cell) → value_cmp y x ≡ Less → is_gt (value_cmp x y) ≡ true
+pub gt-lt : (x y : Cell) → value_cmp y x ≡ Less → is_gt (value_cmp x y) ≡ true
 gt-lt x y e = ap is_gt (value_total.antisymm x y) ∙ gt_turned (value_cmp y x) ∙ ap is_lt e
 
-lt-not_gt : (x y : Cell) → is_lt (value_cmp y x) ≡ true → is_gt (value_cmp y x) ≡ false
-lt-not_gt x y e = go (value_cmp y x) e
-  where
-    go : (o : Ordering) → is_lt o ≡ true → is_gt o ≡ false
-    go Less h = refl
-    go Equal h = refl
-    go Greater h = absurd (false≢true h)
-
 -- ---- the least of the first values
-not_above_less : (x y : Cell) (l : List Cell) → is_gt (value_cmp y x) ≡ false → IsNotAbove x l → IsNotAbove y l
+pub not_above_less : (x y : Cell) (l : List Cell) → is_gt (value_cmp y x) ≡ false → IsNotAbove x l → IsNotAbove y l
 not_above_less x y [] e h = tt
 not_above_less x y (z ∷ zs) e h = upto value_total y x z e h
 
-begins_not_above : (x : Cell) (l : List Cell) → BeginsWith x l → IsNotAbove x l
+pub begins_not_above : (x : Cell) (l : List Cell) → BeginsWith x l → IsNotAbove x l
 begins_not_above x [] h = absurd h
 begins_not_above x (z ∷ zs) e = subst (λ (w : Cell). is_gt (value_cmp x w) ≡ false) (sym e) (not_gt_itself x)
 
-ended_not_above : (x : Cell) (l : List Cell) → l ≡ [] → IsNotAbove x l
+pub ended_not_above : (x : Cell) (l : List Cell) → l ≡ [] → IsNotAbove x l
 ended_not_above x l e = subst (λ (w : List Cell). IsNotAbove x w) (sym e) tt
 
-first_ended : (l : List Cell) → IsFirstOf None l → l ≡ []
+pub first_ended : (l : List Cell) → IsFirstOf None l → l ≡ []
 first_ended [] h = refl
 first_ended (z ∷ zs) h = absurd h
 
-first_begins : (x : Bor Cell) (l : List Cell) → IsFirstOf (Some x) l → BeginsWith x.now l
+pub first_begins : (x : Bor Cell) (l : List Cell) → IsFirstOf (Some x) l → BeginsWith x.now l
 first_begins x [] h = h
 first_begins x (z ∷ zs) h = h
 
 module _ (lists : List (List Cell)) (i : ℕ) where
-  first_least : (x : Bor Cell) → ((other : ℕ) → other < i → IsNotAbove x.now (list_at lists other)) → BeginsWith x.now (list_at lists i) → IsLeastFirst x.now lists (i + 1)
+  pub first_least : (x : Bor Cell) → ((other : ℕ) → other < i → IsNotAbove x.now (list_at lists other)) → BeginsWith x.now (list_at lists i) → IsLeastFirst x.now lists (i + 1)
   first_least x below begins = record {
     place = i;
     within = omega arith;
@@ -62,7 +51,7 @@ module _ (lists : List (List Cell)) (i : ℕ) where
     least = below_more (λ other. IsNotAbove x.now (list_at lists other)) i below (begins_not_above x.now (list_at lists i) begins);
   }
 
-  still_least : (x : Bor Cell) → IsLeastFirst x.now lists i → IsNotAbove x.now (list_at lists i) → IsLeastFirst x.now lists (i + 1)
+  pub still_least : (x : Bor Cell) → IsLeastFirst x.now lists i → IsNotAbove x.now (list_at lists i) → IsLeastFirst x.now lists (i + 1)
   still_least x h here =
       let within = h.within in
       record {
@@ -71,20 +60,6 @@ module _ (lists : List (List Cell)) (i : ℕ) where
         begins = h.begins;
         least = below_more (λ other. IsNotAbove x.now (list_at lists other)) i h.least here;
       }
-
-  pub least_more : (o f : Option (Bor Cell)) → MatchOption o (AllEnded lists i) (λ v. IsLeastFirst v.now lists i) → IsFirstOf f (list_at lists i)
-      → MatchOption (lesser_of o f) (AllEnded lists (i + 1)) (λ v. IsLeastFirst v.now lists (i + 1))
-  least_more None None h g = below_more (λ other. list_at lists other ≡ []) i h (first_ended (list_at lists i) g)
-  least_more None (Some y) h g = first_least y (λ other l. ended_not_above y.now (list_at lists other) (h other l)) (first_begins y (list_at lists i) g)
-  least_more (Some x) None h g = still_least x h (ended_not_above x.now (list_at lists i) (first_ended (list_at lists i) g))
-  least_more (Some x) (Some y) h g = go (is_lt (value_cmp y.now x.now)) refl
-    where
-      begins : BeginsWith y.now (list_at lists i)
-      begins = first_begins y (list_at lists i) g
-
-      go : (b : Bool) → is_lt (value_cmp y.now x.now) ≡ b → MatchOption (cond b (Some y) (Some x)) (AllEnded lists (i + 1)) (λ v. IsLeastFirst v.now lists (i + 1))
-      go true e = first_least y (λ other l. not_above_less x.now y.now (list_at lists other) (lt-not_gt x.now y.now e) (h.least other l)) begins
-      go false e = still_least x h (not_above_less y.now x.now (list_at lists i) (not_gt x.now y.now e) (begins_not_above y.now (list_at lists i) begins))
 
 -- ---- the lists that begin with the least value
 Rises-append_right : (xs ys : List Cell) → Rises value_cmp (xs ++ ys) → Rises value_cmp ys

@@ -1,8 +1,8 @@
 -- Which lists of values are parts of which.
-use Rattle.std.specs.Prelude.{◌≡◌, ◌↔◌, ◌<◌, ℕ, Bool, true, false, List, [], ◌∷◌, length, map, slice_index_or, ⊤, Vec, Option, None, Some, if◌then◌else◌}
+use Rattle.std.specs.Prelude.{◌≡◌, ◌↔◌, ◌<◌, ◌≤◌, ℕ, Bool, true, false, List, [], ◌∷◌, length, map, slice_index_or, ⊤, Vec, Option, None, Some}
 use Rattle.std.specs.declared.alloc.Global.{Global}
 use Rattle.std.specs.Borrow.{Bor}
-use Rattle.std.specs.Ordering.{is_gt, is_lt}
+use Rattle.std.specs.Ordering.{is_gt}
 use Rattle.col_set.specs.Lists.{Listed, Rises}
 use Rattle.rel_base.specs.Cells.{Cell}
 use Rattle.inclusion_merge.specs.Values.{value_cmp}
@@ -52,15 +52,25 @@ pub record IsLeastFirst (value : Cell) (lists : List (List Cell)) (count : ℕ) 
 abbrev pub AllEnded : List (List Cell) → ℕ → Type 0
 AllEnded lists count = (place : ℕ) → place < count → list_at lists place ≡ []
 
--- the lesser of two values behind references, where there are two
-abbrev pub lesser_of : Option (Bor Cell) → Option (Bor Cell) → Option (Bor Cell)
-lesser_of None b = b
-lesser_of (Some x) None = Some x
-lesser_of (Some x) (Some y) = if is_lt (value_cmp y.now x.now) then Some y else Some x
-
 -- what is behind a reference is the first value of a list
 abbrev pub IsFirstOf : Option (Bor Cell) → List Cell → Type 0
 IsFirstOf None [] = ⊤
 IsFirstOf None (first ∷ rest) = ⊥
 IsFirstOf (Some x) [] = ⊥
 IsFirstOf (Some x) (first ∷ rest) = first ≡ x.now
+
+-- the first so many lists are marked where they begin with this value, and no others are
+pub record Marked (shared : ℕ → Bool) (value : Cell) (lists : List (List Cell)) (count : ℕ) : Type 0 where
+  pub done : (k : ℕ) → k < count → (shared k ≡ true) ↔ BeginsWith value (list_at lists k)
+  pub ahead : (k : ℕ) → count ≤ k → shared k ≡ false
+
+-- of the first so many lists, those are marked that begin with the least of their first values
+pub record SharesLeast (shared : ℕ → Bool) (lists : List (List Cell)) (count : ℕ) : Type 0 where
+  pub value : Cell
+  pub first : IsLeastFirst value lists count
+  pub marked : Marked shared value lists count
+
+-- the same with the least value at hand, or nothing is left of these lists and none is marked
+abbrev pub LeastSoFar : Option (Bor Cell) → (ℕ → Bool) → List (List Cell) → ℕ → Type 0
+LeastSoFar None shared lists count = AllEnded lists count × ((k : ℕ) → shared k ≡ false)
+LeastSoFar (Some v) shared lists count = IsLeastFirst v.now lists count × Marked shared v.now lists count

@@ -1,15 +1,16 @@
 // Lists of values merged, all at once.
-ghost use Rattle.std.specs.Prelude.{◌≡◌, ◌↔◌, ◌<◌, ◌≤◌, ◌*◌, ◌&&◌, if◌then◌else◌, ℕ, Bool, true, false, length, map, slice_index_or, IfOk, IsTrue, MatchOption, vec_len};
+ghost use Rattle.std.specs.Prelude.{◌≡◌, ◌<◌, ◌≤◌, ◌+◌, ◌*◌, ◌&&◌, if◌then◌else◌, ℕ, Bool, true, false, length, map, slice_index_or, IfOk, MatchBool, vec_len};
 ghost use Rattle.std.specs.Prelude.{drop};
 ghost use Rattle.inclusion_merge.specs.Candidates.{IsSameOrSettled, may};
 ghost use Rattle.inclusion_merge.specs.WideSet.{has_wide};
-ghost use Rattle.inclusion_merge.specs.Sharing.{AllRise, BeginsWith, IsFirstOf, IsLeastFirst, AllEnded, lesser_of, TellsParts, list_at, lists_of, values_behind};
+ghost use Rattle.inclusion_merge.specs.Sharing.{AllRise, AllEnded, IsFirstOf, LeastSoFar, SharesLeast, TellsParts, list_at, lists_of, values_behind};
 
 use crate::candidates::Candidates;
 use crate::value::Value;
 use crate::wide_set::{clear_wide, has_wide, insert_wide, parts_of};
 use rel_base::ColSet;
 use std::alloc::{AllocError, Global};
+use std::cmp::Ordering;
 
 /// Which lists of values are parts of which, by one pass over all of them from their least values upwards. At each value, the lists that have it
 /// may be parts of these lists alone.
@@ -35,8 +36,7 @@ fn pass(rests: &mut [&[Value]], shared: &mut [ColSet], kept: &mut Candidates)
     ensures tells { TellsParts (lists_of rests.old) (may kept.new) }
 {
     let mut turns = Turns { left: 1, next: 1 };
-    while let Some(least) = least_of(rests) {
-        mark(rests, least, shared);
+    while mark_least(rests, shared) {
         advance(rests, shared, kept);
         settle(rests, kept, &mut turns);
     }
@@ -98,15 +98,17 @@ fn slices_of<'a, 'b>(
     Ok(slices)
 }
 
-// The least of the first values of these lists, where some list has one.
-fn least_of<'a, 'b>(rests: &[&'a [Value<'b>]]) -> Option<&'a Value<'b>>
-    ensures { MatchOption result (AllEnded (lists_of rests.now) (length rests.now)) (λ least. IsLeastFirst least.now (lists_of rests.now) (length rests.now)) }
+// Finds the least of the first values of these lists, and marks the lists that begin with it. Whether some list has one.
+fn mark_least(rests: &[&[Value]], shared: &mut [ColSet]) -> bool
+    requires { length rests.now ≤ 128 * length shared.old }
+    ensures { MatchBool result (SharesLeast (has_wide shared.new) (lists_of rests.now) (length rests.now)) (AllEnded (lists_of rests.now) (length rests.now)) }
 {
-    let mut least: Option<&'a Value<'b>> = None;
+    clear_wide(shared);
+    let mut least = None;
     for place in 0..rests.len() {
-        least = lesser(least, first_of(rests[place]));
+        least = meet(rests, place, least, shared);
     }
-    least
+    least.is_some()
 }
 
 fn first_of<'a, 'b>(rest: &'a [Value<'b>]) -> Option<&'a Value<'b>>
@@ -115,35 +117,36 @@ fn first_of<'a, 'b>(rest: &'a [Value<'b>]) -> Option<&'a Value<'b>>
     rest.first()
 }
 
-fn lesser<'a, 'b>(a: Option<&'a Value<'b>>, b: Option<&'a Value<'b>>) -> Option<&'a Value<'b>>
-    ensures { result ≡ lesser_of a.entry b.entry }
+// The lesser of the least value so far and the first one of one more list, with the marks that belong to it.
+fn meet<'a, 'b>(
+    rests: &[&'a [Value<'b>]],
+    place: usize,
+    least: Option<&'a Value<'b>>,
+    shared: &mut [ColSet],
+) -> Option<&'a Value<'b>>
+    requires place { place < length rests.now }
+    requires room { length rests.now ≤ 128 * length shared.old }
+    requires so_far { LeastSoFar least (has_wide shared.old) (lists_of rests.now) place }
+    ensures { LeastSoFar result (has_wide shared.new) (lists_of rests.now) (place + 1) }
 {
-    match (a, b) {
-        (Some(x), Some(y)) => Some(if y < x { y } else { x }),
-        (None, _) => b,
-        (_, None) => a,
-    }
-}
-
-fn begins_with(rest: &[Value], value: &Value) -> bool
-    ensures { IsTrue result ↔ BeginsWith value.now rest.now }
-{
-    match rest.first() {
-        Some(first) => first == value,
-        None => false,
-    }
-}
-
-// Marks the lists that begin with this value.
-fn mark(rests: &[&[Value]], value: &Value, shared: &mut [ColSet])
-    requires { length rests.now ≤ 128 * length shared.old }
-    ensures { (place : ℕ) → place < length rests.now → (has_wide shared.new place ≡ true) ↔ BeginsWith value.now (list_at (lists_of rests.now) place) }
-{
-    clear_wide(shared);
-    for place in 0..rests.len() {
-        if begins_with(rests[place], value) {
+    let Some(first) = first_of(rests[place]) else {
+        return least;
+    };
+    let Some(value) = least else {
+        insert_wide(shared, place);
+        return Some(first);
+    };
+    match first.cmp(value) {
+        Ordering::Less => {
+            clear_wide(shared);
             insert_wide(shared, place);
+            Some(first)
         }
+        Ordering::Equal => {
+            insert_wide(shared, place);
+            Some(value)
+        }
+        Ordering::Greater => Some(value),
     }
 }
 

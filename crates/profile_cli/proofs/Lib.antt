@@ -5,4 +5,3 @@ pub mod Found
 pub mod Parse
 pub mod Bare
 pub mod TheApp
-pub mod Sure
