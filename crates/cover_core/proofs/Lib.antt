@@ -7,3 +7,4 @@ pub mod Refuting
 pub mod Calls
 pub mod Upto
 pub mod Whole
+pub mod Turn

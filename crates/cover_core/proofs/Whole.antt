@@ -32,17 +32,25 @@ use Rattle.cover_core.proofs.Booking.{job_of}
 use Rattle.cover_core.proofs.Refuting.{refutes_entry}
 use Rattle.cover_core.proofs.Calls
 
+-- the job is that of the candidate
+pub record IsJobOf (job : JobParts) (t : Target) (c : Cand) (n : ℕ) (snapshot : CodeTable) : Type 0 where
+  pub target : job.target ≡ t
+  pub left : job.left ≡ c.left
+  pub from : job.from ≡ c.upto
+  pub to : job.to ≡ n
+  pub shared : job.snapshot ≡ snapshot
+
 -- the state is `now` as the caller sees it
 module _ (s now : Core) (table : CodeTable) (book : IsBook s table) (view : s ≡ now) where
   -- ---- mark
   pub record MarkAll (job : JobParts) (answer : Marking) (new : CandLists) : Type 0 where
-    pub book : IsBook (Calls.with_lists s new) table
+    pub kept : IsBook (Calls.with_lists s new) table
     pub step : steps.Marking now job (reply_of_mark answer) (Calls.with_lists s new)
 
   pub mark-all : (job : JobParts) (t : Target) (x n : ℕ) (answer : Marking) (new : CandLists) → t ≡ job.target → x ≡ job.left → n ≡ job.to → Fits now.rows job → holds_in job.snapshot job.left job.target ≡ true
       → answer ≡ cond (is_listed (cands_of s.candidates t) x) Marked Dropped → new ≡ with_list s.candidates t (marked (cands_of s.candidates t) x n) → MarkAll job answer new
   mark-all job t x n answer new e f g fits holds a l = record {
-    book = Calls.mark-book s table book job new (subst (λ (s : Core). Fits s.rows job) (sym view) fits) holds list;
+    kept = Calls.mark-book s table book job new (subst (λ (s : Core). Fits s.rows job) (sym view) fits) holds list;
     step = subst (λ (m : Core). steps.Marking m job (reply_of_mark answer) (Calls.with_lists s new)) view (Calls.mark-step s table book job new answer told list);
   }
     where
@@ -54,13 +62,13 @@ module _ (s now : Core) (table : CodeTable) (book : IsBook s table) (view : s �
 
   -- ---- release
   pub record ReleaseAll (job : JobParts) (answer : Release) (new : CandLists) : Type 0 where
-    pub book : IsBook (Calls.with_lists s new) table
+    pub kept : IsBook (Calls.with_lists s new) table
     pub step : steps.Releasing now job (reply_of_release answer) (Calls.with_lists s new)
 
   pub release-all : (job : JobParts) (t : Target) (x : ℕ) (listed : Bool) (answer : Release) (new : CandLists) → t ≡ job.target → x ≡ job.left → IsColumnTarget (width now.rows) job.target
       → listed ≡ is_listed (cands_of s.candidates t) x → answer ≡ cond listed releases.Released releases.Dropped → new ≡ with_list s.candidates t (holding (cands_of s.candidates t) x false) → ReleaseAll job answer new
   release-all job t x listed answer new e f l told a i = record {
-    book = Calls.release-book s table book job new (subst (λ (s : Core). IsColumnTarget (width s.rows) job.target) (sym view) l) list;
+    kept = Calls.release-book s table book job new (subst (λ (s : Core). IsColumnTarget (width s.rows) job.target) (sym view) l) list;
     step = subst (λ (m : Core). steps.Releasing m job (reply_of_release answer) (Calls.with_lists s new)) view (Calls.release-step s table book job new listed answer is a list);
   }
     where
@@ -72,22 +80,14 @@ module _ (s now : Core) (table : CodeTable) (book : IsBook s table) (view : s �
 
   -- ---- draw
   pub record DrawAll (job : JobParts) (new : CandLists) : Type 0 where
-    pub book : IsBook (Calls.with_lists s new) table
+    pub kept : IsBook (Calls.with_lists s new) table
     pub step : steps.Draws now job (Calls.with_lists s new)
     pub fits : Fits s.rows job
-
-  -- the job is that of the candidate
-  pub record IsJobOf (job : JobParts) (t : Target) (c : Cand) (n : ℕ) (snapshot : CodeTable) : Type 0 where
-    pub target : job.target ≡ t
-    pub left : job.left ≡ c.left
-    pub from : job.from ≡ c.upto
-    pub to : job.to ≡ n
-    pub shared : job.snapshot ≡ snapshot
 
   pub draw-all : (n : ℕ) (found : Option (Target × Cand)) (t : Target) (c : Cand) (job : JobParts) (new : CandLists) → n ≡ next s.rows → found ≡ find (λ e. is_drawable n e.1) (entries_in (length s.candidates.columns) s.candidates) → found ≡ Some (t, c)
       → IsJobOf job t c n table → new ≡ with_list s.candidates t (holding (cands_of s.candidates t) c.left true) → DrawAll job new
   draw-all n found t c job new e f g is i = record {
-    book = Calls.draw-book s table book t c new first i;
+    kept = Calls.draw-book s table book t c new first i;
     step = subst (λ (m : Core). steps.Draws m job (Calls.with_lists s new)) view (Calls.draw-step s table book t c new job first i same);
     fits = Calls.draw-fits s table book t c job first same;
   }
@@ -115,13 +115,13 @@ module _ (s now : Core) (table : CodeTable) (book : IsBook s table) (view : s �
   live-found i j a b e f g h = subst (λ (m : Core). steps.AreLive m.rows i j) view (record { first = sym e ∙ f; second = sym g ∙ h })
 
   pub record RefuteAll (i j : ℕ) (new : Core) : Type 0 where
-    pub book : IsBook new table
+    pub kept : IsBook new table
     pub state : new ≡ booked now i j
 
   pub refute-all : (i j z : ℕ) (ws : List Witness) (new : CandLists) → i ≢ j → steps.AreLive now.rows i j → refutes_some now (agree_of now.rows i j) ≡ true → z ≡ agree_of s.rows i j
       → ws ≡ s.witnesses ++ record { i = i; j = j; agree = z } ∷ [] → new ≡ renewed (length s.candidates.columns) (sets_of s.witnesses ++ z ∷ []) s.candidates → RefuteAll i j (record { rows = s.rows; witnesses = ws; candidates = new })
   refute-all i j z ws new ne live e k w n = record {
-    book = Calls.refute-book s table book i j _ ne (subst (λ (m : Core). steps.AreLive m.rows i j) (sym view) live) (subst (λ (m : Core). refutes_some m (agree_of m.rows i j) ≡ true) (sym view) e) state;
+    kept = Calls.refute-book s table book i j _ ne (subst (λ (m : Core). steps.AreLive m.rows i j) (sym view) live) (subst (λ (m : Core). refutes_some m (agree_of m.rows i j) ≡ true) (sym view) e) state;
     state = state ∙ ap (λ (m : Core). booked m i j) view;
   }
     where
@@ -130,14 +130,14 @@ module _ (s now : Core) (table : CodeTable) (book : IsBook s table) (view : s �
 
   -- ---- apply
   pub record ApplyAll (ops : List Op) (r : RowState) (snapshot : CodeTable) (new : Core) : Type 0 where
-    pub book : IsBook new snapshot
+    pub kept : IsBook new snapshot
     pub state : new ≡ with_rows now r
     pub fits : (job : JobParts) → Fits now.rows job → Fits r job
 
   pub apply-all : (ops : List Op) (r : RowState) (snapshot : CodeTable) (ws : List Witness) (new : CandLists) → All (IsAsWide (width now.rows)) ops → after s.rows ops ≡ Ok r → IsCodeTable snapshot → Shows snapshot r
       → ws ≡ live_of (ended ops) s.witnesses → new ≡ renewed (length s.candidates.columns) (sets_of (live_of (ended ops) s.witnesses)) s.candidates → ApplyAll ops r snapshot (record { rows = r; witnesses = ws; candidates = new })
   apply-all ops r snapshot ws new wide leads coded shows w n = record {
-    book = Calls.batch-book s table book ops r own leads _ snapshot state coded shows;
+    kept = Calls.batch-book s table book ops r own leads _ snapshot state coded shows;
     state = state ∙ ap (λ (m : Core). with_rows m r) view;
     fits = λ job fits. Calls.batch-fits s table book ops r own leads job (subst (λ (m : Core). Fits m.rows job) (sym view) fits);
   }

@@ -1,53 +1,52 @@
-use Rattle.std.proofs.Common.{rules, ◌≡◌, ◌≢◌, ◌<◌, ◌^◌, ◌↔◌, true, None, IfOk, IsTrue, OnOk, OnErr, ℕ, ◌+◌, ◌-◌, ◌*◌, ◌≤◌, length, ◌/◌, ◌%◌, Bool, false, nat_eq, nat_lt, List, [], ◌∷◌, ◌++◌, slice_index_or, slice_set, bit_and, bit_or, w8, w32, w64, Bor, MutBor}
-use Rattle.std.specs.Bool.{OnTrue, OnFalse}
-use Rattle.std.specs.List.{All}
-use Rattle.col_set.specs.Target.{IsColumnTarget}
+use Rattle.std.proofs.Common.{◌≡◌, ◌∙◌, ◌<◌, refl, sym, subst, arith, Some, None}
 use Rattle.rel_base.specs.JobParts.{JobParts}
-use Rattle.rel_base.specs.RowState.{opened, width}
-use Rattle.rel_base.specs.Shows.{holds_in}
-use Rattle.rel_base.specs.Covers.{covers}
-use Rattle.rel_base.specs.Laws.{IsAsWide}
-use Rattle.cover_steps.specs.Core.{opened_core}
-use Rattle.cover_steps.specs.Core.{first_unfinished as first_unfinished_of}
-use Rattle.cover_steps.specs.Steps as steps
-use Rattle.cover_steps.specs.Sound.{Sound, Fits}
-use Rattle.cover_core.specs.Work.{Extends, work}
-use Rattle.cover_core.specs.Replies.{reply_of_draw, reply_of_refutation, reply_of_mark, reply_of_release, reply_of_batch, reply_of_settle, IfJob, IfReady}
-use Rattle.rel_base.specs.declared.nulls.Nulls.TheVariants.{Equal}
+use Rattle.cover_steps.specs.Core.{Core, first_unfinished}
+use Rattle.cover_steps.specs.Sound.{Sound}
+use Rattle.validator.specs.Verdicts.{IsVerdict}
+use Rattle.cover_core.proofs.Turn.{Advances, turn-fitting, turn-fits, turn-marked, turn-booked}
+use Rattle.cover_core.proofs.Whole.{IsJobOf, unfinished-found}
 use Rattle.cover_core.proofs.book.Book.advance.Goals as goal
+use Rattle.cover_core.proofs.book.Book.advance.Goals.{After-drop-job-inside-2, in-Holds, in-Broken+in_ok-refute-in-Broken}
 
--- src/book.rt:270:13
 pub returns-in_default-clause-done : goal.returns-in_default-clause-done
-returns-in_default-clause-done c = ?
+returns-in_default-clause-done c = unfinished-found _ _ _ c.self.invariant.0 c.self.view_is c.next-next.result c.first_unfinished.result _ c.next-next.ensures.value c.first_unfinished.ensures c.in_default.is
 
--- src/book.rt:273:15
 pub verdict_on-requires-clause-name : goal.verdict_on-requires-clause-name
-verdict_on-requires-clause-name c = ?
+verdict_on-requires-clause-name c = refl
 
--- src/book.rt:273:15
 pub verdict_on-requires-clause-parts : goal.verdict_on-requires-clause-parts
-verdict_on-requires-clause-parts c = ?
+verdict_on-requires-clause-parts c = refl
 
--- src/book.rt:273:15
 pub verdict_on-requires-clause-some : goal.verdict_on-requires-clause-some
-verdict_on-requires-clause-some c = ?
+verdict_on-requires-clause-some c = let e = c.new.ensures in omega (arith, e)
 
--- src/book.rt:273:15
 pub verdict_on-requires-clause-fitting : goal.verdict_on-requires-clause-fitting
-verdict_on-requires-clause-fitting c = ?
+verdict_on-requires-clause-fitting c = turn-fitting _ _ _ c.self.invariant.0 c.self.view_is c.in-Some.target c.in-Some.cand (unfinished-found _ _ _ c.self.invariant.0 c.self.view_is c.next-next.result c.first_unfinished.result _ c.next-next.ensures.value c.first_unfinished.ensures c.in-Some.is) c.next-next.result c.next-next.ensures.value c.of-job.result
+    (record { target = c.of-job.ensures.target; left = c.of-job.ensures.left; from = c.of-job.ensures.from; to = c.of-job.ensures.to; shared = c.of-job.ensures.snapshot ∙ c.in_ok-clone.ensures.cases })
 
--- src/book.rt:275:17
 pub mark-requires-clause-fits : goal.mark-requires-clause-fits
-mark-requires-clause-fits c = ?
+mark-requires-clause-fits c = turn-fits _ _ _ c.self.invariant.0 c.self.view_is c.in-Some.target c.in-Some.cand (unfinished-found _ _ _ c.self.invariant.0 c.self.view_is c.next-next.result c.first_unfinished.result _ c.next-next.ensures.value c.first_unfinished.ensures c.in-Some.is) c.next-next.result c.next-next.ensures.value c.of-job.result
+    (record { target = c.of-job.ensures.target; left = c.of-job.ensures.left; from = c.of-job.ensures.from; to = c.of-job.ensures.to; shared = c.of-job.ensures.snapshot ∙ c.in_ok-clone.ensures.cases })
 
--- src/book.rt:261:5
+turn : (c : After-drop-job-inside-2) → Advances c.args.self.now c.match-branch-3.self
+turn c =
+    let same : IsJobOf c.of-job.result c.in-Some.target c.in-Some.cand c.next-next.result _ = record { target = c.of-job.ensures.target; left = c.of-job.ensures.left; from = c.of-job.ensures.from; to = c.of-job.ensures.to; shared = c.of-job.ensures.snapshot ∙ c.in_ok-clone.ensures.cases } in
+    elim c.match-branch-3.branch [
+      | in-Holds w ↦ subst (Advances c.args.self.now) (sym w.self-is)
+          (turn-marked _ _ _ c.self.invariant.0 c.self.view_is c.in-Some.target c.in-Some.cand (unfinished-found _ _ _ c.self.invariant.0 c.self.view_is c.next-next.result c.first_unfinished.result _ c.next-next.ensures.value c.first_unfinished.ensures c.in-Some.is) c.next-next.result c.next-next.ensures.value c.of-job.result same w.mark.result w.mark.new.self w.mark.ensures.step)
+      | in-Broken+in_ok-refute-in-Broken w ↦ subst (Advances c.args.self.now) (sym w.self-is)
+          (turn-booked _ _ _ c.self.invariant.0 c.self.view_is c.in-Some.target c.in-Some.cand (unfinished-found _ _ _ c.self.invariant.0 c.self.view_is c.next-next.result c.first_unfinished.result _ c.next-next.ensures.value c.first_unfinished.ensures c.in-Some.is) c.next-next.result c.next-next.ensures.value c.of-job.result same w.in-Broken.i w.in-Broken.j
+            (subst (IsVerdict c.of-job.result) w.in-Broken.is c.in_ok-verdict_on.ensures.verdict) w.in_ok-refute-in-Broken.field-0 w.refute.new.self w.refute.ensures.sound w.in_ok-refute-in-Broken.ensures.step)
+    ]
+
 pub returns-clause-less : goal.returns-clause-less
-returns-clause-less c = ?
+returns-clause-less c = (turn c).less
 
--- src/book.rt:261:5
 pub returns-clause-witnesses : goal.returns-clause-witnesses
-returns-clause-witnesses c = ?
+returns-clause-witnesses c = (turn c).witnesses
 
--- src/book.rt:261:5
 pub returns-clause-sound : goal.returns-clause-sound
-returns-clause-sound c = ?
+returns-clause-sound c = elim c.match-branch-3.branch [
+  | in-Holds w ↦ subst Sound (sym w.self-is) w.mark.ensures.sound
+  | in-Broken+in_ok-refute-in-Broken w ↦ subst Sound (sym w.self-is) w.refute.ensures.sound
+]

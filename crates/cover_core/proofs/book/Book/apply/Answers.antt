@@ -9,12 +9,12 @@ use Rattle.cover_core.proofs.Whole.{ApplyAll, apply-all}
 use Rattle.cover_core.proofs.book.Book.apply.Goals as goal
 use Rattle.cover_core.proofs.book.Book.apply.Goals.{After-drop-made}
 
-all : (c : After-drop-made) → ApplyAll _ _ _ _ _ c.args.batch.now c.apply-answer.new.self c.in-Ok.made.snapshot.value (record { rows = c.apply-answer.new.self; witnesses = c.withdraw.new.self; candidates = c.put_all.new.candidates })
+all : (c : After-drop-made) → ApplyAll _ _ _ c.self.invariant.0 c.self.view_is c.args.batch.now c.apply-answer.new.self c.in-Ok.made.snapshot.value (record { rows = c.apply-answer.new.self; witnesses = c.withdraw.new.self; candidates = c.put_all.new.candidates })
 all c = apply-all _ _ _ c.self.invariant.0 c.self.view_is c.args.batch.now c.apply-answer.new.self c.in-Ok.made.snapshot.value c.withdraw.new.self c.put_all.new.candidates c.requires c.in-Applied.ensures.after c.in-Ok.ensures.table c.in-Ok.ensures.snapshot
     (c.withdraw.ensures ∙ ap (λ (dead : List ℕ). live_of dead c.self.inside.witnesses) (c.as_slice.ensures.value ∙ c.in-Ok.ensures.dead)) (c.put_all.ensures _ c.in-Ok.ensures.parts)
 
 pub invariant_of-self-in-Ok : goal.invariant_of-self-in-Ok
-invariant_of-self-in-Ok c = ((all c).book, c.in-Ok.ensures.store)
+invariant_of-self-in-Ok c = ((all c).kept, c.in-Ok.ensures.store)
 
 pub returns-in-Ok-clause-step : goal.returns-in-Ok-clause-step
 returns-in-Ok-clause-step c = subst (λ (a : Applying). steps.Applying c.args.self.now c.args.batch.now (reply_of_batch a) (record { rows = c.apply-answer.new.self; witnesses = c.withdraw.new.self; candidates = c.put_all.new.candidates })) (sym c.in-Applied.is) (record {
@@ -29,4 +29,4 @@ pub returns-in-Ok-clause-fits : goal.returns-in-Ok-clause-fits
 returns-in-Ok-clause-fits c = (all c).fits
 
 pub returns-in-Ok-clause-sound : goal.returns-in-Ok-clause-sound
-returns-in-Ok-clause-sound c = (all c).book.sound
+returns-in-Ok-clause-sound c = (all c).kept.sound

@@ -1,21 +1,10 @@
-use Rattle.std.proofs.Common.{rules, ◌≡◌, ◌≢◌, ◌<◌, ◌^◌, ◌↔◌, true, None, IfOk, IsTrue, OnOk, OnErr, ℕ, ◌+◌, ◌-◌, ◌*◌, ◌≤◌, length, ◌/◌, ◌%◌, Bool, false, nat_eq, nat_lt, List, [], ◌∷◌, ◌++◌, slice_index_or, slice_set, bit_and, bit_or, w8, w32, w64, Bor, MutBor}
-use Rattle.std.specs.Bool.{OnTrue, OnFalse}
-use Rattle.std.specs.List.{All}
-use Rattle.col_set.specs.Target.{IsColumnTarget}
-use Rattle.rel_base.specs.JobParts.{JobParts}
-use Rattle.rel_base.specs.RowState.{opened, width}
-use Rattle.rel_base.specs.Shows.{holds_in}
+use Rattle.std.proofs.Common.{◌≡◌, ◌∙◌, ap}
 use Rattle.rel_base.specs.Covers.{covers}
-use Rattle.rel_base.specs.Laws.{IsAsWide}
-use Rattle.cover_steps.specs.Core.{opened_core}
-use Rattle.cover_steps.specs.Core.{first_unfinished as first_unfinished_of}
-use Rattle.cover_steps.specs.Steps as steps
-use Rattle.cover_steps.specs.Sound.{Sound, Fits}
-use Rattle.cover_core.specs.Work.{Extends, work}
-use Rattle.cover_core.specs.Replies.{reply_of_draw, reply_of_refutation, reply_of_mark, reply_of_release, reply_of_batch, reply_of_settle, IfJob, IfReady}
-use Rattle.rel_base.specs.declared.nulls.Nulls.TheVariants.{Equal}
+use Rattle.cover_steps.specs.Core.{Core, first_unfinished}
+use Rattle.cover_core.proofs.Calls.{listed-is, listed-exact}
+use Rattle.cover_core.proofs.Turn.{both-ok}
 use Rattle.cover_core.proofs.book.Book.covers.Goals as goal
 
--- src/book.rt:285:5
 pub returns : goal.returns
-returns c = ?
+returns c = both-ok c.listed.result _ _ _ c.listed.ensures.keys c.listed.ensures.fds (λ found keys fds.
+    listed-exact _ _ c.self.invariant.0 found (ap first_unfinished c.self.view_is ∙ c.requires) (listed-is _ _ c.self.invariant.0 found keys fds) ∙ ap (λ (s : Core). covers s.rows) c.self.view_is)

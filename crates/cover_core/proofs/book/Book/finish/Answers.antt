@@ -1,53 +1,38 @@
-use Rattle.std.proofs.Common.{rules, ◌≡◌, ◌≢◌, ◌<◌, ◌^◌, ◌↔◌, true, None, IfOk, IsTrue, OnOk, OnErr, ℕ, ◌+◌, ◌-◌, ◌*◌, ◌≤◌, length, ◌/◌, ◌%◌, Bool, false, nat_eq, nat_lt, List, [], ◌∷◌, ◌++◌, slice_index_or, slice_set, bit_and, bit_or, w8, w32, w64, Bor, MutBor}
-use Rattle.std.specs.Bool.{OnTrue, OnFalse}
-use Rattle.std.specs.List.{All}
-use Rattle.col_set.specs.Target.{IsColumnTarget}
-use Rattle.rel_base.specs.JobParts.{JobParts}
-use Rattle.rel_base.specs.RowState.{opened, width}
-use Rattle.rel_base.specs.Shows.{holds_in}
-use Rattle.rel_base.specs.Covers.{covers}
-use Rattle.rel_base.specs.Laws.{IsAsWide}
-use Rattle.cover_steps.specs.Core.{opened_core}
-use Rattle.cover_steps.specs.Core.{first_unfinished as first_unfinished_of}
-use Rattle.cover_steps.specs.Steps as steps
-use Rattle.cover_steps.specs.Sound.{Sound, Fits}
-use Rattle.cover_core.specs.Work.{Extends, work}
-use Rattle.cover_core.specs.Replies.{reply_of_draw, reply_of_refutation, reply_of_mark, reply_of_release, reply_of_batch, reply_of_settle, IfJob, IfReady}
-use Rattle.rel_base.specs.declared.nulls.Nulls.TheVariants.{Equal}
+use Rattle.std.proofs.Common.{◌≡◌, sym, subst}
+use Rattle.std.proofs.lemmas.Bool.{OnTrue_at}
+use Rattle.cover_core.proofs.Turn.{IsTurned, IsTurned-none, IsTurned-more, IsTurned-fits}
 use Rattle.cover_core.proofs.book.Book.finish.Goals as goal
+use Rattle.cover_core.proofs.book.Book.finish.Goals.{After-from_residual, After-covers}
 
--- src/book.rt:256:9
 pub loop-init : goal.loop-init
-loop-init c = ?
+loop-init c = IsTurned-none _
 
--- src/book.rt:256:15
-pub returns-in_err-advance-clause-rows : goal.returns-in_err-advance-clause-rows
-returns-in_err-advance-clause-rows c = ?
-
--- src/book.rt:256:15
-pub returns-in_err-advance-clause-witnesses : goal.returns-in_err-advance-clause-witnesses
-returns-in_err-advance-clause-witnesses c = ?
-
--- src/book.rt:256:15
-pub returns-in_err-advance-clause-fits : goal.returns-in_err-advance-clause-fits
-returns-in_err-advance-clause-fits c = ?
-
--- src/book.rt:256:9
 pub loop-smaller : goal.loop-smaller
-loop-smaller c = ?
+loop-smaller c = OnTrue_at c.if-branch.true c.in_ok-advance.ensures.less
 
--- src/book.rt:256:9
 pub loop-preserved : goal.loop-preserved
-loop-preserved c = ?
+loop-preserved c = IsTurned-more _ _ _ c.loop.invariant c.advance.ensures.rows c.advance.ensures.witnesses
 
--- src/book.rt:248:5
+failed : (c : After-from_residual) → IsTurned c.args.self.now c.advance.new.self
+failed c = IsTurned-more _ _ _ c.loop.invariant c.advance.ensures.rows c.advance.ensures.witnesses
+
+done : (c : After-covers) → IsTurned c.args.self.now c.advance.new.self
+done c = IsTurned-more _ _ _ c.loop.invariant c.advance.ensures.rows c.advance.ensures.witnesses
+
+pub returns-in_err-advance-clause-rows : goal.returns-in_err-advance-clause-rows
+returns-in_err-advance-clause-rows c = (failed c).rows
+
+pub returns-in_err-advance-clause-witnesses : goal.returns-in_err-advance-clause-witnesses
+returns-in_err-advance-clause-witnesses c = (failed c).witnesses
+
+pub returns-in_err-advance-clause-fits : goal.returns-in_err-advance-clause-fits
+returns-in_err-advance-clause-fits c = IsTurned-fits _ _ (failed c)
+
 pub returns-clause-rows : goal.returns-clause-rows
-returns-clause-rows c = ?
+returns-clause-rows c = (done c).rows
 
--- src/book.rt:248:5
 pub returns-clause-witnesses : goal.returns-clause-witnesses
-returns-clause-witnesses c = ?
+returns-clause-witnesses c = (done c).witnesses
 
--- src/book.rt:248:5
 pub returns-clause-fits : goal.returns-clause-fits
-returns-clause-fits c = ?
+returns-clause-fits c = IsTurned-fits _ _ (done c)

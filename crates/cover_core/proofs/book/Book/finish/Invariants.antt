@@ -1,23 +1,9 @@
-use Rattle.std.proofs.Common.{◌≡◌, ◌≢◌, ◌<◌, ◌^◌, ◌↔◌, true, None, IfOk, IsTrue, OnOk, OnErr, ℕ, ◌+◌, ◌-◌, ◌*◌, ◌≤◌, length}
-use Rattle.std.specs.Bool.{OnTrue, OnFalse}
-use Rattle.std.specs.List.{All}
-use Rattle.col_set.specs.Target.{IsColumnTarget}
-use Rattle.rel_base.specs.JobParts.{JobParts}
-use Rattle.rel_base.specs.RowState.{opened, width}
-use Rattle.rel_base.specs.Shows.{holds_in}
-use Rattle.rel_base.specs.Covers.{covers}
-use Rattle.rel_base.specs.Laws.{IsAsWide}
-use Rattle.cover_steps.specs.Core.{opened_core}
-use Rattle.cover_steps.specs.Core.{first_unfinished as first_unfinished_of}
-use Rattle.cover_steps.specs.Steps as steps
-use Rattle.cover_steps.specs.Sound.{Sound, Fits}
-use Rattle.cover_core.specs.Work.{Extends, work}
-use Rattle.cover_core.specs.Replies.{reply_of_draw, reply_of_refutation, reply_of_mark, reply_of_release, reply_of_batch, reply_of_settle, IfJob, IfReady}
-use Rattle.rel_base.specs.declared.nulls.Nulls.TheVariants.{Equal}
+use Rattle.cover_core.specs.Work.{work}
+use Rattle.cover_core.proofs.Turn.{IsTurned}
 use Rattle.cover_core.proofs.book.Book.finish.Given as goal
 
 abbrev pub invariant-loop : goal.invariant-loop
-invariant-loop l = ?
+invariant-loop l = IsTurned l.fn.self l.self
 
 abbrev pub decreases-loop : goal.decreases-loop
-decreases-loop l = ?
+decreases-loop l = work l.self

@@ -15,14 +15,14 @@ returns-then-not-refutes_some-clause-step c = (
 pub put_all-requires : goal.put_all-requires
 put_all-requires c = (c.in_ok-parts.ensures (sets_of c.self.inside.witnesses) (are_least _ _ c.self.invariant.0)).count
 
-all : (c : After-put_all) → RefuteAll _ _ _ _ _ c.args.i c.args.j (record { rows = c.self.inside.rows; witnesses = c.add.new.self; candidates = c.put_all.new.candidates })
+all : (c : After-put_all) → RefuteAll _ _ _ c.self.invariant.0 c.self.view_is c.args.i c.args.j (record { rows = c.self.inside.rows; witnesses = c.add.new.self; candidates = c.put_all.new.candidates })
 all c = refute-all _ _ _ c.self.invariant.0 c.self.view_is c.args.i c.args.j c.agree-agree.result c.add.new.self c.put_all.new.candidates c.requires
     (live-found _ _ _ c.self.invariant.0 c.self.view_is c.args.i c.args.j c.is_live.result c.is_live-2.result c.is_live.ensures.value c.if-not-is_live.false c.is_live-2.ensures.value c.if-not-is_live-2.false)
     (refutes-found _ _ _ c.self.invariant.0 c.self.view_is c.args.i c.args.j c.agree-agree.result c.refutes_some.result _ c.agree-agree.ensures c.refutes_some.ensures c.if-not-refutes_some.false)
     c.agree-agree.ensures c.in_ok-add.ensures.ok (c.put_all.ensures _ (c.in_ok-parts.ensures (sets_of c.self.inside.witnesses) (are_least _ _ c.self.invariant.0)))
 
 pub invariant_of-self-2 : goal.invariant_of-self-2
-invariant_of-self-2 c = ((all c).book, c.self.invariant.1)
+invariant_of-self-2 c = ((all c).kept, c.self.invariant.1)
 
 pub returns-clause-step : goal.returns-clause-step
 returns-clause-step c = (
@@ -32,4 +32,4 @@ returns-clause-step c = (
 )
 
 pub returns-clause-sound : goal.returns-clause-sound
-returns-clause-sound c = (all c).book.sound
+returns-clause-sound c = (all c).kept.sound

@@ -10,14 +10,14 @@ told c = elim c.if-hold.branch [
   | else-hold w ↦ w.result-is ∙ sym (ap (λ b. cond b releases.Released releases.Dropped) w.if-hold.false)
 ]
 
-all : (c : Joined-hold) → ReleaseAll _ _ _ _ _ c.args.job.now c.if-hold.result c.hold.new.self
+all : (c : Joined-hold) → ReleaseAll _ _ _ c.self.invariant.0 c.self.view_is c.args.job.now c.if-hold.result c.hold.new.self
 all c = release-all _ _ _ c.self.invariant.0 c.self.view_is c.args.job.now c.target.result c.left.result c.hold.result c.if-hold.result c.hold.new.self c.target.ensures c.left.ensures c.requires.target c.hold.ensures.answer (told c) c.hold.ensures.list
 
 pub invariant_of-self : goal.invariant_of-self
-invariant_of-self c = ((all c).book, c.self.invariant.1)
+invariant_of-self c = ((all c).kept, c.self.invariant.1)
 
 pub returns-clause-step : goal.returns-clause-step
 returns-clause-step c = (all c).step
 
 pub returns-clause-sound : goal.returns-clause-sound
-returns-clause-sound c = (all c).book.sound
+returns-clause-sound c = (all c).kept.sound
