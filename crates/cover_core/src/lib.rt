@@ -9,6 +9,8 @@ mod listed;
 mod parts;
 mod renewal;
 mod searching;
+#[cfg(test)]
+mod tests;
 mod verdict;
 
 pub use answers::{Draw, Refutation, Release, Settling};
