@@ -1,22 +1,20 @@
 -- Jobs drawn from a sound state, and what their verdicts book.
-use Rattle.std.proofs.Common.{inl, inr, ◌≡◌, ◌≢◌, ◌⊎◌, ℕ, ◌+◌, ◌<◌, ◌≤◌, ◌^◌, eqb, ltb, Bool, true, false, not, ◌&&◌, refl, sym, ap, ◌∙◌, subst, arith, List, [], ◌∷◌, ◌++◌, length, map, Option, Some, None}
-use Rattle.std.specs.List.{Contains, find, list_any}
-use Rattle.std.proofs.lemmas.Bool.{true≢false, false≢true, and_parts, and_from, not-true, not_from_false, eq-eqb, ltb-true}
+use Rattle.std.proofs.Common.{◌≡◌, ◌≢◌, ℕ, ◌<◌, ◌^◌, eqb, ltb, true, false, not, ◌&&◌, refl, sym, ap, ◌∙◌, subst, arith, List, Option, Some}
+use Rattle.std.specs.List.{Contains}
+use Rattle.std.proofs.lemmas.Bool.{and_parts, and_from, not-true, not_from_false, eq-eqb, ltb-true}
 use Rattle.col_set.specs.declared.target.Target.{Target}
 use Rattle.col_set.specs.ColSet.{subset}
 use Rattle.col_set.specs.Target.{IsColumnTarget, has_target}
 use Rattle.col_set.specs.Subsets.{IsSubset, true-subset}
-use Rattle.col_set.specs.Lists.{Listed, list_any_at}
-use Rattle.col_set.proofs.Places.{Contains-listed, Listed-contained}
+use Rattle.col_set.specs.Lists.{list_any_at}
+use Rattle.col_set.proofs.Places.{Listed-contained}
 use Rattle.rel_base.specs.CodeTable.{CodeTable, IsCodeTable}
 use Rattle.rel_base.specs.JobParts.{JobParts}
-use Rattle.rel_base.specs.RowState.{RowState, width, next}
+use Rattle.rel_base.specs.RowState.{RowState, next}
 use Rattle.rel_base.specs.Validity.{agree_of}
 use Rattle.rel_base.specs.Batches.{is_live}
-use Rattle.rel_base.specs.Shows.{Shows, code_agree, live_numbers, holds_in_below}
+use Rattle.rel_base.specs.Shows.{Shows, code_agree, live_numbers}
 use Rattle.rel_base.proofs.Shown.{live_numbers-shown, code_agree-shown, holds_in_below-true}
-use Rattle.negative_cover.specs.Witnesses.{sets_of}
-use Rattle.negative_cover.specs.declared.negative_cover.Witness.{Witness}
 use Rattle.candidate_cover.specs.declared.cand.Cand.{Cand}
 use Rattle.candidate_cover.specs.Cands.{holding, marked}
 use Rattle.cover_steps.specs.Core.{Core, cands, entries, is_unfinished, is_drawable, first_unfinished, first_drawable, refutes_some, with_cands}
@@ -58,17 +56,21 @@ unfinished-entry s t c e =
     let w = find-Some (λ (e : Target × Cand). is_unfinished (next s.rows) e.1) (entries s) (t, c) e in
     (IsEntry-listed s (t, c) w.0, ltb-true c.upto (next s.rows) w.1)
 
+-- a job that fits meets the premises of a validation
+pub IsFitting-fits : (r : RowState) (job : JobParts) → Fits r job → IsFitting job
+IsFitting-fits r job fits = record {
+  left = subst (λ (n : ℕ). job.left < 2 ^ n) (sym fits.columns) fits.left;
+  target = subst (λ (n : ℕ). IsColumnTarget n job.target) (sym fits.columns) fits.target;
+  below = holds_in_below-true job.snapshot job.from job.left job.target fits.holds;
+}
+
 module _ (s : Core) (sound : Sound s) (t : Target) (c : Cand) (entry : IsEntry s t c) (table : CodeTable) (is : IsCodeTable table) (shows : Shows table s.rows) where
   pub Fits-entry : Fits s.rows (job_of s t c table)
   Fits-entry = Fits-shown s.rows (job_of s t c table) sound.rows is shows entry.target (cand-least s t c sound entry.target entry.listed).below refl (cand-marked s t c sound entry.target entry.listed).holds
 
   -- the premises of a validation
   pub IsFitting-entry : IsFitting (job_of s t c table)
-  IsFitting-entry = record {
-    left = subst (λ (n : ℕ). c.left < 2 ^ n) (sym shows.columns) Fits-entry.left;
-    target = subst (λ (n : ℕ). IsColumnTarget n t) (sym shows.columns) entry.target;
-    below = holds_in_below-true table c.upto c.left t Fits-entry.holds;
-  }
+  IsFitting-entry = IsFitting-fits s.rows (job_of s t c table) Fits-entry
 
   module _ (i j : ℕ) (breach : IsBreach table c.left t i j) where
     live_of : (k : ℕ) → Contains (live_numbers table) k → Contains s.rows.live k

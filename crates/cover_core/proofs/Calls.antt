@@ -1,8 +1,7 @@
 -- What each call makes of a book.
-use Rattle.std.proofs.Common.{inl, inr, ◌≡◌, ◌≢◌, ◌⊎◌, ℕ, ◌+◌, ◌<◌, ◌≤◌, ◌^◌, max, eqb, Bool, true, false, cond, ◌||◌, refl, sym, ap, ap₂, ◌∙◌, subst, arith, List, [], ◌∷◌, ◌++◌, length, get_or, map, Option, Some, None, Ok}
-use Rattle.std.specs.Prelude.{replicate}
-use Rattle.std.specs.List.{All, find, filter, list_any, flat_map}
-use Rattle.std.proofs.lemmas.Bool.{true≢false, false≢true}
+use Rattle.std.proofs.Common.{◌≡◌, ◌≢◌, ℕ, max, eqb, Bool, true, false, cond, ◌||◌, refl, sym, ap, ap₂, ◌∙◌, subst, List, [], ◌∷◌, ◌++◌, length, Option, Some, None, Ok}
+use Rattle.std.specs.List.{All, find, list_any, flat_map}
+use Rattle.std.proofs.lemmas.Bool.{true≢false}
 use Rattle.std.proofs.lemmas.List.{set-get_or}
 use Rattle.col_set.specs.declared.target.Target.{Target}
 use Rattle.col_set.specs.declared.target.Target.TheVariants.{Col, RowId}
@@ -10,14 +9,13 @@ use Rattle.col_set.specs.ColSet.{upto}
 use Rattle.col_set.specs.Target.{IsColumnTarget}
 use Rattle.col_set.specs.Evidence.{least}
 use Rattle.rel_base.specs.declared.batch.Op.{Op}
-use Rattle.rel_base.specs.declared.nulls.Nulls.{Nulls}
 use Rattle.rel_base.specs.CodeTable.{CodeTable, IsCodeTable}
 use Rattle.rel_base.specs.JobParts.{JobParts}
 use Rattle.rel_base.specs.RowState.{RowState, IsRowState, width, next}
 use Rattle.rel_base.specs.Validity.{agree_of}
 use Rattle.rel_base.specs.Covers.{CoverLists, fds_to, covers}
 use Rattle.rel_base.specs.Shows.{Shows, holds_in}
-use Rattle.rel_base.specs.Batches.{is_live, after}
+use Rattle.rel_base.specs.Batches.{after}
 use Rattle.rel_base.specs.Laws.{IsAsWide, Follows}
 use Rattle.rel_base.proofs.Changes.{after-follows}
 use Rattle.negative_cover.specs.declared.negative_cover.Witness.{Witness}
@@ -27,16 +25,16 @@ use Rattle.candidate_cover.specs.declared.cand.Marking.{Marking}
 use Rattle.candidate_cover.specs.declared.cand.Marking.TheVariants.{Marked, Dropped}
 use Rattle.candidate_cover.specs.Lists.{CandLists}
 use Rattle.candidate_cover.specs.Cands.{cands_of, with_list, lefts, is_listed, marked, holding}
-use Rattle.cover_steps.specs.Core.{Core, opened_core, one_each, cands, entries_in, is_unfinished, is_drawable, first_unfinished, first_drawable, refutes_some, with_cands, witness_of, booked, renewed, standing, with_rows, listed_covers}
+use Rattle.cover_steps.specs.Core.{Core, opened_core, one_each, cands, entries_in, is_unfinished, is_drawable, first_unfinished, first_drawable, refutes_some, witness_of, booked, renewed, standing, with_rows, listed_covers}
 use Rattle.cover_steps.specs.Steps as steps
 use Rattle.cover_steps.specs.Sound.{Sound, Fits}
 use Rattle.cover_steps.proofs.Keeping.{Sound-opened, Sound-holding, Sound-marked, Sound-booked, Sound-with_rows}
 use Rattle.cover_steps.proofs.Fitting.{Fits-follows}
-use Rattle.cover_steps.proofs.Found.{IsEntry, drawable-entry}
+use Rattle.cover_steps.proofs.Found.{drawable-entry}
 use Rattle.cover_steps.proofs.Exact.{listed_covers-exact}
 use Rattle.cover_core.specs.EndedRows.{ended}
 use Rattle.cover_core.specs.Kept.{IsBook}
-use Rattle.cover_core.specs.NewLists.{AreLeast, AreParts}
+use Rattle.cover_core.specs.NewLists.{AreLeast}
 use Rattle.cover_core.specs.Replies.{reply_of_mark, reply_of_release}
 use Rattle.cover_core.specs.declared.answers.Release.{Release}
 use Rattle.cover_core.specs.declared.answers.Release.TheVariants as releases

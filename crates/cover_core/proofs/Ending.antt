@@ -1,7 +1,7 @@
 -- Which rows are live after a batch, and what the witnesses that are left leave.
-use Rattle.std.proofs.Common.{inl, inr, ◌≡◌, ◌≢◌, ◌⊎◌, ℕ, zero, suc, ◌+◌, ◌<◌, ◌≤◌, eqb, Bool, true, false, cond, not, ◌&&◌, ◌||◌, refl, sym, ap, ap₂, ◌∙◌, subst, arith, List, [], ◌∷◌, ◌++◌, length, get_or, take, map, Option, Some, None, Result, Ok, Err}
+use Rattle.std.proofs.Common.{inl, inr, ◌≡◌, ◌⊎◌, ℕ, ◌+◌, ◌<◌, eqb, Bool, true, false, cond, not, ◌&&◌, ◌||◌, refl, sym, ap, ap₂, ◌∙◌, subst, arith, List, [], ◌∷◌, ◌++◌, length, get_or, take, Some, None, Result, Ok, Err}
 use Rattle.std.specs.List.{All, filter, list_any}
-use Rattle.std.proofs.lemmas.Bool.{true≢false, false≢true, eqb-true, eq-eqb, ne_eqb, and_parts, cases_eq, false_from_ne_true}
+use Rattle.std.proofs.lemmas.Bool.{true≢false, eq-eqb, ne_eqb, and_parts, cases_eq, false_from_ne_true}
 use Rattle.std.proofs.lemmas.List.{append-nil, length-append, take_more}
 use Rattle.col_set.specs.declared.target.Target.{Target}
 use Rattle.col_set.specs.ColSet.{subset}
@@ -10,7 +10,7 @@ use Rattle.col_set.specs.Evidence.{refuted, least}
 use Rattle.col_set.specs.Lists.{Listed, Listed-append_left, Listed-append_right, Listed-append_cases, Listed-filter, Listed-filter_parts, Listed-map, Listed-map_which, filter_same, list_any_at, list_any_which}
 use Rattle.col_set.proofs.Least.{IsLeast-listed}
 use Rattle.col_set.proofs.More.{least_of_same}
-use Rattle.col_set.proofs.Places.{Listed-contained, Contains-listed}
+use Rattle.col_set.proofs.Places.{Listed-contained}
 use Rattle.rel_base.specs.declared.batch.Op.{Op}
 use Rattle.rel_base.specs.declared.batch.Op.TheVariants.{Insert, Delete, Update}
 use Rattle.rel_base.specs.declared.why.Why.{Why}

@@ -1,7 +1,7 @@
 -- Why `finish` ends: each turn marks a candidate that was unfinished, or books an agree set that there was not.
-use Rattle.std.proofs.Common.{inl, inr, ◌≡◌, ◌≢◌, ◌⊎◌, ℕ, zero, suc, ◌+◌, ◌-◌, ◌*◌, ◌<◌, ◌≤◌, max, eqb, ltb, Bool, true, false, cond, not, ◌&&◌, refl, sym, ap, ap₂, ◌∙◌, subst, arith, List, [], ◌∷◌, ◌++◌, length, map}
-use Rattle.std.specs.List.{count_by, sum_by, filter, flat_map}
-use Rattle.std.proofs.lemmas.Bool.{true≢false, eqb-true, eq-eqb, lt-ltb, le-ltb, ltb-true, cases_lt}
+use Rattle.std.proofs.Common.{inl, inr, ◌≡◌, ℕ, suc, ◌+◌, ◌-◌, ◌*◌, ◌<◌, ◌≤◌, max, eqb, ltb, Bool, true, false, cond, not, ◌&&◌, refl, sym, ap, ◌∙◌, subst, arith, List, [], ◌∷◌, length, map}
+use Rattle.std.specs.List.{count_by, sum_by, filter}
+use Rattle.std.proofs.lemmas.Bool.{eq-eqb, lt-ltb, le-ltb}
 use Rattle.std.proofs.lemmas.List.Sums.{sum_by-append, count_by-le-length, length-filter}
 use Rattle.std.proofs.Math.Nat.{suc-mul}
 use Rattle.col_set.specs.declared.target.Target.{Target}
@@ -14,7 +14,7 @@ use Rattle.col_set.specs.Lists.{Listed}
 use Rattle.rel_base.specs.RowState.{RowState, width, next}
 use Rattle.rel_base.specs.Validity.{agree_sets}
 use Rattle.candidate_cover.specs.declared.cand.Cand.{Cand}
-use Rattle.candidate_cover.specs.Cands.{lefts, marked, holding}
+use Rattle.candidate_cover.specs.Cands.{marked, holding}
 use Rattle.cover_steps.specs.Core.{Core, targets, cands, is_unfinished, with_cands}
 use Rattle.negative_cover.specs.Witnesses.{sets_of}
 use Rattle.cover_steps.specs.Sound.{Sound}

@@ -1,7 +1,7 @@
 -- Whether an agree set refutes a candidate, target by target.
-use Rattle.std.proofs.Common.{inl, inr, ◌≡◌, ◌⊎◌, ℕ, ◌<◌, Bool, true, false, not, ◌&&◌, ◌||◌, ◌≤◌, cond, refl, sym, ap, ◌∙◌, subst, arith, List, [], ◌∷◌, map, Some}
+use Rattle.std.proofs.Common.{◌≡◌, ℕ, ◌<◌, Bool, true, false, not, ◌&&◌, ◌||◌, ◌≤◌, cond, refl, sym, ap, ◌∙◌, arith, List, [], ◌∷◌, map, Some}
 use Rattle.std.specs.Prelude.{is_some}
-use Rattle.std.specs.List.{find, list_any, flat_map}
+use Rattle.std.specs.List.{find, list_any}
 use Rattle.std.proofs.lemmas.Bool.{true≢false, false_from_ne_true}
 use Rattle.col_set.specs.declared.target.Target.{Target}
 use Rattle.col_set.specs.declared.target.Target.TheVariants.{Col, RowId}

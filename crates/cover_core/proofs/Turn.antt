@@ -1,6 +1,5 @@
 -- One turn of `finish`: the first unfinished candidate is validated, and its verdict is booked.
-use Rattle.std.proofs.Common.{inl, inr, ◌≡◌, ◌≢◌, ℕ, ◌+◌, ◌<◌, Bool, true, false, not, refl, sym, ap, ap₂, ◌∙◌, subst, arith, List, [], ◌∷◌, ◌++◌, length, length-append, Option, Some, None, Result, Ok, Err, IfOk, IsTrue, ◌↔◌}
-use Rattle.std.specs.List.{find}
+use Rattle.std.proofs.Common.{inl, inr, ◌≡◌, ℕ, ◌<◌, Bool, true, false, not, refl, sym, ap, ◌∙◌, subst, List, [], ◌∷◌, ◌++◌, length, length-append, Option, Some, None, Result, Ok, Err, IfOk, IsTrue, ◌↔◌}
 use Rattle.std.specs.Option.{is_some}
 use Rattle.std.proofs.lemmas.Bool.{true≢false, false≢true, eq-eqb}
 use Rattle.std.proofs.lemmas.List.{append_assoc, append-nil}
@@ -10,13 +9,12 @@ use Rattle.rel_base.specs.CodeTable.{CodeTable}
 use Rattle.rel_base.specs.JobParts.{JobParts}
 use Rattle.rel_base.specs.RowState.{RowState, next}
 use Rattle.rel_base.specs.Validity.{agree_of}
-use Rattle.rel_base.specs.Batches.{is_live}
 use Rattle.negative_cover.specs.declared.negative_cover.Witness.{Witness}
 use Rattle.candidate_cover.specs.declared.cand.Cand.{Cand}
 use Rattle.candidate_cover.specs.declared.cand.Marking.{Marking}
 use Rattle.candidate_cover.specs.declared.cand.Marking.TheVariants.{Marked, Dropped}
-use Rattle.candidate_cover.specs.Cands.{is_listed, marked}
-use Rattle.cover_steps.specs.Core.{Core, cands, entries_in, is_unfinished, first_unfinished, refutes_some, with_cands, witness_of, booked}
+use Rattle.candidate_cover.specs.Cands.{is_listed}
+use Rattle.cover_steps.specs.Core.{Core, cands, first_unfinished, refutes_some, witness_of}
 use Rattle.cover_steps.specs.Steps as steps
 use Rattle.cover_steps.specs.Sound.{Sound, Fits}
 use Rattle.cover_steps.proofs.Found.{IsEntry}
@@ -27,7 +25,6 @@ use Rattle.cover_core.specs.Work.{Extends, work}
 use Rattle.cover_core.specs.declared.answers.Refutation.{Refutation}
 use Rattle.cover_core.specs.declared.answers.Refutation.TheVariants.{Gone, Known, Booked}
 use Rattle.cover_core.proofs.Booking.{job_of, unfinished-entry, Fits-entry, IsFitting-entry, breach-live, breach-refutes, work-marked}
-use Rattle.cover_core.proofs.Calls
 use Rattle.cover_core.proofs.Measure.{work-booked}
 use Rattle.cover_core.proofs.Whole.{IsJobOf}
 

@@ -1,8 +1,7 @@
 -- All that a call ensures, from what its parts ensure.
-use Rattle.std.proofs.Common.{inl, inr, ◌≡◌, ◌≢◌, ℕ, ◌+◌, ◌<◌, ◌≤◌, max, Bool, true, false, cond, refl, sym, ap, ap₂, ◌∙◌, subst, List, [], ◌∷◌, ◌++◌, length, Option, Some, None, Ok}
+use Rattle.std.proofs.Common.{◌≡◌, ◌≢◌, ℕ, Bool, true, false, cond, sym, ap, ◌∙◌, subst, List, [], ◌∷◌, ◌++◌, length, Option, Some, None, Ok}
 use Rattle.std.specs.List.{All, find, list_any}
 use Rattle.col_set.specs.declared.target.Target.{Target}
-use Rattle.col_set.specs.declared.target.Target.TheVariants.{Col, RowId}
 use Rattle.col_set.specs.Target.{IsColumnTarget}
 use Rattle.rel_base.specs.declared.batch.Op.{Op}
 use Rattle.rel_base.specs.CodeTable.{CodeTable, IsCodeTable}
@@ -10,7 +9,7 @@ use Rattle.rel_base.specs.JobParts.{JobParts}
 use Rattle.rel_base.specs.RowState.{RowState, width, next}
 use Rattle.rel_base.specs.Validity.{agree_of}
 use Rattle.rel_base.specs.Shows.{Shows, holds_in}
-use Rattle.rel_base.specs.Batches.{is_live, after, insert_count, delete_count}
+use Rattle.rel_base.specs.Batches.{is_live, after}
 use Rattle.rel_base.specs.Laws.{IsAsWide}
 use Rattle.negative_cover.specs.declared.negative_cover.Witness.{Witness}
 use Rattle.negative_cover.specs.Witnesses.{sets_of, live_of}
@@ -21,10 +20,9 @@ use Rattle.candidate_cover.specs.Lists.{CandLists}
 use Rattle.candidate_cover.specs.Cands.{cands_of, with_list, is_listed, marked, holding}
 use Rattle.cover_steps.specs.Core.{Core, cands, entries_in, is_unfinished, is_drawable, first_unfinished, first_drawable, refutes_some, renewed, booked, with_rows}
 use Rattle.cover_steps.specs.Steps as steps
-use Rattle.cover_steps.specs.Sound.{Sound, Fits}
+use Rattle.cover_steps.specs.Sound.{Fits}
 use Rattle.cover_core.specs.EndedRows.{ended}
 use Rattle.cover_core.specs.Kept.{IsBook}
-use Rattle.cover_core.specs.NewLists.{AreParts}
 use Rattle.cover_core.specs.Replies.{reply_of_mark, reply_of_release}
 use Rattle.cover_core.specs.declared.answers.Release.{Release}
 use Rattle.cover_core.specs.declared.answers.Release.TheVariants as releases

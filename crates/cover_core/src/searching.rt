@@ -31,14 +31,24 @@ fn first_where<F: Fn(Cand) -> bool>(candidates: &CandidateCover, test: F) -> Opt
 pub(crate) fn first_unfinished(candidates: &CandidateCover, next: RowNo) -> Option<(Target, Cand)>
     ensures { result ≡ find (λ e. is_unfinished next e.1) (entries_in (width candidates.now) candidates.now) }
 {
-    first_where(candidates, |cand: Cand| -> bool ensures { result ≡ is_unfinished next cand } { cand.upto < next })
+    first_where(
+        candidates,
+        |cand: Cand| -> bool
+            ensures { result ≡ is_unfinished next cand }
+        { cand.upto < next },
+    )
 }
 
 // The first of them that is not held.
 pub(crate) fn first_drawable(candidates: &CandidateCover, next: RowNo) -> Option<(Target, Cand)>
     ensures { result ≡ find (λ e. is_drawable next e.1) (entries_in (width candidates.now) candidates.now) }
 {
-    first_where(candidates, |cand: Cand| -> bool ensures { result ≡ is_drawable next cand } { cand.upto < next && !cand.held })
+    first_where(
+        candidates,
+        |cand: Cand| -> bool
+            ensures { result ≡ is_drawable next cand }
+        { cand.upto < next && !cand.held },
+    )
 }
 
 // Whether an agree set refutes a candidate of a target.
@@ -50,7 +60,12 @@ pub(crate) fn is_refuted(candidates: &CandidateCover, target: Target, agree: Col
     let _count = candidates.columns();
     !agree.has_target(target)
         && candidates
-            .first(target, |cand: Cand| -> bool ensures { result ≡ subset cand.left agree } { cand.left.subset_of(agree) })
+            .first(
+                target,
+                |cand: Cand| -> bool
+                    ensures { result ≡ subset cand.left agree }
+                { cand.left.subset_of(agree) },
+            )
             .is_some()
 }
 

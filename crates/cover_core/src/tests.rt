@@ -1,14 +1,23 @@
 // The calls of the book on three small rows, and the covers that `finish` finds.
-ghost use Rattle.std.specs.Prelude.{◌≡◌, true, length};
+ghost use Rattle.std.specs.Prelude.{◌≡◌, ◌<◌, true, length, IfOk, IfSome, IsTrue, OnOk};
 ghost use Rattle.std.specs.List.{All};
 ghost use Rattle.rel_base.specs.Relation.{IsContent};
+ghost use Rattle.rel_base.specs.JobParts.{JobParts};
 ghost use Rattle.rel_base.specs.Laws.{IsAsWide};
+ghost use Rattle.rel_base.specs.Shows.{holds_in};
+ghost use Rattle.cover_steps.specs.Sound.{Fits};
+ghost use Rattle.validator.specs.Verdicts.{IsFitting};
 
-use crate::{Applying, Book, Draw, Refutation, Settling};
-use rel_base::{Batch, ColSet, Covers, Fd, Limits, Nulls, Op, Relation, Row, RowNo, Target, Why};
+use crate::{Applying, Book, Draw, Marking, Refutation, Release, Settling};
+use rel_base::{
+    Batch, ColSet, Covers, Fd, Job, Limits, Nulls, Op, Relation, Row, RowNo, Steps, Target, Why,
+};
 use std::alloc::{AllocError, Global};
+use std::marker::Brand;
 use std::process::Abort;
+use std::sync::ledger::{Blank, Ledger};
 use std::test::Fail;
+use validator::{Verdict, validate};
 
 // Whether these are a relation's names and rows.
 fn is_content(names: &Row, rows: &[Row]) -> bool
@@ -83,7 +92,9 @@ fn draw(book: &mut Book) -> Result<Draw, AllocError> {
 }
 
 // A refutation by two rows, once more where memory is wanting.
-fn refute(rt: &impl Abort, book: &mut Book, i: u32, j: u32) -> Result<Refutation, AllocError> {
+fn refute(rt: &impl Abort, book: &mut Book, i: u32, j: u32) -> Result<Refutation, AllocError>
+    ensures { (job : JobParts) → Fits book.old.rows job → Fits book.new.rows job }
+{
     assert!(rt; 0 < i && 0 < j);
     let (first, second) = (RowNo::of(i), RowNo::of(j));
     assert!(rt; first != second);
@@ -94,7 +105,9 @@ fn refute(rt: &impl Abort, book: &mut Book, i: u32, j: u32) -> Result<Refutation
 }
 
 // A batch, once more where memory is wanting.
-fn apply(rt: &impl Abort, book: &mut Book, batch: &Batch) -> Applying {
+fn apply(rt: &impl Abort, book: &mut Book, batch: &Batch) -> Applying
+    ensures { (job : JobParts) → Fits book.old.rows job → Fits book.new.rows job }
+{
     assert!(rt;
         are_as_wide(batch.ops(), book.rows().names().len()),
         "a row of another width"
@@ -109,6 +122,70 @@ fn apply(rt: &impl Abort, book: &mut Book, batch: &Batch) -> Applying {
         }
         answer => answer,
     }
+}
+
+// A job that is drawn.
+fn drawn(book: &mut Book) -> Result<Option<Job>, AllocError>
+    ensures { IfOk result (λ job. IfSome job (Fits book.new.rows)) }
+{
+    match book.draw()? {
+        Draw::Job(job) => Ok(Some(job)),
+        _ => Ok(None),
+    }
+}
+
+// Whether a job's dependency holds in its snapshot.
+fn is_valid<L: Ledger>(alloc: Global, job: &Job, blank: Blank) -> Result<bool, AllocError>
+    requires name { blank.name ≡ L.name }
+    requires parts { blank.parts ≡ L.parts }
+    requires some { 0 < L.parts }
+    requires fitting { IsFitting job.now }
+    ensures { IfOk result (λ valid. IsTrue valid → holds_in job.now.snapshot job.now.left job.now.target ≡ true) }
+{
+    let mut steps = Steps::<L>::none(blank);
+    match validate(alloc, job, &mut steps)? {
+        Verdict::Holds { .. } => Ok(true),
+        Verdict::Broken { .. } => Ok(false),
+    }
+}
+
+// Validates a job of which the dependency holds, and marks it.
+fn mark(rt: &impl Abort, alloc: Global, book: &mut Book, job: &Job) -> Result<Marking, AllocError>
+    requires { Fits book.old.rows job.now }
+    ensures { (other : JobParts) → Fits book.old.rows other → Fits book.new.rows other }
+{
+    let valid = is_valid::<Brand>(alloc, job, Blank::new(1))?;
+    assert!(rt; valid);
+    Ok(book.mark(job))
+}
+
+// Gives a job back.
+fn release(book: &mut Book, job: &Job) -> Release
+    requires { Fits book.old.rows job.now }
+    ensures { (other : JobParts) → Fits book.old.rows other → Fits book.new.rows other }
+{
+    book.release(job)
+}
+
+// A job drawn from three rows, delivered after its candidate went, after it came back, and again.
+fn deliver_late(
+    rt: &impl Abort,
+    alloc: Global,
+    book: &mut Book,
+    job: &Job,
+) -> Result<(), AllocError>
+    requires { Fits book.old.rows job.now }
+{
+    assert!(rt; insert(rt, alloc, book, b"9", b"x")?);
+    assert!(rt; refute(rt, book, 1, 4)? == Refutation::Booked);
+    assert!(rt; mark(rt, alloc, book, job)? == Marking::Dropped);
+    assert!(rt; release(book, job) == Release::Dropped);
+    assert!(rt; delete(rt, alloc, book, 4)?);
+    assert!(rt; mark(rt, alloc, book, job)? == Marking::Marked);
+    let again = job.again()?;
+    assert!(rt; mark(rt, alloc, book, &again)? == Marking::Marked);
+    assert!(rt; release(book, job) == Release::Released);
+    Ok(())
 }
 
 fn applied(inserted: u32, deleted: u32) -> Applying {
@@ -155,32 +232,108 @@ fn finish(book: &mut Book) -> Result<Covers, AllocError> {
     }
 }
 
+// Whether the next draw answers this job.
+fn draws(
+    book: &mut Book,
+    target: Target,
+    left: &[u8],
+    from: u32,
+    to: u32,
+) -> Result<bool, AllocError> {
+    let draw = draw(book)?;
+    Ok(is_job(&draw, target, columns(left), from, to))
+}
+
+// Whether the next draw answers that all unfinished candidates are held, with this one first.
+fn is_all_held(book: &mut Book, target: Target, left: &[u8]) -> Result<bool, AllocError> {
+    let draw = draw(book)?;
+    Ok(is_busy(&draw, target, columns(left)))
+}
+
+// Whether the covers are not there yet, with this candidate first.
+fn waits_for(book: &Book, target: Target, left: &[u8], number: u32) -> Result<bool, AllocError> {
+    let settling = book.settle()?;
+    Ok(is_not_yet(&settling, target, columns(left), number))
+}
+
+// Inserts a row of two cells, and tells whether the batch was applied.
+fn insert(
+    rt: &impl Abort,
+    alloc: Global,
+    book: &mut Book,
+    k: &[u8],
+    v: &[u8],
+) -> Result<bool, AllocError>
+    ensures { (job : JobParts) → Fits book.old.rows job → Fits book.new.rows job }
+{
+    let row = Row::copied(alloc, &[k, v])?;
+    let batch = Batch::of(vec![in alloc; Op::Insert(row)]?);
+    Ok(apply(rt, book, &batch) == applied(1, 0))
+}
+
+// Deletes a row, and tells whether the batch was applied.
+fn delete(rt: &impl Abort, alloc: Global, book: &mut Book, number: u32) -> Result<bool, AllocError>
+    requires { 0 < number }
+    ensures { (job : JobParts) → Fits book.old.rows job → Fits book.new.rows job }
+{
+    let batch = Batch::of(vec![in alloc; Op::Delete(RowNo::of(number))]?);
+    Ok(apply(rt, book, &batch) == applied(0, 1))
+}
+
+// Whether `finish` finds the key and the dependency of `letters`.
+fn finds_letters(book: &mut Book) -> Result<bool, AllocError> {
+    let fd = Fd {
+        left: columns(&[1]),
+        right: 0,
+    };
+    Ok(are_covers(&finish(book)?, &[columns(&[1])], &[fd]))
+}
+
+// Whether `finish` finds that both columns are the one key, and no dependency.
+fn finds_no_dependency(book: &mut Book) -> Result<bool, AllocError> {
+    Ok(are_covers(&finish(book)?, &[columns(&[0, 1])], &[]))
+}
+
+// Draws what is unfinished in three rows, and books what two pairs of them refute.
+fn draw_all(rt: &impl Abort, book: &mut Book) -> Result<(), AllocError> {
+    assert!(rt; draws(book, Target::RowId, &[], 1, 4)?);
+    assert!(rt; refute(rt, book, 1, 2)? == Refutation::Booked);
+    assert!(rt; draws(book, Target::RowId, &[1], 1, 4)?);
+    assert!(rt; refute(rt, book, 1, 3)? == Refutation::Booked);
+    assert!(rt; draws(book, Target::Col(0), &[1], 1, 4)?);
+    assert!(rt; is_all_held(book, Target::RowId, &[1])?);
+    Ok(())
+}
+
+// Deletes a row of a witness, and inserts another.
+fn change(rt: &impl Abort, alloc: Global, book: &mut Book) -> Result<(), AllocError> {
+    assert!(rt; delete(rt, alloc, book, 2)?);
+    assert!(rt; refute(rt, book, 1, 2)? == Refutation::Gone(RowNo::of(2)));
+    assert!(rt; waits_for(book, Target::RowId, &[0], 1)?);
+    assert!(rt; refute(rt, book, 1, 3)? == Refutation::Known);
+    assert!(rt; insert(rt, alloc, book, b"1", b"z")?);
+    assert!(rt; waits_for(book, Target::RowId, &[0], 1)?);
+    Ok(())
+}
+
 #[test]
 fn jobs_are_drawn_while_rows_refute_and_go(rt: HostRuntime) -> Result<(), Fail> {
     let alloc = rt.alloc();
     let mut book = letters(&rt, alloc)?;
-    assert!(rt; is_job(&draw(&mut book)?, Target::RowId, columns(&[]), 1, 4));
-    assert!(rt; refute(&rt, &mut book, 1, 2)? == Refutation::Booked);
-    assert!(rt; is_job(&draw(&mut book)?, Target::RowId, columns(&[1]), 1, 4));
-    assert!(rt; refute(&rt, &mut book, 1, 3)? == Refutation::Booked);
-    assert!(rt; is_job(&draw(&mut book)?, Target::Col(0), columns(&[1]), 1, 4));
-    assert!(rt; is_busy(&draw(&mut book)?, Target::RowId, columns(&[1])));
-    let batch = Batch::of(vec![in alloc; Op::Delete(RowNo::of(2))]?);
-    assert!(rt; apply(&rt, &mut book, &batch) == applied(0, 1));
-    assert!(rt; refute(&rt, &mut book, 1, 2)? == Refutation::Gone(RowNo::of(2)));
-    assert!(rt; is_not_yet(&book.settle()?, Target::RowId, columns(&[0]), 1));
-    assert!(rt; refute(&rt, &mut book, 1, 3)? == Refutation::Known);
-    let row = Row::copied(alloc, &[b"1", b"z"])?;
-    let batch = Batch::of(vec![in alloc; Op::Insert(row)]?);
-    assert!(rt; apply(&rt, &mut book, &batch) == applied(1, 0));
-    assert!(rt; is_not_yet(&book.settle()?, Target::RowId, columns(&[0]), 1));
-    let found = finish(&mut book)?;
-    assert!(rt; are_covers(&found, &[columns(&[0, 1])], &[]));
+    draw_all(&rt, &mut book)?;
+    change(&rt, alloc, &mut book)?;
+    assert!(rt; finds_no_dependency(&mut book)?);
     assert!(rt; book.settled());
-    match book.settle()? {
-        Settling::Ready(again) => assert!(rt; are_covers(&again, found.keys(), found.fds())),
-        Settling::NotYet { .. } => assert!(rt; false, "no covers after finish"),
-    }
+    assert!(rt; finds_no_dependency(&mut book)?);
+    Ok(())
+}
+
+// Draws what a new row left unfinished.
+fn draw_new(rt: &impl Abort, book: &mut Book) -> Result<(), AllocError> {
+    assert!(rt; !book.settled());
+    assert!(rt; draws(book, Target::RowId, &[1], 4, 5)?);
+    assert!(rt; draws(book, Target::Col(0), &[1], 4, 5)?);
+    assert!(rt; is_all_held(book, Target::RowId, &[1])?);
     Ok(())
 }
 
@@ -188,27 +341,21 @@ fn jobs_are_drawn_while_rows_refute_and_go(rt: HostRuntime) -> Result<(), Fail> 
 fn rows_that_come_after_finish_are_drawn(rt: HostRuntime) -> Result<(), Fail> {
     let alloc = rt.alloc();
     let mut book = letters(&rt, alloc)?;
-    let fd = Fd {
-        left: columns(&[1]),
-        right: 0,
-    };
-    assert!(rt; are_covers(&finish(&mut book)?, &[columns(&[1])], &[fd]));
-    let row = Row::copied(alloc, &[b"3", b"w"])?;
-    let batch = Batch::of(vec![in alloc; Op::Insert(row)]?);
-    assert!(rt; apply(&rt, &mut book, &batch) == applied(1, 0));
-    assert!(rt; !book.settled());
-    assert!(rt; is_job(&draw(&mut book)?, Target::RowId, columns(&[1]), 4, 5));
-    assert!(rt; is_job(&draw(&mut book)?, Target::Col(0), columns(&[1]), 4, 5));
-    assert!(rt; is_busy(&draw(&mut book)?, Target::RowId, columns(&[1])));
-    assert!(rt; are_covers(&finish(&mut book)?, &[columns(&[1])], &[fd]));
-    // A row that has v in common with another.
-    let row = Row::copied(alloc, &[b"4", b"w"])?;
-    let batch = Batch::of(vec![in alloc; Op::Insert(row)]?);
-    assert!(rt; apply(&rt, &mut book, &batch) == applied(1, 0));
-    assert!(rt; are_covers(&finish(&mut book)?, &[columns(&[0, 1])], &[]));
-    let batch = Batch::of(vec![in alloc; Op::Delete(RowNo::of(5))]?);
-    assert!(rt; apply(&rt, &mut book, &batch) == applied(0, 1));
-    assert!(rt; are_covers(&finish(&mut book)?, &[columns(&[1])], &[fd]));
+    assert!(rt; finds_letters(&mut book)?);
+    assert!(rt; insert(&rt, alloc, &mut book, b"3", b"w")?);
+    draw_new(&rt, &mut book)?;
+    assert!(rt; finds_letters(&mut book)?);
+    Ok(())
+}
+
+#[test]
+fn covers_follow_the_rows(rt: HostRuntime) -> Result<(), Fail> {
+    let alloc = rt.alloc();
+    let mut book = letters(&rt, alloc)?;
+    assert!(rt; insert(&rt, alloc, &mut book, b"4", b"x")?);
+    assert!(rt; finds_no_dependency(&mut book)?);
+    assert!(rt; delete(&rt, alloc, &mut book, 4)?);
+    assert!(rt; finds_letters(&mut book)?);
     Ok(())
 }
 
@@ -233,7 +380,10 @@ fn a_refused_batch_leaves_the_book_as_it_was(rt: HostRuntime) -> Result<(), Fail
 #[test]
 fn null_is_read_as_asked_for(rt: HostRuntime) -> Result<(), Fail> {
     let alloc = rt.alloc();
-    for (nulls, keys) in [(Nulls::Equal, columns(&[1])), (Nulls::Distinct, columns(&[0]))] {
+    for (nulls, keys) in [
+        (Nulls::Equal, columns(&[1])),
+        (Nulls::Distinct, columns(&[0])),
+    ] {
         let names = Row::copied(alloc, &[b"a", b"b"])?;
         let mut rows = Vec::with_capacity(alloc, 2)?;
         for b in [b"1", b"2"] {
@@ -245,5 +395,24 @@ fn null_is_read_as_asked_for(rt: HostRuntime) -> Result<(), Fail> {
         let found = finish(&mut book)?;
         assert!(rt; found.keys().first() == Some(&keys));
     }
+    Ok(())
+}
+
+#[test]
+fn late_jobs_are_dropped_or_marked(rt: HostRuntime) -> Result<(), Fail> {
+    let alloc = rt.alloc();
+    let mut book = letters(&rt, alloc)?;
+    assert!(rt; refute(&rt, &mut book, 1, 2)? == Refutation::Booked);
+    match drawn(&mut book)? {
+        Some(job) => {
+            assert!(rt; job.target() == Target::RowId && job.left() == columns(&[1]));
+            assert!(rt; job.from().number() == 1 && job.to().number() == 4);
+            deliver_late(&rt, alloc, &mut book, &job)?;
+        }
+        None => assert!(rt; false, "no job"),
+    }
+    assert!(rt; waits_for(&book, Target::RowId, &[1], 4)?);
+    assert!(rt; refute(&rt, &mut book, 4, 1)? == Refutation::Gone(RowNo::of(4)));
+    assert!(rt; finds_letters(&mut book)?);
     Ok(())
 }

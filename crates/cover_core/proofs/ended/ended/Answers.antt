@@ -1,4 +1,4 @@
-use Rattle.std.proofs.Common.{◌≡◌, sym, ◌∙◌}
+use Rattle.std.proofs.Common.{sym, ◌∙◌}
 use Rattle.cover_core.proofs.Ending.{ended-more_row, ended-more_none}
 use Rattle.cover_core.proofs.ended.ended.Goals as goal
 use Rattle.cover_core.proofs.ended.ended.Goals.{in-Some+in_ok-push, in_default}

@@ -1,4 +1,4 @@
-use Rattle.std.proofs.Common.{◌≡◌, sym, ◌∙◌, arith}
+use Rattle.std.proofs.Common.{sym, ◌∙◌, arith}
 use Rattle.candidate_cover.specs.Cands.{width}
 use Rattle.cover_steps.proofs.Renewing.{renewed_list-same}
 use Rattle.cover_core.proofs.Ending.{least-idle}

@@ -1,4 +1,4 @@
-use Rattle.std.proofs.Common.{◌≡◌, ◌<◌, arith}
+use Rattle.std.proofs.Common.{◌<◌, arith}
 use Rattle.col_set.specs.declared.target.Target.TheVariants.{Col, RowId}
 use Rattle.candidate_cover.specs.Cands.{width}
 use Rattle.cover_core.proofs.Putting.{ArePartsSoFar-first, ArePartsSoFar-more, ArePartsSoFar-whole}

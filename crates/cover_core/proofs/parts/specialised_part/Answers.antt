@@ -1,4 +1,4 @@
-use Rattle.std.proofs.Common.{◌≡◌, not, ◌&&◌, sym, ◌∙◌}
+use Rattle.std.proofs.Common.{not, ◌&&◌, sym, ◌∙◌}
 use Rattle.col_set.specs.ColSet.{subset}
 use Rattle.col_set.specs.Target.{has_target}
 use Rattle.candidate_cover.specs.Cands.{cands_of, width}

@@ -1,6 +1,5 @@
-use Rattle.std.proofs.Common.{◌≡◌, ◌∙◌, ap}
+use Rattle.std.proofs.Common.{◌∙◌}
 use Rattle.candidate_cover.specs.Cands.{width}
-use Rattle.negative_cover.specs.Witnesses.{sets_of, live_of, dead_of}
 use Rattle.cover_core.proofs.Calls.{AreLeast-parted}
 use Rattle.cover_core.proofs.renewal.renewed_after.Goals as goal
 

@@ -1,4 +1,3 @@
-use Rattle.candidate_cover.specs.declared.cand.Cand.{Cand}
 use Rattle.cover_steps.specs.Core.{is_unfinished}
 use Rattle.cover_core.proofs.searching.first_unfinished.Goals as goal
 

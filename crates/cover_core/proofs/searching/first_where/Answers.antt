@@ -1,4 +1,4 @@
-use Rattle.std.proofs.Common.{◌≡◌, ℕ, ◌<◌, ◌∙◌, sym, arith, length, below_more}
+use Rattle.std.proofs.Common.{◌<◌, ◌∙◌, sym, arith, length, below_more}
 use Rattle.cover_core.proofs.FirstFound.{find-none, find-row_id, find-column}
 use Rattle.cover_core.proofs.searching.first_where.Goals as goal
 

@@ -1,4 +1,4 @@
-use Rattle.std.proofs.Common.{◌≡◌, ℕ, ◌<◌, ◌∙◌, sym, arith, length, below_more}
+use Rattle.std.proofs.Common.{◌<◌, ◌∙◌, sym, arith, length, below_more}
 use Rattle.col_set.specs.declared.target.Target.TheVariants.{Col, RowId}
 use Rattle.cover_core.proofs.Refuting.{refuted-some, refuted-none_by}
 use Rattle.cover_core.proofs.searching.refutes_some.Goals as goal

@@ -1,6 +1,4 @@
-use Rattle.std.proofs.Common.{◌≡◌, ◌∙◌, ◌<◌, refl, sym, subst, arith, Some, None}
-use Rattle.rel_base.specs.JobParts.{JobParts}
-use Rattle.cover_steps.specs.Core.{Core, first_unfinished}
+use Rattle.std.proofs.Common.{◌∙◌, refl, sym, subst, arith}
 use Rattle.cover_steps.specs.Sound.{Sound}
 use Rattle.validator.specs.Verdicts.{IsVerdict}
 use Rattle.cover_core.proofs.Turn.{Advances, turn-fitting, turn-fits, turn-marked, turn-booked}
@@ -36,7 +34,7 @@ turn c =
           (turn-marked _ _ _ c.self.invariant.0 c.self.view_is c.in-Some.target c.in-Some.cand (unfinished-found _ _ _ c.self.invariant.0 c.self.view_is c.next-next.result c.first_unfinished.result _ c.next-next.ensures.value c.first_unfinished.ensures c.in-Some.is) c.next-next.result c.next-next.ensures.value c.of-job.result same w.mark.result w.mark.new.self w.mark.ensures.step)
       | in-Broken+in_ok-refute-in-Broken w ↦ subst (Advances c.args.self.now) (sym w.self-is)
           (turn-booked _ _ _ c.self.invariant.0 c.self.view_is c.in-Some.target c.in-Some.cand (unfinished-found _ _ _ c.self.invariant.0 c.self.view_is c.next-next.result c.first_unfinished.result _ c.next-next.ensures.value c.first_unfinished.ensures c.in-Some.is) c.next-next.result c.next-next.ensures.value c.of-job.result same w.in-Broken.i w.in-Broken.j
-            (subst (IsVerdict c.of-job.result) w.in-Broken.is c.in_ok-verdict_on.ensures.verdict) w.in_ok-refute-in-Broken.field-0 w.refute.new.self w.refute.ensures.sound w.in_ok-refute-in-Broken.ensures.step)
+          (subst (IsVerdict c.of-job.result) w.in-Broken.is c.in_ok-verdict_on.ensures.verdict) w.in_ok-refute-in-Broken.field-0 w.refute.new.self w.refute.ensures.sound w.in_ok-refute-in-Broken.ensures.step)
     ]
 
 pub returns-clause-less : goal.returns-clause-less

@@ -1,4 +1,4 @@
-use Rattle.std.proofs.Common.{◌≡◌, ◌∙◌, sym, ap, subst, refl, List, ℕ}
+use Rattle.std.proofs.Common.{◌∙◌, sym, ap, subst, List, ℕ}
 use Rattle.rel_base.specs.Batches.{after}
 use Rattle.negative_cover.specs.Witnesses.{live_of}
 use Rattle.row_log.specs.declared.applying.Applying.{Applying}

@@ -1,4 +1,4 @@
-use Rattle.std.proofs.Common.{◌≡◌, ◌∙◌, ap}
+use Rattle.std.proofs.Common.{◌∙◌, ap}
 use Rattle.rel_base.specs.Covers.{covers}
 use Rattle.cover_steps.specs.Core.{Core, first_unfinished}
 use Rattle.cover_core.proofs.Calls.{listed-is, listed-exact}

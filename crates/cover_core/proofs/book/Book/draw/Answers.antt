@@ -1,5 +1,4 @@
-use Rattle.std.proofs.Common.{◌≡◌, ◌∙◌, sym, refl, subst}
-use Rattle.rel_base.specs.JobParts.{JobParts}
+use Rattle.std.proofs.Common.{◌∙◌, sym, refl, subst}
 use Rattle.cover_steps.specs.Steps as steps
 use Rattle.cover_core.specs.Replies.{reply_of_draw}
 use Rattle.cover_core.specs.declared.answers.Draw.{Draw}

@@ -1,4 +1,3 @@
-use Rattle.std.proofs.Common.{◌≡◌, sym, subst}
 use Rattle.std.proofs.lemmas.Bool.{OnTrue_at}
 use Rattle.cover_core.proofs.Turn.{IsTurned, IsTurned-none, IsTurned-more, IsTurned-fits}
 use Rattle.cover_core.proofs.book.Book.finish.Goals as goal

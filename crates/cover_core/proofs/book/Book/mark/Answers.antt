@@ -1,4 +1,3 @@
-use Rattle.std.proofs.Common.{◌≡◌}
 use Rattle.cover_core.proofs.Whole.{MarkAll, mark-all}
 use Rattle.cover_core.proofs.book.Book.mark.Goals as goal
 use Rattle.cover_core.proofs.book.Book.mark.Goals.{After-mark}

@@ -1,4 +1,4 @@
-use Rattle.std.proofs.Common.{◌≡◌, ◌∙◌, sym, refl}
+use Rattle.std.proofs.Common.{refl}
 use Rattle.negative_cover.specs.Witnesses.{sets_of}
 use Rattle.cover_core.proofs.Calls.{are_least}
 use Rattle.cover_core.proofs.Whole.{RefuteAll, refute-all, refutes-found, live-found}
