@@ -20,12 +20,12 @@ use Rattle.candidate_cover.proofs.Evidence.{stands_before, stands_after, HasLeas
 
 -- ---- columns outside a set
 -- a column of y that z has not
-record Outside (y z : ℕ) : Type 0 where
+pub record Outside (y z : ℕ) : Type 0 where
   pub column : ℕ
   pub inside : has y column ≡ true
   pub out : has z column ≡ false
 
-outside_of : (n y z : ℕ) → y < 2 ^ n → subset y z ≡ false → Outside y z
+pub outside_of : (n y z : ℕ) → y < 2 ^ n → subset y z ≡ false → Outside y z
 outside_of n y z b e = elim (cases_Bool (list_any (λ k. has y k && not (has z k)) (upto n))) as (λ _. Outside y z) [
   | inl some ↦ let w = list_any_which (λ k. has y k && not (has z k)) (upto n) some in let q = and_parts (has y w.0) (not (has z w.0)) w.2 in record { column = w.0; inside = q.0; out = not-true _ q.1 }
   | inr none ↦ absurd (true≢false (sym (true-subset (record { each = λ k h. each k h none })) ∙ e))

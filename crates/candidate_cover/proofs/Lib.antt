@@ -1,3 +1,4 @@
+pub mod Drafting
 pub mod Evidence
 pub mod Growing
 pub mod Exploring

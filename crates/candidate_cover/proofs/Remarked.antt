@@ -70,7 +70,7 @@ untouched g (p ∷ ps) x e = let w = or_parts (eqb p.0 x) (is_key ps x) e in
     ap₂ (λ (c : Cand) (cs : List Cand). c ∷ cs) (ap (λ b. if b then g (cand p) else cand p) (sym w.0)) (untouched g ps x w.1)
 
 -- ---- one target's list
-map-set : {X Y : Type 0} (f : X → Y) (xs : List X) (i : ℕ) (x : X) → map f (set xs i x) ≡ set (map f xs) i (f x)
+pub map-set : {X Y : Type 0} (f : X → Y) (xs : List X) (i : ℕ) (x : X) → map f (set xs i x) ≡ set (map f xs) i (f x)
 map-set f [] i x = refl
 map-set f (y ∷ xs) zero x = refl
 map-set f (y ∷ xs) (suc i) x = ap (λ ys. f y ∷ ys) (map-set f xs i x)

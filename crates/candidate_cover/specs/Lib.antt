@@ -1,4 +1,5 @@
 pub mod Cands
+pub mod Drafts
 pub mod Growth
 pub mod Lists
 pub mod Marks

@@ -4,6 +4,7 @@
 
 mod cand;
 mod candidate_cover;
+mod draft;
 mod explore;
 mod growth;
 mod part;
@@ -12,4 +13,5 @@ mod tests;
 
 pub use cand::{Cand, Marking};
 pub use candidate_cover::CandidateCover;
+pub use draft::Draft;
 pub use part::Part;

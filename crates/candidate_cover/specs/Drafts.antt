@@ -1,0 +1,43 @@
+-- What many agree sets leave, while they come in one after another.
+use Rattle.std.specs.Prelude.{◌≡◌, ◌<◌, ◌≤◌, ℕ, Bool, true, not, ◌&&◌, ◌||◌, List, [], ◌∷◌, ◌++◌, map, length, slice_index_or}
+use Rattle.std.specs.List.{list_any}
+use Rattle.std.specs.Prelude.{Vec}
+use Rattle.std.specs.declared.alloc.Global.{Global}
+use Rattle.col_set.specs.declared.target.Target.{Target}
+use Rattle.col_set.specs.declared.target.Target.TheVariants.{Col, RowId}
+use Rattle.col_set.specs.ColSet.{Columns, has, upto}
+use Rattle.col_set.specs.Target.{IsColumnTarget}
+use Rattle.col_set.specs.Evidence.{refuted, least}
+use Rattle.candidate_cover.specs.Lists.{CandLists}
+use Rattle.candidate_cover.specs.Cands.{cands_of, lefts, width}
+use Rattle.candidate_cover.specs.Growth.{choices, ListsLeast}
+
+-- the agree sets that came in so far, and how many columns there are
+pub record Drafted : Type 0 where
+  pub width : ℕ
+  pub agree_sets : List Columns
+
+-- Whether a further agree set refutes what none of the list does: there is a target that it lacks, and none of the list that
+-- lacks the target contains it.
+unfoldable pub is_news : ℕ → List Columns → Columns → Bool
+is_news n ws z = not (refuted ws RowId z) || list_any (λ a. not (has z a) && not (refuted ws (Col a) z)) (upto n)
+
+-- for each target of n columns the candidates are what these agree sets leave
+pub record AreLeast (n : ℕ) (ws : List Columns) (c : CandLists) : Type 0 where
+  pub each : (t : Target) → IsColumnTarget n t → lefts (cands_of c t) ≡ least n ws t
+
+-- the lists have what these agree sets leave for each target, in no order
+pub record AreDrafted (n : ℕ) (ws : List Columns) (rows : List Columns) (columns : List (List Columns)) : Type 0 where
+  pub rows_least : ListsLeast (choices n RowId) ws RowId rows
+  pub count : length columns ≡ n
+  pub each : (a : ℕ) → a < n → ListsLeast (choices n (Col a)) ws (Col a) (slice_index_or columns a [])
+
+-- the lists that vectors hold
+abbrev pub lists_behind : List (Vec Columns Global) → List (List Columns)
+lists_behind lists = map (λ list. list.items) lists
+
+-- Each list of a column below the count is made for a further agree set, where it may be known already for the columns of a set.
+pub record AreGrown (count : ℕ) (known z : Columns) (old new : List (List Columns)) : Type 0 where
+  pub as_many : length new ≡ length old
+  pub each : (a : ℕ) (ws : List Columns) → a < length old → (has known a ≡ true → refuted ws (Col a) z ≡ true)
+      → ListsLeast (choices count (Col a)) ws (Col a) (slice_index_or old a []) → ListsLeast (choices count (Col a)) (ws ++ z ∷ []) (Col a) (slice_index_or new a [])

@@ -1,0 +1,169 @@
+// Candidates while many agree sets come in, one after another.
+ghost use Rattle.std.specs.Prelude.{◌≡◌, ◌≤◌, ◌<◌, ◌^◌, ◌∷◌, [], ◌++◌, ℕ, List, true, false, length, map, IfOk, OnOk};
+ghost use Rattle.col_set.specs.ColSet.{has};
+ghost use Rattle.col_set.specs.Target.{IsColumnTarget, has_target};
+ghost use Rattle.col_set.specs.declared.target.Target.TheVariants.{Col, RowId};
+ghost use Rattle.col_set.specs.Evidence.{refuted};
+ghost use Rattle.candidate_cover.specs.Growth as words;
+ghost use Rattle.candidate_cover.specs.Growth.{ListsLeast};
+ghost use Rattle.candidate_cover.specs.Drafts as drafts;
+ghost use Rattle.candidate_cover.specs.Drafts.{Drafted, AreGrown, lists_behind};
+
+use crate::growth::{choices, grown, inside, near};
+use rel_base::{ColSet, Target};
+use std::alloc::{AllocError, Global};
+use std::marker::Model;
+
+/// What many agree sets leave for all targets, while they come in one after another: the left sides alone, in no order.
+///
+/// A new agree set changes the lists of those targets alone of which it refutes a candidate, in place, so that thousands of
+/// them cost little more than looking at the candidates that they refute. Contracts see the agree sets that came in. A set
+/// takes 16 bytes.
+#[derive(Drop)]
+pub struct Draft {
+    rows: Vec<ColSet>,
+    columns: Vec<Vec<ColSet>>,
+    agree_sets: Vec<ColSet>,
+}
+
+impl Model for Draft {
+    ghost use Rattle.std.specs.Prelude.{◌≤◌, length};
+    ghost use Rattle.candidate_cover.specs.Drafts.{Drafted, AreDrafted, lists_behind};
+
+    ghost Value = { Drafted };
+
+    ghost view = { λ d. record { width = length d.columns.items; agree_sets = d.agree_sets.items } };
+
+    ghost invariant = { λ d. AreDrafted (length d.columns.items) d.agree_sets.items d.rows.items (lists_behind d.columns.items) × (length d.columns.items ≤ 128) };
+}
+
+impl Draft {
+    /// Whether a further agree set is news: for some target that it lacks, none of those that came in and lack the target
+    /// contains it. It takes a step an agree set, and no memory.
+    pub fn is_news(&self, z: ColSet) -> bool
+        ensures { result ≡ drafts.is_news self.now.width self.now.agree_sets z }
+    {
+        let columns = self.columns.len() as u8;
+        let known = known_by(self.agree_sets.as_slice(), columns, z);
+        !known.rows || !ColSet::all(columns).minus(z).subset_of(known.columns)
+    }
+
+    /// The draft with a further agree set.
+    ///
+    /// Of each target for which it is news, the candidates inside it give way to their extensions by one column outside it
+    /// (Papenbrock and Naumann, 2016), which takes a pass over the target's candidates.
+    pub fn grown(self, alloc: Global, z: ColSet) -> Result<Draft, AllocError>
+        ensures { IfOk result (λ draft. draft ≡ record { width = self.width; agree_sets = self.agree_sets ++ z ∷ [] }) }
+    {
+        let Draft {
+            mut rows,
+            mut columns,
+            mut agree_sets,
+        } = self;
+        let count = columns.len() as u8;
+        let known = known_by(agree_sets.as_slice(), count, z);
+        grow_unless(alloc, known.rows, count, Target::RowId, &mut rows, z)?;
+        grow_columns(alloc, known.columns, count, &mut columns, z)?;
+        agree_sets.push(z)?;
+        Ok(Draft {
+            rows,
+            columns,
+            agree_sets,
+        })
+    }
+}
+
+// For which targets an agree set that lacks them contains a set.
+#[derive(Clone, Copy)]
+struct Known {
+    rows: bool,
+    columns: ColSet,
+}
+
+// For which of the targets one of these agree sets that lacks the target contains z.
+fn known_by(agree_sets: &[ColSet], columns: u8, z: ColSet) -> Known
+    requires { columns ≤ 128 }
+    ensures rows { result.rows ≡ refuted agree_sets.now RowId z }
+    ensures columns { (a : ℕ) → a < columns → has result.columns a ≡ refuted agree_sets.now (Col a) z }
+{
+    let all = ColSet::all(columns);
+    let mut rows = false;
+    let mut lacking = ColSet::empty();
+    for w in agree_sets {
+        if z.subset_of(*w) {
+            rows = true;
+            lacking = lacking.union(all.minus(*w));
+        }
+    }
+    Known {
+        rows,
+        columns: lacking,
+    }
+}
+
+// The least sets among the choices after a further agree set z that lacks the target.
+fn grow_past(
+    alloc: Global,
+    columns: u8,
+    target: Target,
+    sets: &mut Vec<ColSet>,
+    z: ColSet,
+) -> Result<(), AllocError>
+    requires columns { columns ≤ 128 }
+    requires target { IsColumnTarget columns target }
+    requires apart { has_target z target ≡ false }
+    ensures { OnOk result ((ws : List ℕ) → ListsLeast (words.choices columns target) ws target sets.old.items → ListsLeast (words.choices columns target) (ws ++ z ∷ []) target sets.new.items) }
+{
+    let inner = inside(alloc, z, sets.as_slice())?;
+    sets.retain(|x| !x.subset_of(z));
+    let nearby = near(alloc, z, sets.as_slice())?;
+    let choices = choices(columns, target);
+    let more = grown(
+        alloc,
+        columns,
+        choices,
+        z,
+        inner.as_slice(),
+        nearby.as_slice(),
+    )?;
+    sets.extend_from_slice(more.as_slice())?;
+    Ok(())
+}
+
+// The same, where an agree set that lacks the target may be known to contain z, or z may have the target.
+fn grow_unless(
+    alloc: Global,
+    known: bool,
+    columns: u8,
+    target: Target,
+    sets: &mut Vec<ColSet>,
+    z: ColSet,
+) -> Result<(), AllocError>
+    requires columns { columns ≤ 128 }
+    requires target { IsColumnTarget columns target }
+    ensures { OnOk result ((ws : List ℕ) → (known ≡ true → refuted ws target z ≡ true) → ListsLeast (words.choices columns target) ws target sets.old.items → ListsLeast (words.choices columns target) (ws ++ z ∷ []) target sets.new.items) }
+{
+    if known || z.has_target(target) {
+        return Ok(());
+    }
+    grow_past(alloc, columns, target, sets, z)
+}
+
+// The same for the lists of all columns.
+fn grow_columns(
+    alloc: Global,
+    known: ColSet,
+    count: u8,
+    columns: &mut Vec<Vec<ColSet>>,
+    z: ColSet,
+) -> Result<(), AllocError>
+    requires bound { count ≤ 128 }
+    requires count { length columns.old.items ≡ count }
+    ensures { OnOk result (AreGrown count known z (lists_behind columns.old.items) (lists_behind columns.new.items)) }
+{
+    for column in 0..count {
+        let sets = &mut columns[column as usize];
+        grow_unless(alloc, known.has(column), count, Target::Col(column), sets, z)?;
+    }
+    Ok(())
+}
