@@ -1,23 +1,23 @@
 -- Agree sets that come into a draft.
-use Rattle.std.proofs.Common.{inl, inr, ◌≡◌, ◌⊎◌, ℕ, ◌+◌, ◌^◌, ◌<◌, ◌≤◌, Bool, true, false, not, ◌&&◌, ◌||◌, ltb, refl, sym, ap, ◌∙◌, subst, List, [], ◌∷◌, ◌++◌, length, get_or, set, take, arith, Vec}
+use Rattle.std.proofs.Common.{inl, inr, ◌≡◌, ◌⊎◌, ℕ, ◌+◌, ◌^◌, ◌<◌, ◌≤◌, Bool, true, false, not, ◌&&◌, ◌||◌, refl, sym, ap, ◌∙◌, subst, List, [], ◌∷◌, ◌++◌, length, get_or, set, take, arith, Vec}
 use Rattle.std.specs.List.{list_any}
 use Rattle.std.specs.declared.alloc.Global.{Global}
-use Rattle.std.proofs.lemmas.Bool.{true≢false, false≢true, and_parts, and_from, or_cases, or_left, or_right, not_from_false, not-true, false_from_ne_true, cases_Bool, cases_lt, lt-ltb, ltb-true}
-use Rattle.std.proofs.lemmas.List.{take_more, take_all, length-set, get_or-set_same, get_or-set_other}
+use Rattle.std.proofs.lemmas.Bool.{true≢false, and_parts, and_from, or_right, not_from_false, not-true, cases_lt, lt-ltb, ltb-true}
+use Rattle.std.proofs.lemmas.List.{take_all, length-set, get_or-set_same, get_or-set_other}
 use Rattle.col_set.specs.declared.target.Target.{Target}
 use Rattle.col_set.specs.declared.target.Target.TheVariants.{Col, RowId}
 use Rattle.col_set.specs.ColSet.{IsSubset, has, all, minus, union, subset, upto}
 use Rattle.col_set.specs.Target.{has_target}
 use Rattle.col_set.specs.Evidence.{refuted}
 use Rattle.col_set.specs.Members.{has-empty, has-all, has-minus, has-union}
-use Rattle.col_set.specs.Subsets.{IsSubset-refl, subset-true, true-subset, same_test, subset_below}
+use Rattle.col_set.specs.Subsets.{IsSubset-refl, subset-true, same_test, subset_below}
 use Rattle.col_set.specs.AllSets.{Listed-upto, Listed-upto_within}
-use Rattle.col_set.specs.Lists.{Listed, list_any_at, list_any_which}
+use Rattle.col_set.specs.Lists.{list_any_at, list_any_which}
 use Rattle.col_set.proofs.Least.{refuted_inside}
-use Rattle.candidate_cover.specs.Growth.{choices, IsLeastAmong, ListsLeast}
+use Rattle.candidate_cover.specs.Growth.{choices, ListsLeast}
 use Rattle.candidate_cover.specs.Drafts.{Drafted, is_news, AreDrafted, AreGrown, lists_behind}
-use Rattle.candidate_cover.proofs.Evidence.{refuted-push, choice_parts, stands_before, stands_after, refuted-push_known}
-use Rattle.candidate_cover.proofs.Growing.{Outside, outside_of, not_inside, lists_after}
+use Rattle.candidate_cover.proofs.Evidence.{refuted-push, choice_parts}
+use Rattle.candidate_cover.proofs.Growing.{outside_of, not_inside}
 use Rattle.candidate_cover.proofs.Exploring.{refuted_more, nothing_refuted}
 use Rattle.candidate_cover.proofs.Remarked.{map-set}
 

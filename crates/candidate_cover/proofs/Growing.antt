@@ -266,7 +266,7 @@ unblocked_same blockers k ins i c x l is made free old new e =
     ∙ filter-append (λ x. not (list_any (λ y. subset y x) blockers)) (map (λ c. with c k) (take i ins)) (x ∷ [])
     ∙ ap (λ b. unblocked blockers (map (λ c. with c k) (take i ins)) ++ cond (not b) (x ∷ []) []) free ∙ append-nil _))
 
-upto_more : (n a : ℕ) → range_with_len a (n + 1) ≡ range_with_len a n ++ (a + n) ∷ []
+pub upto_more : (n a : ℕ) → range_with_len a (n + 1) ≡ range_with_len a n ++ (a + n) ∷ []
 upto_more zero a = ap (λ (i : ℕ). i ∷ []) (sym (add-zero a))
 upto_more (suc n) a = ap (range_with_len a) (suc-add n 1) ∙ ap (λ is. a ∷ is) (upto_more n (a + 1)) ∙ ap (λ (i : ℕ). (a ∷ range_with_len (a + 1) n) ++ i ∷ []) (let e : a + 1 + n ≡ a + suc n = omega arith in e)
 

@@ -1,3 +1,4 @@
+pub mod Drafted
 pub mod Drafting
 pub mod Evidence
 pub mod Growing

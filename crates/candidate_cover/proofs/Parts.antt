@@ -36,7 +36,7 @@ found_kept [] p o h = absurd h
 found_kept (q ∷ ps) p o (inl e) = ap (λ b. cond b (Some (cand q)) (find (λ c. eqb c.left p.0) (cands ps))) (eq-eqb q.0 p.0 (ap (λ (r : ℕ × Mark). r.0) (sym e))) ∙ ap (λ r. Some (cand r)) (sym e)
 found_kept (q ∷ ps) p o (inr h) = ap (λ b. cond b (Some (cand q)) (find (λ c. eqb c.left p.0) (cands ps))) (apart_from_less q.0 p.0 (o.0 p h)) ∙ found_kept ps p o.1 h
 
-found_fresh : (ps : List (ℕ × Mark)) (x : ℕ) → is_key ps x ≡ false → find (λ c. eqb c.left x) (cands ps) ≡ None
+pub found_fresh : (ps : List (ℕ × Mark)) (x : ℕ) → is_key ps x ≡ false → find (λ c. eqb c.left x) (cands ps) ≡ None
 found_fresh [] x e = refl
 found_fresh (q ∷ ps) x e = let w = or_parts (eqb q.0 x) (is_key ps x) e in ap (λ b. cond b (Some (cand q)) (find (λ c. eqb c.left x) (cands ps))) w.0 ∙ found_fresh ps x w.1
 

@@ -6,6 +6,7 @@ ghost use Rattle.col_set.specs.Target.{IsColumnTarget, has_target};
 ghost use Rattle.col_set.specs.Evidence.{least};
 ghost use Rattle.candidate_cover.specs.Cands as words;
 ghost use Rattle.candidate_cover.specs.Cands.{width, cands_of, with_list, lefts, is_listed, kept_or_fresh, marked, holding, IsInOrder};
+ghost use Rattle.candidate_cover.specs.Drafts.{AreLeast};
 ghost use Rattle.candidate_cover.specs.Marks.{cand, cands};
 ghost use Rattle.candidate_cover.specs.declared.cand.Cand.{Cand};
 ghost use Rattle.candidate_cover.specs.declared.cand.Marking.TheVariants.{Marked, Dropped};
@@ -13,7 +14,8 @@ ghost use Rattle.candidate_cover.specs.declared.cand.Marking.TheVariants.{Marked
 use crate::cand::{Cand, Mark, Marking};
 use crate::explore::explored;
 use crate::growth::choices;
-use crate::part::{Part, generalised, specialised};
+use crate::draft::Draft;
+use crate::part::{Part, generalised, lefts as lefts_of, specialised, with_marks};
 use rel_base::{ColSet, RowNo, Steps, Target};
 use set_tree::SetTree;
 use std::alloc::{AllocError, Global};
@@ -115,6 +117,40 @@ impl CandidateCover {
         Ok(Part { tree })
     }
 
+    /// A draft that begins with the agree sets that have left these candidates: a copy of their left sides.
+    pub fn draft(&self, alloc: Global, agree_sets: Vec<ColSet>) -> Result<Draft, AllocError>
+        requires { AreLeast (width self.now) agree_sets.items self.now }
+        ensures { IfOk result (λ draft. draft ≡ record { width = width self.now; agree_sets = agree_sets.items }) }
+    {
+        let count = self.columns();
+        let rows = self.lefts(alloc, Target::RowId)?;
+        let mut columns = Vec::with_capacity(alloc, count as usize)?;
+        for column in 0..count {
+            columns.push(self.lefts(alloc, Target::Col(column))?)?;
+        }
+        Ok(Draft::of(rows, columns, agree_sets))
+    }
+
+    /// The candidates of a target in report order that a draft leaves; those that stay keep their marks.
+    ///
+    /// Nothing changes here; `put` makes the part the target's list. It sorts the target's left sides, and looks each up among
+    /// the candidates.
+    pub fn drafted(
+        &self,
+        alloc: Global,
+        draft: &Draft,
+        target: Target,
+    ) -> Result<Part, AllocError>
+        requires target { IsColumnTarget (width self.now) target }
+        requires width { draft.now.width ≡ width self.now }
+        ensures least { IfOk result (λ part. lefts part ≡ least (width self.now) draft.now.agree_sets target) }
+        ensures marks { IfOk result (λ part. part ≡ map (kept_or_fresh (cands_of self.now target)) (lefts part)) }
+    {
+        let sets = draft.sorted_sets(alloc, target)?;
+        let tree = with_marks(alloc, self.tree(target), sets.as_slice())?;
+        Ok(Part { tree })
+    }
+
     /// Makes the part the target's list.
     pub fn put(&mut self, target: Target, part: Part)
         requires { IsColumnTarget (width self.old) target }
@@ -177,6 +213,16 @@ impl CandidateCover {
         let pairs = self.tree(target).list(alloc)?;
         let list = candidates(alloc, pairs.as_slice())?;
         Ok(list)
+    }
+
+    // The left sides of a target's candidates.
+    fn lefts(&self, alloc: Global, target: Target) -> Result<Vec<ColSet>, AllocError>
+        requires { IsColumnTarget (width self.now) target }
+        ensures { IfOk result (λ found. found.items ≡ lefts (cands_of self.now target)) }
+    {
+        let pairs = self.tree(target).list(alloc)?;
+        let found = lefts_of(alloc, pairs.as_slice())?;
+        Ok(found)
     }
 
     // The candidates of a target.

@@ -1,15 +1,17 @@
 // Candidates while many agree sets come in, one after another.
 ghost use Rattle.std.specs.Prelude.{◌≡◌, ◌≤◌, ◌<◌, ◌^◌, ◌∷◌, [], ◌++◌, ℕ, List, true, false, length, map, IfOk, OnOk};
-ghost use Rattle.col_set.specs.ColSet.{has};
+ghost use Rattle.col_set.specs.ColSet.{has, report_cmp};
+ghost use Rattle.col_set.specs.Lists.{Rises};
 ghost use Rattle.col_set.specs.Target.{IsColumnTarget, has_target};
 ghost use Rattle.col_set.specs.declared.target.Target.TheVariants.{Col, RowId};
 ghost use Rattle.col_set.specs.Evidence.{refuted};
 ghost use Rattle.candidate_cover.specs.Growth as words;
 ghost use Rattle.candidate_cover.specs.Growth.{ListsLeast};
 ghost use Rattle.candidate_cover.specs.Drafts as drafts;
-ghost use Rattle.candidate_cover.specs.Drafts.{Drafted, AreGrown, lists_behind};
+ghost use Rattle.candidate_cover.specs.Drafts.{Drafted, AreDrafted, AreGrown, lists_behind};
 
 use crate::growth::{choices, grown, inside, near};
+use crate::part::sorted;
 use rel_base::{ColSet, Target};
 use std::alloc::{AllocError, Global};
 use std::marker::Model;
@@ -38,6 +40,50 @@ impl Model for Draft {
 }
 
 impl Draft {
+    // A draft of these lists, which takes no memory.
+    pub(crate) fn of(
+        rows: Vec<ColSet>,
+        columns: Vec<Vec<ColSet>>,
+        agree_sets: Vec<ColSet>,
+    ) -> Draft
+        requires lists { AreDrafted (length columns.items) agree_sets.items rows.items (lists_behind columns.items) }
+        requires bound { length columns.items ≤ 128 }
+        ensures { result ≡ record { width = length columns.items; agree_sets = agree_sets.items } }
+    {
+        Draft {
+            rows,
+            columns,
+            agree_sets,
+        }
+    }
+
+    // The left sides of a target in report order.
+    pub(crate) fn sorted_sets(
+        &self,
+        alloc: Global,
+        target: Target,
+    ) -> Result<Vec<ColSet>, AllocError>
+        requires { IsColumnTarget self.now.width target }
+        ensures order { IfOk result (λ sets. Rises report_cmp sets.items) }
+        ensures least { IfOk result (λ sets. ListsLeast (words.choices self.now.width target) self.now.agree_sets target sets.items) }
+    {
+        let own = self.sets(target);
+        let mut sets = Vec::with_capacity(alloc, own.len())?;
+        sets.extend_from_slice(own)?;
+        Ok(sorted(sets))
+    }
+
+    // The left sides of a target.
+    fn sets(&self, target: Target) -> &[ColSet]
+        requires { IsColumnTarget self.now.width target }
+        ensures { ListsLeast (words.choices self.now.width target) self.now.agree_sets target result.now }
+    {
+        match target {
+            Target::Col(column) => self.columns[column as usize].as_slice(),
+            Target::RowId => self.rows.as_slice(),
+        }
+    }
+
     /// Whether a further agree set is news: for some target that it lacks, none of those that came in and lack the target
     /// contains it. It takes a step an agree set, and no memory.
     pub fn is_news(&self, z: ColSet) -> bool

@@ -1,10 +1,11 @@
 // The candidates of one target, made anew.
-ghost use Rattle.std.specs.Prelude.{◌≡◌, ◌≤◌, false, IfOk};
+ghost use Rattle.std.specs.Prelude.{◌≡◌, ◌≤◌, false, map, IfOk};
 ghost use Rattle.col_set.specs.ColSet.{report_cmp};
 ghost use Rattle.col_set.specs.Target.{IsColumnTarget, has_target};
 ghost use Rattle.col_set.specs.Lists.{Rises};
 ghost use Rattle.candidate_cover.specs.Growth as words;
-ghost use Rattle.candidate_cover.specs.Marks.{HasMembers, IsGrown, IsGeneralised};
+ghost use Rattle.candidate_cover.specs.Marks.{HasMembers, IsGrown, IsGeneralised, cand, cands};
+ghost use Rattle.candidate_cover.specs.Cands.{kept_or_fresh};
 ghost use Rattle.set_tree.specs.Pairs as pairs;
 
 use crate::cand::Mark;
@@ -32,7 +33,7 @@ impl Model for Part {
 }
 
 // The left sides.
-fn lefts(alloc: Global, list: &[(ColSet, Mark)]) -> Result<Vec<ColSet>, AllocError>
+pub(crate) fn lefts(alloc: Global, list: &[(ColSet, Mark)]) -> Result<Vec<ColSet>, AllocError>
     ensures { IfOk result (λ found. found.items ≡ pairs.keys list.now) }
 {
     let mut found = Vec::new(alloc);
@@ -56,7 +57,7 @@ fn near(alloc: Global, z: ColSet, list: &[(ColSet, Mark)]) -> Result<Vec<ColSet>
 }
 
 // The sets in report order, each once.
-fn sorted(mut sets: Vec<ColSet>) -> Vec<ColSet>
+pub(crate) fn sorted(mut sets: Vec<ColSet>) -> Vec<ColSet>
     ensures order { Rises report_cmp result.items }
     ensures members { HasMembers sets.items result.items }
 {
@@ -109,4 +110,30 @@ pub(crate) fn generalised(
     let mut made = SetTree::of_list(list);
     made.add_all(alloc, sets.as_slice(), Mark::fresh())?;
     Ok(made)
+}
+
+// The marks that a left side has in a tree, or fresh ones.
+fn mark_of(tree: &SetTree<Mark>, x: ColSet) -> Mark
+    ensures { cand (x, result) ≡ kept_or_fresh (cands tree.now) x }
+{
+    match tree.get(x) {
+        Some(mark) => mark,
+        None => Mark::fresh(),
+    }
+}
+
+// These left sides, each with the marks that it has in a tree, or fresh ones.
+pub(crate) fn with_marks(
+    alloc: Global,
+    tree: &SetTree<Mark>,
+    sets: &[ColSet],
+) -> Result<SetTree<Mark>, AllocError>
+    requires { Rises report_cmp sets.now }
+    ensures { IfOk result (λ made. cands made ≡ map (kept_or_fresh (cands tree.now)) sets.now) }
+{
+    let mut pairs = Vec::with_capacity(alloc, sets.len())?;
+    for x in sets {
+        pairs.push((*x, mark_of(tree, *x)))?;
+    }
+    Ok(SetTree::of_list(pairs))
 }
