@@ -4,7 +4,7 @@ ghost use Rattle.std.specs.Option.{ForSome};
 ghost use Rattle.col_set.specs.ColSet.{has, subset, union, with, empty};
 ghost use Rattle.rel_base.specs.CodeTable.{CodeTable};
 ghost use Rattle.validator.specs.Kept.{AreKept};
-ghost use Rattle.validator.specs.Verdicts.{IsFound, IsFitting, new_rows};
+ghost use Rattle.validator.specs.Verdicts.{AreFound, IsFitting, new_rows};
 ghost use Rattle.validator.specs.Walk.{IsClear, plus};
 ghost use Rattle.validator.specs.declared.shelf.Kept.{Kept};
 
@@ -242,21 +242,24 @@ fn refine_kept(
     Ok((k, None))
 }
 
-// Searches the groups by a job's left side for a pair that breaks its dependency.
+// Searches the groups by a job's left side for pairs that break its dependency, up to so many.
 pub(crate) fn search<L: Ledger>(
     alloc: Global,
     job: &Job,
+    most: usize,
     kept: &mut Vec<Kept>,
     weights: &mut [u32; 128],
     slots: &mut Vec<u32>,
     steps: &mut Steps<L>,
-) -> Result<Option<(RowNo, RowNo)>, AllocError>
+) -> Result<Vec<(RowNo, RowNo)>, AllocError>
+    requires some { 0 < most }
     requires fitting { IsFitting job.now }
     requires kept { AreKept job.now.snapshot kept.old.items }
     requires clear { IsClear slots.old.items }
     ensures kept { AreKept job.now.snapshot kept.new.items }
     ensures clear { OnOk result (IsClear slots.new.items) }
-    ensures pair { IfOk result (IsFound job.now.snapshot job.now.left job.now.target) }
+    ensures pairs { IfOk result (λ pairs. AreFound job.now.snapshot job.now.left job.now.target pairs.items) }
+    ensures few { IfOk result (λ pairs. vec_len pairs ≤ most) }
     ensures steps { steps.new ≤ steps.old + new_rows job.now.snapshot job.now.from }
 {
     let snapshot = job.snapshot();
@@ -269,8 +272,9 @@ pub(crate) fn search<L: Ledger>(
         target: job.target(),
         by,
         from: job.from(),
+        most,
     };
-    walk::first_pair(&kept[k].partition, snapshot, &question, slots, steps)
+    walk::pairs_in_groups(alloc, &kept[k].partition, snapshot, &question, slots, steps)
 }
 
 // Whether a partition is small enough to be kept, beside this many others with these rows.

@@ -1,12 +1,13 @@
 // Verdicts that start from kept partitions.
-ghost use Rattle.std.specs.Prelude.{◌≡◌, ◌≤◌, ◌+◌, ◌↔◌, true, IfOk};
+ghost use Rattle.std.specs.Prelude.{◌≡◌, ◌<◌, ◌≤◌, ◌+◌, ◌↔◌, [], true, vec_len, IfOk};
+ghost use Rattle.std.specs.List.{All};
 ghost use Rattle.rel_base.specs.Shows.{holds_in};
-ghost use Rattle.validator.specs.Verdicts.{IsFitting, IsVerdict, new_rows};
-ghost use Rattle.validator.specs.declared.verdict.Verdict.TheVariants.{Holds};
+ghost use Rattle.validator.specs.Verdicts.{AreFound, IsFitting, IsVerdict, new_rows};
+ghost use Rattle.validator.specs.declared.verdict.Verdict.TheVariants.{Holds, Broken};
 
 use crate::shelf::{self, Kept, UNKNOWN};
 use crate::{Verdict, judge};
-use rel_base::{Job, Snapshot, Steps};
+use rel_base::{Job, RowNo, Snapshot, Steps};
 use std::alloc::{AllocError, Global};
 use std::marker::Model;
 use std::sync::Arc;
@@ -72,10 +73,58 @@ impl Store {
         ensures steps { steps.new ≤ steps.old + new_rows job.now.snapshot job.now.from }
         ensures store { self.new ≡ self.old }
     {
+        let pairs = self.search(alloc, job, 1, steps)?;
+        Ok(judge::verdict_of(job, &pairs))
+    }
+
+    /// Pairs of live rows that break a job's dependency on the store's snapshot: up to so many, and none exactly where it holds.
+    ///
+    /// Of each pair the smaller number comes first, and the two rows agree on the left side and differ on the target. No two pairs
+    /// come from one group of rows that agree on the left side. The work of a verdict that fails is nearly all in the refining of
+    /// the groups, which is done for the first pair already: those of further groups come nearly free, and each is evidence against
+    /// other candidates too. So a worker asks for some tens here rather than for one verdict after another.
+    ///
+    /// It takes the time of `validate` where the dependency holds. After want of memory the store is as useful as before.
+    pub fn breaches<L: Ledger>(
+        &mut self,
+        alloc: Global,
+        job: &Job,
+        most: usize,
+        steps: &mut Steps<L>,
+    ) -> Result<Vec<(RowNo, RowNo)>, AllocError>
+        requires some { 0 < most }
+        requires same { self.old ≡ job.now.snapshot }
+        requires fitting { IsFitting job.now }
+        ensures pairs { IfOk result (λ pairs. All (λ pair. IsVerdict job.now (Broken pair.0 pair.1)) pairs.items) }
+        ensures few { IfOk result (λ pairs. vec_len pairs ≤ most) }
+        ensures exactly { IfOk result (λ pairs. (pairs.items ≡ []) ↔ (holds_in job.now.snapshot job.now.left job.now.target ≡ true)) }
+        ensures steps { steps.new ≤ steps.old + new_rows job.now.snapshot job.now.from }
+        ensures store { self.new ≡ self.old }
+    {
+        self.search(alloc, job, most, steps)
+    }
+
+    // Searches for pairs that break a job's dependency, and keeps the small ones of the partitions that are made for it.
+    fn search<L: Ledger>(
+        &mut self,
+        alloc: Global,
+        job: &Job,
+        most: usize,
+        steps: &mut Steps<L>,
+    ) -> Result<Vec<(RowNo, RowNo)>, AllocError>
+        requires some { 0 < most }
+        requires same { self.old ≡ job.now.snapshot }
+        requires fitting { IsFitting job.now }
+        ensures pairs { IfOk result (λ pairs. AreFound job.now.snapshot job.now.left job.now.target pairs.items) }
+        ensures few { IfOk result (λ pairs. vec_len pairs ≤ most) }
+        ensures steps { steps.new ≤ steps.old + new_rows job.now.snapshot job.now.from }
+        ensures store { self.new ≡ self.old }
+    {
         let first = self.kept.len();
         let found = shelf::search(
             alloc,
             job,
+            most,
             &mut self.kept,
             &mut self.weights,
             &mut self.slots,
@@ -85,6 +134,6 @@ impl Store {
             self.slots = Vec::new(alloc);
         }
         self.rows = shelf::trim(&mut self.kept, first, self.rows, self.room);
-        Ok(judge::verdict_of(job, found?))
+        found
     }
 }
