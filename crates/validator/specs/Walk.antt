@@ -1,5 +1,5 @@
 -- How the rows of a group are compared: each with the first that a further column does not tell from it.
-use Rattle.std.specs.Prelude.{◌≡◌, ◌≢◌, ◌<◌, ◌≤◌, ◌==◌, ℕ, true, false, List, [], ◌∷◌, Option, Some, None, slice_index}
+use Rattle.std.specs.Prelude.{◌≡◌, ◌≢◌, ◌<◌, ◌≤◌, ◌==◌, ℕ, true, false, List, Option, Some, None, slice_index}
 use Rattle.std.specs.List.{filter}
 use Rattle.col_set.specs.declared.target.Target.{Target}
 use Rattle.col_set.specs.ColSet.{Columns, with}
@@ -33,11 +33,6 @@ pub record IsApart (s : CodeTable) (by : Option ℕ) (t : Target) (rows : List �
   pub rising : i < j
   pub same : key s by i ≡ key s by j
   pub differ : has_target (code_agree s i j) t ≡ false
-
--- the pair, if there is one
-abbrev pub listed : Option (ℕ × ℕ) → List (ℕ × ℕ)
-listed None = []
-listed (Some pair) = pair ∷ []
 
 -- what the comparisons of these rows find
 abbrev pub IsCompared : CodeTable → Option ℕ → Target → ℕ → List ℕ → Option (ℕ × ℕ) → Type 0

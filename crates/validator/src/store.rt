@@ -2,7 +2,7 @@
 ghost use Rattle.std.specs.Prelude.{◌≡◌, ◌<◌, ◌≤◌, ◌+◌, ◌↔◌, [], true, vec_len, IfOk};
 ghost use Rattle.std.specs.List.{All};
 ghost use Rattle.rel_base.specs.Shows.{holds_in};
-ghost use Rattle.validator.specs.Verdicts.{AreFound, IsFitting, IsVerdict, new_rows};
+ghost use Rattle.validator.specs.Verdicts.{AreApart, AreFound, IsFitting, IsVerdict, new_rows};
 ghost use Rattle.validator.specs.declared.verdict.Verdict.TheVariants.{Holds, Broken};
 
 use crate::shelf::{self, Kept, UNKNOWN};
@@ -96,6 +96,7 @@ impl Store {
         requires same { self.old ≡ job.now.snapshot }
         requires fitting { IsFitting job.now }
         ensures pairs { IfOk result (λ pairs. All (λ pair. IsVerdict job.now (Broken pair.0 pair.1)) pairs.items) }
+        ensures groups { IfOk result (λ pairs. AreApart job.now.snapshot job.now.left pairs.items) }
         ensures few { IfOk result (λ pairs. vec_len pairs ≤ most) }
         ensures exactly { IfOk result (λ pairs. (pairs.items ≡ []) ↔ (holds_in job.now.snapshot job.now.left job.now.target ≡ true)) }
         ensures steps { steps.new ≤ steps.old + new_rows job.now.snapshot job.now.from }

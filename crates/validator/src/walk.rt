@@ -1,7 +1,7 @@
 // Comparisons of rows on a target, group by group.
 ghost use Rattle.std.specs.Prelude.{◌≡◌, ◌<◌, ◌≤◌, ◌+◌, ◌^◌, ◌++◌, ℕ, length, nat_le, not, vec_len, slice_index, true, false, IsTrue, IfOk, OnOk, cond};
 ghost use Rattle.std.specs.List.{All, count_by};
-ghost use Rattle.std.specs.Option.{ForSome};
+ghost use Rattle.std.specs.Option.{ForSome, option_to_list};
 ghost use Rattle.std.specs.List.Sorted.{IsStrictlyIncreasing};
 ghost use Rattle.col_set.specs.ColSet.{Columns};
 ghost use Rattle.col_set.specs.Target.{has_target, IsColumnTarget};
@@ -9,7 +9,7 @@ ghost use Rattle.rel_base.specs.Shows.{code_agree, holds_in_below};
 ghost use Rattle.stripped_partition.specs.Stripped.{stripped, IsPartitionOf};
 ghost use Rattle.validator.specs.Verdicts.{AreFound, new_rows};
 ghost use Rattle.validator.specs.Walk as walks;
-ghost use Rattle.validator.specs.Walk.{plus, listed, IsCompared, IsClear, IsClearBut};
+ghost use Rattle.validator.specs.Walk.{plus, IsCompared, IsClear, IsClearBut};
 
 use col_set::Target;
 use rel_base::{RowNo, Snapshot, Steps};
@@ -178,7 +178,7 @@ fn pair_of_group<L: Ledger>(
 
 // Adds a pair, if there is one.
 fn add(pairs: &mut Vec<(RowNo, RowNo)>, pair: Option<(RowNo, RowNo)>) -> Result<(), AllocError>
-    ensures { OnOk result (pairs.new.items ≡ pairs.old.items ++ listed pair) }
+    ensures { OnOk result (pairs.new.items ≡ pairs.old.items ++ option_to_list pair) }
 {
     if let Some(pair) = pair {
         pairs.push(pair)?;

@@ -37,9 +37,8 @@ returns-in_err-add-clause-steps g c =
 
 pub returns-then-len-question-clause-pairs : goal.returns-then-len-question-clause-pairs
 returns-then-len-question-clause-pairs g c x e held =
-    let after = c.in_ok-add.ensures in
     found c.args.snapshot.now c.args.question.now.by c.args.question.now.target c.args.question.now.from c.args.partition.now c.requires.target c.requires.column (c.loop-k.k + 1) c.add.new.pairs.items
-    (subst (Gathered c.args.snapshot.now c.args.question.now.by c.args.question.now.target c.args.question.now.from c.args.partition.now (c.loop-k.k + 1)) (sym after)
+    (subst (Gathered c.args.snapshot.now c.args.question.now.by c.args.question.now.target c.args.question.now.from c.args.partition.now (c.loop-k.k + 1)) (sym c.in_ok-add.ensures)
     (gathered_more c.args.snapshot.now c.args.question.now.by c.args.question.now.target c.args.question.now.from c.args.partition.now c.loop-k.k c.group.result.now
     (below _ _ _ c.loop-k-test.true c.group_count-k-end.ensures) c.group.ensures c.loop-k.pairs.items c.in_ok-pair.pair c.loop-k.invariant.gathered c.in_ok-pair.ensures.pair))
     (λ none. absurd (let n = ap (λ (xs : List (ℕ × ℕ)). length xs) none in let m = c.requires.some in let l = c.if-len-question.true in let k = c.len.ensures in omega (arith, c.add.new.pairs.ok.0)))
