@@ -270,12 +270,12 @@ module _ (s : CodeTable) (by : Option ℕ) (t : Target) (from : ℕ) (groups : L
       let its = Listed-filter_parts (agree_on s x of.row) j (live_numbers s) (subst (Listed j) of.is w.second) in
       let same = agree_same s x in
       let far : agree_on s x of.row (get_or (get_or groups w.place []) 0 0) ≡ true =
-        same.trans of.row j (get_or (get_or groups w.place []) 0 0) its.1 (same.trans j i (get_or (get_or groups w.place []) 0 0) (same.symm i j a) (same.symm (get_or (get_or groups w.place []) 0 0) i near.2)) in
+      same.trans of.row j (get_or (get_or groups w.place []) 0 0) its.1 (same.trans j i (get_or (get_or groups w.place []) 0 0) (same.symm i j a) (same.symm (get_or (get_or groups w.place []) 0 0) i near.2)) in
       let moved : Listed (get_or (get_or groups w.place []) 0 0) (get_or groups w.later []) =
-        subst (Listed (get_or (get_or groups w.place []) 0 0)) (sym of.is) (Listed-filter (agree_on s x of.row) (get_or (get_or groups w.place []) 0 0) (live_numbers s) near.0 far) in
+      subst (Listed (get_or (get_or groups w.place []) 0 0)) (sym of.is) (Listed-filter (agree_on s x of.row) (get_or (get_or groups w.place []) 0 0) (live_numbers s) near.0 far) in
       let least_there = first_least (get_or groups w.later []) (get_or (get_or groups w.place []) 0 0) (group_ascends s x (get_or groups w.later []) (in_all w.later w.within)) moved in
       let less = subst (λ (gs : List (List ℕ)). get_or (get_or gs w.place []) 0 0 < get_or (get_or gs w.later []) 0 0) (sym e)
-        (order w.place w.later [] w.less (subst (λ (gs : List (List ℕ)). w.later < length gs) e w.within)) in
+      (order w.place w.later [] w.less (subst (λ (gs : List (List ℕ)). w.later < length gs) e w.within)) in
       omega arith
     where
       some : (xs : List ℕ) (x : ℕ) → Listed x xs → 0 < length xs

@@ -5,7 +5,7 @@ ghost use Rattle.rel_base.specs.Shows.{holds_in};
 ghost use Rattle.validator.specs.Verdicts.{AreApart, AreFound, IsFitting, IsVerdict, new_rows};
 ghost use Rattle.validator.specs.declared.verdict.Verdict.TheVariants.{Holds, Broken};
 
-use crate::shelf::{self, Kept, UNKNOWN};
+use crate::shelf::Shelf;
 use crate::{Verdict, judge};
 use rel_base::{Job, RowNo, Snapshot, Steps};
 use std::alloc::{AllocError, Global};
@@ -15,16 +15,14 @@ use std::sync::ledger::Ledger;
 
 /// Stripped partitions of one snapshot by small column sets, which verdicts start from. One worker owns it.
 ///
-/// It keeps the partition by each single column that a verdict asked for, and those by two and three columns that it made on its
-/// way, as long as the rows of all that is kept fit its room. Contracts see the codes of its snapshot.
+/// It keeps the partition by each single column that a verdict asked for, and those by two to four columns that it made on its way,
+/// 4,096 of them at most, as long as the rows of all that is kept fit its room. A partition with more than half of the snapshot's rows
+/// is kept only as long as they fit half of it. Contracts see the codes of its snapshot.
 #[derive(Drop)]
 pub struct Store {
     snapshot: Arc<Snapshot>,
-    kept: Vec<Kept>,
+    shelf: Shelf,
     slots: Vec<u32>,
-    weights: [u32; 128],
-    rows: usize,
-    room: usize,
 }
 
 impl Model for Store {
@@ -37,7 +35,7 @@ impl Model for Store {
 
     ghost view = { λ s. s.snapshot.value };
 
-    ghost invariant = { λ s. AreKept s.snapshot.value s.kept.items × IsClear s.slots.items };
+    ghost invariant = { λ s. AreKept s.snapshot.value s.shelf.kept.items × IsClear s.slots.items };
 }
 
 impl Store {
@@ -45,21 +43,20 @@ impl Store {
     pub fn of(alloc: Global, snapshot: Arc<Snapshot>, room: usize) -> Store
         ensures { result ≡ snapshot.value }
     {
+        let rows = snapshot.to().number() as usize;
         Store {
             snapshot,
-            kept: Vec::new(alloc),
+            shelf: Shelf::of(alloc, rows, room),
             slots: Vec::new(alloc),
-            weights: [UNKNOWN; 128],
-            rows: 0,
-            room,
         }
     }
 
     /// Validates a job on the store's snapshot, as `validate` does, with the same answer to whether the dependency holds.
     ///
-    /// It starts from the kept partition by columns of the left side from which the fewest rows are passed, refines it by the others
-    /// but one, and compares the rows of each group by the last one's codes, up to the first difference. So a verdict takes time by
-    /// the rows of that partition. After want of memory the store is as useful as before.
+    /// It takes the columns of the left side in the order of how many rows they tell apart, starts from the kept partition by the most of
+    /// the first of them, up to four, refines it by the others but the last, and compares the rows of each group by the last one's
+    /// codes, up to the first difference. So a verdict takes time by the rows of that partition, not by how many are kept. After want
+    /// of memory the store is as useful as before.
     pub fn validate<L: Ledger>(
         &mut self,
         alloc: Global,
@@ -121,20 +118,10 @@ impl Store {
         ensures steps { steps.new ≤ steps.old + new_rows job.now.snapshot job.now.from }
         ensures store { self.new ≡ self.old }
     {
-        let first = self.kept.len();
-        let found = shelf::search(
-            alloc,
-            job,
-            most,
-            &mut self.kept,
-            &mut self.weights,
-            &mut self.slots,
-            steps,
-        );
+        let found = self.shelf.search(alloc, job, most, &mut self.slots, steps);
         if found.is_err() {
             self.slots = Vec::new(alloc);
         }
-        self.rows = shelf::trim(&mut self.kept, first, self.rows, self.room);
         found
     }
 }

@@ -10,7 +10,7 @@ use Rattle.validator.specs.declared.shelf.Kept.{Kept}
 use Rattle.validator.specs.Verdicts.{AreFound}
 use Rattle.validator.specs.Walk.{plus}
 use Rattle.validator.proofs.KeptLists.{minus-below, union-minus, kept_of}
-use Rattle.validator.proofs.shelf.search.Goals as goal
+use Rattle.validator.proofs.shelf.Shelf.search_kept.Goals as goal
 
 pub refine_kept-requires-clause-columns : goal.refine_kept-requires-clause-columns
 refine_kept-requires-clause-columns g c =
@@ -40,6 +40,6 @@ returns-clause-pairs g c =
     IfOk-weaker c.pairs_in_groups.result _ _ (λ v f.
     found c.args.job.now.snapshot c.snapshot-snapshot.result.now c.args.job.now.target c.target.result c.args.job.now.from c.from.result c.args.job.now.left c.index-2.result.now.columns c.in_ok-k.by c.index-2.result.now.partition v.items
     c.snapshot-snapshot.ensures c.target.ensures c.from.ensures
-    (whole c.base.new.kept.items c.refine_kept.new.kept.items c.in_ok-base.base c.in_ok-k.k c.index.result.now c.index-2.result.now c.in_ok-k.by c.left-left.result c.minus-rest.result c.index.ensures c.index-2.ensures k
+    (whole c.base.new.self.kept.items c.refine_kept.new.kept.items c.in_ok-base.base c.in_ok-k.k c.index.result.now c.index-2.result.now c.in_ok-k.by c.left-left.result c.minus-rest.result c.index.ensures c.index-2.ensures k
     c.in_ok-base.ensures.within c.minus-rest.ensures c.in_ok-k.ensures.columns ∙ c.left-left.ensures)
     (kept_of c.snapshot-snapshot.result.now c.refine_kept.new.kept.items c.in_ok-k.k c.index-2.result.now c.refine_kept.ensures.kept k c.index-2.ensures) c.requires.fitting.below f) c.pairs_in_groups.ensures.pairs
