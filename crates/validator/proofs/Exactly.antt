@@ -1,10 +1,11 @@
 -- A pair of rows shows that a dependency does not hold.
-use Rattle.std.proofs.Common.{◌≡◌, ℕ, ◌<◌, ◌↔◌, true, ap, sym, ◌∙◌, arith}
+use Rattle.std.proofs.Common.{inl, ◌≡◌, ℕ, ◌<◌, ◌↔◌, true, refl, ap, sym, ◌∙◌, arith, List, [], ◌∷◌}
 use Rattle.std.proofs.lemmas.Bool.{true≢false}
+use Rattle.rel_base.proofs.States.{All-listed}
 use Rattle.rel_base.specs.JobParts.{JobParts}
 use Rattle.rel_base.specs.Shows.{holds_in}
 use Rattle.rel_base.proofs.Shown.{HoldsIn-tested}
-use Rattle.validator.specs.Verdicts.{IsBreach, IsVerdict}
+use Rattle.validator.specs.Verdicts.{AreFound, IsBreach, IsVerdict}
 use Rattle.validator.specs.declared.verdict.Verdict.{Verdict}
 use Rattle.validator.specs.declared.verdict.Verdict.TheVariants.{Holds, Broken}
 
@@ -19,3 +20,9 @@ breached job i j b e =
 pub exactly : (job : JobParts) (verdict : Verdict) → IsVerdict job verdict → (verdict ≡ Holds job.to) ↔ (holds_in job.snapshot job.left job.target ≡ true)
 exactly job (Holds to) v = ((λ e. v.1), (λ e. ap Holds v.0))
 exactly job (Broken i j) b = ((λ e. absurd (cc)), (λ e. absurd (breached job i j b e)))
+
+-- no pair is found exactly where it does
+pub none_exactly : (job : JobParts) (pairs : List (ℕ × ℕ)) → AreFound job.snapshot job.left job.target pairs → (pairs ≡ []) ↔ (holds_in job.snapshot job.left job.target ≡ true)
+none_exactly job [] found = (found.none, (λ e. refl))
+none_exactly job (p ∷ pairs) found =
+    (found.none, (λ e. absurd (breached job p.0 p.1 (All-listed (λ (q : ℕ × ℕ). IsBreach job.snapshot job.left job.target q.0 q.1) p (p ∷ pairs) found.each (inl refl)) e)))

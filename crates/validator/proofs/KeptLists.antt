@@ -1,24 +1,46 @@
 -- Lists of kept partitions.
-use Rattle.std.proofs.Common.{inl, inr, ◌⊎◌, not, eqb, ◌≡◌, ℕ, ◌<◌, ◌≤◌, ◌^◌, true, false, Bool, ◌&&◌, ◌||◌, ap₂, refl, sym, ap, ◌∙◌, subst, arith, List, length, get_or, Option, Some, None}
-use Rattle.std.proofs.lemmas.Bool.{and_parts, false≢true}
+use Rattle.std.proofs.Common.{inl, inr, ◌⊎◌, not, eqb, ◌≡◌, ◌≢◌, ℕ, ◌+◌, ◌++◌, take, drop, ◌<◌, ◌^◌, true, false, Bool, ◌&&◌, ◌||◌, ap₂, refl, sym, ap, ◌∙◌, subst, arith, List, length, get_or, Option, Some, None}
+use Rattle.std.proofs.lemmas.Bool.{and_parts, false≢true, cases_eq, ne_eqb}
+use Rattle.std.specs.Option.{option_or}
+use Rattle.std.proofs.lemmas.List.Elements.{All-append, All-take, All-drop}
 use Rattle.col_set.specs.ColSet.{has, subset, first, without, IsSubset}
 use Rattle.col_set.specs.Members.{has-without}
 use Rattle.col_set.specs.Subsets.{IsSubset-trans}
 use Rattle.col_set.proofs.EachColumn.{first-Some, without-lt}
 use Rattle.col_set.specs.ColSet.{empty, with, union, minus}
-use Rattle.col_set.specs.Members.{has-empty, has-union, has-minus, same_set}
+use Rattle.col_set.specs.Members.{has-with, has-empty, has-union, has-minus, same_set}
 use Rattle.col_set.specs.Subsets.{true-subset, subset-true, has_within, subset_below}
 use Rattle.rel_base.specs.CodeTable.{CodeTable}
 use Rattle.stripped_partition.specs.Stripped.{stripped}
 use Rattle.validator.specs.Kept.{IsKept, AreKept}
 use Rattle.validator.specs.Walk.{plus, IsClear}
 use Rattle.validator.specs.declared.shelf.Kept.{Kept}
-use Rattle.validator.proofs.Refinements.{no_columns, union-moved, union-empty}
+use Rattle.validator.proofs.Refinements.{or_false, no_columns, union-moved, union-empty}
 
--- the place found so far
-pub record Found (kept : List Kept) (columns : ℕ) (best : Option ℕ) (k : ℕ) : Type 0 where
-  pub place : (n : ℕ) → best ≡ Some n → n < k
+-- the columns tried so far, and the place of a partition by some of them
+pub record Nearest (kept : List Kept) (columns chosen : ℕ) (best : Option ℕ) : Type 0 where
+  pub inside : IsSubset chosen columns
+  pub place : (n : ℕ) → best ≡ Some n → n < length kept
   pub within : (n : ℕ) (d : Kept) → best ≡ Some n → subset (get_or kept n d).columns columns ≡ true
+
+-- what is found for a set of the columns
+module _ (kept : List Kept) (columns : ℕ) where
+  pub nearest_of : (chosen : ℕ) (found : Option ℕ) → IsSubset chosen columns → ((n : ℕ) → found ≡ Some n → n < length kept) → ((n : ℕ) (d : Kept) → found ≡ Some n → (get_or kept n d).columns ≡ chosen) → Nearest kept columns chosen found
+  nearest_of chosen found sub l e = record { inside = sub; place = l; within = λ n d is. true-subset (subst (λ (x : ℕ). IsSubset x columns) (sym (e n d is)) sub) }
+
+  pub nearest_or : (chosen next : ℕ) (best found : Option ℕ) → Nearest kept columns chosen best → Nearest kept columns next found → Nearest kept columns next (option_or found best)
+  nearest_or chosen next best None p q = record { inside = q.inside; place = p.place; within = p.within }
+  nearest_or chosen next best (Some n) p q = q
+
+  pub one_chosen : (chosen column : ℕ) → IsSubset chosen columns → has (minus columns chosen) column ≡ true → IsSubset (with chosen column) columns
+  one_chosen chosen column sub h = record { each = λ k m. here k (cases_eq k column) m }
+    where
+      here : (k : ℕ) → (k ≡ column) ⊎ (k ≢ column) → has (with chosen column) k ≡ true → has columns k ≡ true
+      here k (inl e) m = (and_parts (has columns k) (not (has chosen k)) (sym (has-minus columns chosen k) ∙ ap (has (minus columns chosen)) e ∙ h)).0
+      here k (inr ne) m = sub.each k (sym (ap (λ b. has chosen k || b) (ne_eqb k column ne) ∙ or_false (has chosen k)) ∙ sym (has-with chosen column k) ∙ m)
+
+pub none_chosen : (columns chosen : ℕ) → chosen ≡ empty → IsSubset chosen columns
+none_chosen columns chosen e = record { each = λ k h. absurd (false≢true (sym (has-empty k) ∙ ap (λ (z : ℕ). has z k) (sym e) ∙ h)) }
 
 -- the column chosen so far
 pub record Chosen (columns best left : ℕ) : Type 0 where
@@ -100,9 +122,16 @@ module _ (s : CodeTable) (wanted : Kept → ℕ) (kept : List Kept) (slots : Lis
     }
 
 -- ---- partitions that are dropped
-pub record Trimmed (old kept : List Kept) (k : ℕ) : Type 0 where
+pub record Settled (old kept : List Kept) : Type 0 where
   pub are : (s : CodeTable) → AreKept s old → AreKept s kept
-  pub place : k ≤ length kept
+
+pub settled_none : (kept : List Kept) → Settled kept kept
+settled_none kept = record { are = λ s a. a }
+
+pub settled_more : (old kept rest : List Kept) (k : ℕ) → Settled old kept → rest ≡ take k kept ++ drop (k + 1) kept → Settled old rest
+settled_more old kept rest k p e = record {
+  are = λ s a. subst (AreKept s) (sym e) (All-append (IsKept s) (take k kept) (drop (k + 1) kept) (All-take (IsKept s) k kept (p.are s a)) (All-drop (IsKept s) (k + 1) kept (p.are s a)));
+}
 
 -- the partition at a place
 pub kept_of : (s : CodeTable) (kept : List Kept) (k : ℕ) (r : Kept) → AreKept s kept → k < length kept → r ≡ get_or kept k r → r.partition ≡ stripped s r.columns

@@ -14,7 +14,7 @@ pub no_columns : (x : ℕ) → None ≡ first x → x ≡ empty
 unfolding set_of
 no_columns x e = sym (set_of-columns x) ∙ ap set_of (first-None x e)
 
-or_false : (b : Bool) → (b || false) ≡ b
+pub or_false : (b : Bool) → (b || false) ≡ b
 or_false true = refl
 or_false false = refl
 

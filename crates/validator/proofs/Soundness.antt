@@ -1,10 +1,12 @@
 -- What the comparisons in all groups say of a dependency that holds among the older rows.
-use Rattle.std.proofs.Common.{inl, inr, ◌≡◌, ◌≢◌, ◌⊎◌, ℕ, zero, suc, ◌+◌, ◌<◌, ◌≤◌, true, false, eqb, leb, refl, sym, ap, ◌∙◌, subst, arith, List, [], ◌∷◌, ◌++◌, length, get_or, take, cond, append-nil, append_assoc, Option, Some, None, is_some}
-use Rattle.std.specs.List.{filter, concat, All}
+use Rattle.std.proofs.Common.{inl, inr, ◌≡◌, ◌≢◌, ◌⊎◌, ℕ, zero, suc, ◌+◌, ◌<◌, ◌≤◌, true, eqb, leb, refl, sym, ap, ◌∙◌, subst, arith, List, [], ◌∷◌, ◌++◌, length, get_or, take, cond, append-nil, append_assoc, length-append, Option, Some, None}
+use Rattle.std.specs.List.{filter, concat, All, AllPairs}
 use Rattle.std.specs.List.Sorted.{IsStrictlyIncreasing}
 use Rattle.std.specs.Option.{ForSome}
-use Rattle.std.proofs.lemmas.Bool.{true≢false, false≢true, eqb-true, eq-eqb, cases_eq, cases_lt}
+use Rattle.std.proofs.lemmas.Bool.{false≢true, eqb-true, eq-eqb, cases_eq, cases_lt}
 use Rattle.std.proofs.lemmas.List.{take_more, take_all}
+use Rattle.std.specs.Option.{option_to_list}
+use Rattle.std.proofs.lemmas.List.Quantifiers.{all_pairs_push}
 use Rattle.std.proofs.lemmas.List.Sums.{sum_by-append}
 use Rattle.col_set.specs.declared.target.Target.{Target}
 use Rattle.col_set.specs.declared.target.Target.TheVariants.{Col, RowId}
@@ -17,11 +19,11 @@ use Rattle.rel_base.proofs.Shown.{HoldsInBelow-tested}
 use Rattle.rel_base.proofs.States.{All-from, increasing-Climbs}
 use Rattle.rel_base.proofs.Valid.{Climbs-filter}
 use Rattle.stripped_partition.specs.Stripped.{group_of, agree_on, stripped, IsPartitionOf}
-use Rattle.stripped_partition.proofs.Agreeing.{code_agree-parts, code_agree-from, agree_on-subset, subset-agree_on, agree_on-with_parts, agree_on-with}
+use Rattle.stripped_partition.proofs.Agreeing.{agree_same, code_agree-parts, code_agree-from, agree_on-subset, subset-agree_on, agree_on-with_parts, agree_on-with}
 use Rattle.stripped_partition.proofs.Dependencies.{held_from, in_group, stripped-parts, together, group_ascends, RowsStandOnce-stripped}
 use Rattle.stripped_partition.proofs.Grouped.{first_least}
 use Rattle.stripped_partition.proofs.Live.{live_within}
-use Rattle.validator.specs.Verdicts.{IsBreach, IsFound, new_rows}
+use Rattle.validator.specs.Verdicts.{IsBreach, AreFound, new_rows}
 use Rattle.validator.specs.Walk.{key, plus, first_with, IsUniform, IsApart, IsCompared, IsClear}
 use Rattle.validator.proofs.Leads.{newer}
 use Rattle.validator.proofs.Targets.{target-column, target-row}
@@ -134,20 +136,85 @@ newer_groups from [] (suc k) = omega arith
 newer_groups from (g ∷ groups) (suc k) = let r = newer_groups from groups k in
     let a = newer-append from g (concat (take k groups)) in let b = newer-append from g (concat groups) in omega arith
 
-pub record Seen (s : CodeTable) (by : Option ℕ) (t : Target) (from : ℕ) (groups : List (List ℕ)) (k : ℕ) (slots : List ℕ) (steps start : ℕ) : Type 0 where
-  pub uniform : (g : List ℕ) → Listed g (take k groups) → IsUniform s by t from g
+-- a pair that stands in one of the first groups
+pub record InGroup (s : CodeTable) (by : Option ℕ) (t : Target) (groups : List (List ℕ)) (k : ℕ) (i j : ℕ) : Type 0 where
+  pub place : ℕ
+  pub early : place < k
+  pub in_all : Listed (get_or groups place []) groups
+  pub apart : IsApart s by t (get_or groups place []) i j
+
+-- two rows that stand in two groups, one after the other
+pub record Separate (groups : List (List ℕ)) (i j : ℕ) : Type 0 where
+  pub place : ℕ
+  pub later : ℕ
+  pub less : place < later
+  pub within : later < length groups
+  pub first : Listed i (get_or groups place [])
+  pub second : Listed j (get_or groups later [])
+
+-- the pairs that the first groups give
+pub record Gathered (s : CodeTable) (by : Option ℕ) (t : Target) (from : ℕ) (groups : List (List ℕ)) (k : ℕ) (pairs : List (ℕ × ℕ)) : Type 0 where
+  pub each : (p : ℕ × ℕ) → Listed p pairs → InGroup s by t groups k p.0 p.1
+  pub apart : AllPairs (λ p q. Separate groups p.0 q.0) pairs
+  pub uniform : pairs ≡ [] → (g : List ℕ) → Listed g (take k groups) → IsUniform s by t from g
+
+pub record Seen (s : CodeTable) (by : Option ℕ) (t : Target) (from most : ℕ) (groups : List (List ℕ)) (k : ℕ) (pairs : List (ℕ × ℕ)) (slots : List ℕ) (steps start : ℕ) : Type 0 where
+  pub gathered : Gathered s by t from groups k pairs
+  pub fewer : length pairs < most
   pub few : steps ≤ start + newer from (concat (take k groups))
   pub clear : IsClear slots
 
-pub seen_none : (s : CodeTable) (by : Option ℕ) (t : Target) (from : ℕ) (groups : List (List ℕ)) (slots : List ℕ) (start : ℕ) → IsClear slots → Seen s by t from groups 0 slots start start
-seen_none s by t from groups slots start z = record { uniform = λ g h. absurd h; few = omega arith; clear = z }
+pub seen_none : (s : CodeTable) (by : Option ℕ) (t : Target) (from most : ℕ) (groups : List (List ℕ)) (pairs : List (ℕ × ℕ)) (slots : List ℕ) (start : ℕ) → 0 < most → pairs ≡ [] → IsClear slots → Seen s by t from most groups 0 pairs slots start start
+seen_none s by t from most groups pairs slots start l e z = record {
+  gathered = record { each = λ p h. absurd (subst (Listed p) e h); apart = λ i j d l m. absurd (let f = ap length e in omega arith); uniform = λ e g h. absurd h };
+  fewer = (let f = ap length e in omega arith);
+  few = omega arith;
+  clear = z;
+}
+
+-- ---- one more group
+-- the pairs with those of a group
+module _ (s : CodeTable) (by : Option ℕ) (t : Target) (from : ℕ) (groups : List (List ℕ)) (k : ℕ) (g : List ℕ) (l : k < length groups) (is : g ≡ get_or groups k []) where
+  uniform_more : ((h : List ℕ) → Listed h (take k groups) → IsUniform s by t from h) → IsUniform s by t from g → (h : List ℕ) → Listed h (take (k + 1) groups) → IsUniform s by t from h
+  uniform_more u v h m = here (Listed-append_cases h (take k groups) (get_or groups k [] ∷ []) (subst (Listed h) (take_more groups k [] l) m))
+    where
+      here : Listed h (take k groups) ⊎ Listed h (get_or groups k [] ∷ []) → IsUniform s by t from h
+      here (inl m) = u h m
+      here (inr (inl e)) = subst (IsUniform s by t from) (is ∙ sym e) v
+      here (inr (inr m)) = absurd m
+
+  later : (i j : ℕ) → InGroup s by t groups k i j → InGroup s by t groups (k + 1) i j
+  later i j w = record { place = w.place; early = (let l = w.early in omega arith); in_all = w.in_all; apart = w.apart }
+
+  pub gathered_more : (pairs : List (ℕ × ℕ)) (pair : Option (ℕ × ℕ)) → Gathered s by t from groups k pairs → IsCompared s by t from g pair → Gathered s by t from groups (k + 1) (pairs ++ option_to_list pair)
+  gathered_more pairs None p u = subst (Gathered s by t from groups (k + 1)) (sym (append-nil pairs)) (record {
+    each = λ r h. later r.0 r.1 (p.each r h);
+    apart = p.apart;
+    uniform = λ e. uniform_more (p.uniform e) u;
+  })
+  gathered_more pairs (Some q) p a = record {
+    each = λ r h. here r (Listed-append_cases r pairs (q ∷ []) h);
+    apart = all_pairs_push (λ p q. Separate groups p.0 q.0) pairs q p.apart (λ n d m. behind (get_or pairs n d) (p.each (get_or pairs n d) (Listed-get_or pairs n d m)));
+    uniform = λ e. absurd (let f = ap length e in let n = length-append pairs (q ∷ []) in omega arith);
+  }
+    where
+      mine : IsApart s by t (get_or groups k []) q.0 q.1
+      mine = subst (λ (h : List ℕ). IsApart s by t h q.0 q.1) is a
+
+      behind : (r : ℕ × ℕ) → InGroup s by t groups k r.0 r.1 → Separate groups r.0 q.0
+      behind r w = record { place = w.place; later = k; less = w.early; within = l; first = w.apart.first; second = mine.first }
+
+      here : (r : ℕ × ℕ) → Listed r pairs ⊎ Listed r (q ∷ []) → InGroup s by t groups (k + 1) r.0 r.1
+      here r (inl h) = later r.0 r.1 (p.each r h)
+      here r (inr (inl e)) = subst (λ (z : ℕ × ℕ). InGroup s by t groups (k + 1) z.0 z.1) (sym e) (record { place = k; early = omega arith; in_all = Listed-get_or groups k [] l; apart = mine })
+      here r (inr (inr h)) = absurd h
 
 module _ (s : CodeTable) (by : Option ℕ) (t : Target) (from : ℕ) (groups : List (List ℕ)) (of : IsPartitionOf s groups) where
   live_few : newer from (concat groups) ≤ new_rows s from
   live_few = subst (λ (gs : List (List ℕ)). newer from (concat gs) ≤ new_rows s from) (sym of.is) ((RowsStandOnce-stripped s of.columns).once (λ i. leb from i))
 
-  pub seen_few : (k : ℕ) (slots : List ℕ) (steps start : ℕ) → Seen s by t from groups k slots steps start → steps ≤ start + new_rows s from
-  seen_few k slots steps start p = let a = p.few in let b = newer_groups from groups k in let c = live_few in omega arith
+  pub seen_few : (most k : ℕ) (pairs : List (ℕ × ℕ)) (slots : List ℕ) (steps start : ℕ) → Seen s by t from most groups k pairs slots steps start → steps ≤ start + new_rows s from
+  seen_few most k pairs slots steps start p = let a = p.few in let b = newer_groups from groups k in let c = live_few in omega arith
 
   module _ (k : ℕ) (g : List ℕ) (l : k < length groups) (is : g ≡ get_or groups k []) where
     -- what is known of a group
@@ -172,37 +239,56 @@ module _ (s : CodeTable) (by : Option ℕ) (t : Target) (from : ℕ) (groups : L
     pub group_rising : IsStrictlyIncreasing g
     group_rising = increasing-Climbs g (group_ascends s of.columns g in_stripped)
 
-    steps_more : (steps after start : ℕ) (slots : List ℕ) → Seen s by t from groups k slots steps start → after ≤ steps + newer from g → after ≤ start + newer from (concat (take (k + 1) groups))
-    steps_more steps after start slots p n =
-        let a = p.few in let e = ap (newer from) (concat-more groups k l) in let b = newer-append from (concat (take k groups)) (get_or groups k []) in
+    steps_more : (steps after start : ℕ) → steps ≤ start + newer from (concat (take k groups)) → after ≤ steps + newer from g → after ≤ start + newer from (concat (take (k + 1) groups))
+    steps_more steps after start a n =
+        let e = ap (newer from) (concat-more groups k l) in let b = newer-append from (concat (take k groups)) (get_or groups k []) in
         let d = ap (newer from) is in omega arith
 
-    pub seen_more : (slots slots_after : List ℕ) (steps after start : ℕ) → Seen s by t from groups k slots steps start → IsUniform s by t from g → after ≤ steps + newer from g → IsClear slots_after → Seen s by t from groups (k + 1) slots_after after start
-    seen_more slots slots_after steps after start p u n z = record {
-      uniform = λ h m. here h (Listed-append_cases h (take k groups) (get_or groups k [] ∷ []) (subst (Listed h) (take_more groups k [] l) m));
-      few = steps_more steps after start slots p n;
+    pub seen_more : (most : ℕ) (pairs pairs_after : List (ℕ × ℕ)) (pair : Option (ℕ × ℕ)) (slots slots_after : List ℕ) (steps after start : ℕ) → Seen s by t from most groups k pairs slots steps start
+        → IsCompared s by t from g pair → pairs_after ≡ pairs ++ option_to_list pair → length pairs_after < most → after ≤ steps + newer from g → IsClear slots_after → Seen s by t from most groups (k + 1) pairs_after slots_after after start
+    seen_more most pairs pairs_after pair slots slots_after steps after start p u e m n z = record {
+      gathered = subst (Gathered s by t from groups (k + 1)) (sym e) (gathered_more s by t from groups k g l is pairs pair p.gathered u);
+      fewer = m;
+      few = steps_more steps after start p.few n;
       clear = z;
     }
-      where
-        here : (h : List ℕ) → Listed h (take k groups) ⊎ Listed h (get_or groups k [] ∷ []) → IsUniform s by t from h
-        here h (inl m) = p.uniform h m
-        here h (inr (inl e)) = subst (IsUniform s by t from) (is ∙ sym e) u
-        here h (inr (inr m)) = absurd m
 
-    pub found_few : (slots : List ℕ) (steps after start : ℕ) → Seen s by t from groups k slots steps start → after ≤ steps + newer from g → after ≤ start + new_rows s from
-    found_few slots steps after start p n = let a = steps_more steps after start slots p n in let b = newer_groups from groups (k + 1) in let c = live_few in omega arith
+    pub found_few : (most : ℕ) (pairs : List (ℕ × ℕ)) (slots : List ℕ) (steps after start : ℕ) → Seen s by t from most groups k pairs slots steps start → after ≤ steps + newer from g → after ≤ start + new_rows s from
+    found_few most pairs slots steps after start p n = let a = steps_more steps after start p.few n in let b = newer_groups from groups (k + 1) in let c = live_few in omega arith
 
-  pub found_none : (k : ℕ) (slots : List ℕ) (steps start : ℕ) → length groups ≤ k → Seen s by t from groups k slots steps start → IsColumnTarget (length s.codes) t → ForSome by (λ b. b < length s.codes)
-      → (x : ℕ) → groups ≡ stripped s x → holds_in_below from s (plus x by) t ≡ true → holds_in s (plus x by) t ≡ true
-  found_none k slots steps start l p wide column x e below =
-      held_in s x by t from wide column (HoldsInBelow-tested s from (plus x by) t below) (λ g h. p.uniform g (subst (Listed g) (sym (take_all k groups l)) (subst (Listed g) (sym e) h)))
+-- ---- what all groups answer
+module _ (s : CodeTable) (by : Option ℕ) (t : Target) (from : ℕ) (groups : List (List ℕ)) (wide : IsColumnTarget (length s.codes) t) (column : ForSome by (λ b. b < length s.codes)) where
+  -- rows of two groups do not agree on the columns
+  separated : (x : ℕ) → groups ≡ stripped s x → (i j : ℕ) → Separate groups i j → agree_on s x i j ≡ true → ⊥
+  separated x e i j w a =
+      let order = (RowsStandOnce-stripped s x).in_order in
+      let in_all = λ (n : ℕ) (l : n < length groups). subst (Listed (get_or groups n [])) e (Listed-get_or groups n [] l) in
+      let m : w.place < length groups = (let l = w.less in let n = w.within in omega arith) in
+      let lead : Listed (get_or (get_or groups w.place []) 0 0) (get_or groups w.place []) = Listed-get_or (get_or groups w.place []) 0 0 (some (get_or groups w.place []) i w.first) in
+      let near = together s x (get_or groups w.place []) (get_or (get_or groups w.place []) 0 0) i (in_all w.place m) lead w.first in
+      let of = stripped-parts s x (get_or groups w.later []) (in_all w.later w.within) in
+      let its = Listed-filter_parts (agree_on s x of.row) j (live_numbers s) (subst (Listed j) of.is w.second) in
+      let same = agree_same s x in
+      let far : agree_on s x of.row (get_or (get_or groups w.place []) 0 0) ≡ true =
+      same.trans of.row j (get_or (get_or groups w.place []) 0 0) its.1 (same.trans j i (get_or (get_or groups w.place []) 0 0) (same.symm i j a) (same.symm (get_or (get_or groups w.place []) 0 0) i near.2)) in
+      let moved : Listed (get_or (get_or groups w.place []) 0 0) (get_or groups w.later []) =
+      subst (Listed (get_or (get_or groups w.place []) 0 0)) (sym of.is) (Listed-filter (agree_on s x of.row) (get_or (get_or groups w.place []) 0 0) (live_numbers s) near.0 far) in
+      let least_there = first_least (get_or groups w.later []) (get_or (get_or groups w.place []) 0 0) (group_ascends s x (get_or groups w.later []) (in_all w.later w.within)) moved in
+      let less = subst (λ (gs : List (List ℕ)). get_or (get_or gs w.place []) 0 0 < get_or (get_or gs w.later []) 0 0) (sym e)
+      (order w.place w.later [] w.less (subst (λ (gs : List (List ℕ)). w.later < length gs) e w.within)) in
+      omega arith
+    where
+      some : (xs : List ℕ) (x : ℕ) → Listed x xs → 0 < length xs
+      some [] x h = absurd h
+      some (z ∷ xs) x h = omega arith
 
--- ---- what a group answers
-pub none_uniform : (s : CodeTable) (by : Option ℕ) (t : Target) (from : ℕ) (g : List ℕ) (pair : Option (ℕ × ℕ)) → is_some pair ≡ false → IsCompared s by t from g pair → IsUniform s by t from g
-none_uniform s by t from g None e p = p
-none_uniform s by t from g (Some pair) e p = absurd (true≢false e)
-
-pub some_found : (s : CodeTable) (by : Option ℕ) (t : Target) (from : ℕ) (g : List ℕ) (pair : Option (ℕ × ℕ)) → is_some pair ≡ true → IsCompared s by t from g pair → IsColumnTarget (length s.codes) t → ForSome by (λ b. b < length s.codes)
-    → (x : ℕ) → Listed g (stripped s x) → IsFound s (plus x by) t pair
-some_found s by t from g None e p wide column x h = absurd (true≢false (sym e))
-some_found s by t from g (Some pair) e p wide column x h = breach s x by t from wide column g pair.0 pair.1 h p
+  pub found : (k : ℕ) (pairs : List (ℕ × ℕ)) → Gathered s by t from groups k pairs → (pairs ≡ [] → length groups ≤ k)
+      → (x : ℕ) → groups ≡ stripped s x → holds_in_below from s (plus x by) t ≡ true → AreFound s (plus x by) t pairs
+  found k pairs p done x e below = record {
+    each = All-from (λ (r : ℕ × ℕ). IsBreach s (plus x by) t r.0 r.1) pairs (λ r h.
+        let w = p.each r h in breach s x by t from wide column (get_or groups w.place []) r.0 r.1 (subst (Listed (get_or groups w.place [])) e w.in_all) w.apart);
+    apart = λ i j d l m sub. separated x e (get_or pairs i d).0 (get_or pairs j d).0 (p.apart i j d l m)
+        (plus-parts s x by (get_or pairs i d).0 (get_or pairs j d).0 (subset-agree_on s (plus x by) (get_or pairs i d).0 (get_or pairs j d).0 sub)).0;
+    none = λ z. held_in s x by t from wide column (HoldsInBelow-tested s from (plus x by) t below)
+        (λ g h. p.uniform z g (subst (Listed g) (sym (take_all k groups (done z))) (subst (Listed g) (sym e) h)));
+  }

@@ -1,6 +1,6 @@
 -- What a verdict on a job says.
-use Rattle.std.specs.Prelude.{◌≡◌, ◌<◌, ◌^◌, ℕ, nat_le, true, false, length, Option, Some, None}
-use Rattle.std.specs.List.{count_by, Contains}
+use Rattle.std.specs.Prelude.{◌≡◌, ◌<◌, ◌^◌, ℕ, nat_le, true, false, List, [], length}
+use Rattle.std.specs.List.{count_by, Contains, All, AllPairs}
 use Rattle.col_set.specs.declared.target.Target.{Target}
 use Rattle.col_set.specs.ColSet.{Columns, IsSubset}
 use Rattle.col_set.specs.Target.{has_target, IsColumnTarget}
@@ -18,10 +18,15 @@ pub record IsBreach (s : CodeTable) (x : Columns) (t : Target) (i j : ℕ) : Typ
   pub left : IsSubset x (code_agree s i j)
   pub target : has_target (code_agree s i j) t ≡ false
 
--- nothing where x determines t, or a pair that shows that it does not
-abbrev pub IsFound : CodeTable → Columns → Target → Option (ℕ × ℕ) → Type 0
-IsFound s x t None = holds_in s x t ≡ true
-IsFound s x t (Some pair) = IsBreach s x t pair.0 pair.1
+-- no two of these pairs come from rows that all agree on x
+abbrev pub AreApart : CodeTable → Columns → List (ℕ × ℕ) → Type 0
+AreApart s x pairs = AllPairs (λ p q. ¬ IsSubset x (code_agree s p.0 q.0)) pairs
+
+-- each pair shows that x does not determine t, from rows of its own that agree on x, and there is none only where it does
+pub record AreFound (s : CodeTable) (x : Columns) (t : Target) (found : List (ℕ × ℕ)) : Type 0 where
+  pub each : All (λ pair. IsBreach s x t pair.0 pair.1) found
+  pub apart : AreApart s x found
+  pub none : found ≡ [] → holds_in s x t ≡ true
 
 -- the job's left side and target are columns of its snapshot, and the dependency holds among the rows below its `from`
 pub record IsFitting (job : JobParts) : Type 0 where

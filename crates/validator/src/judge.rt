@@ -1,7 +1,7 @@
 // Verdicts on jobs.
 ghost use Rattle.std.specs.Prelude.{◌≡◌, ◌≤◌, ◌+◌, ◌↔◌, true, IfOk};
 ghost use Rattle.rel_base.specs.Shows.{holds_in};
-ghost use Rattle.validator.specs.Verdicts.{IsFound, IsFitting, IsVerdict, new_rows};
+ghost use Rattle.validator.specs.Verdicts.{AreFound, IsFitting, IsVerdict, new_rows};
 ghost use Rattle.validator.specs.declared.verdict.Verdict.TheVariants.{Holds};
 
 use crate::walk::{self, Question};
@@ -34,19 +34,21 @@ pub fn validate<L: Ledger>(
         target: job.target(),
         by: refined.by,
         from: job.from(),
+        most: 1,
     };
     let mut slots = Vec::new(alloc);
-    let pair = walk::first_pair(&refined.partition, snapshot, &question, &mut slots, steps)?;
-    Ok(verdict_of(job, pair))
+    let partition = &refined.partition;
+    let pairs = walk::pairs_in_groups(alloc, partition, snapshot, &question, &mut slots, steps)?;
+    Ok(verdict_of(job, &pairs))
 }
 
-// The verdict that a search for a pair leads to.
-pub(crate) fn verdict_of(job: &Job, pair: Option<(RowNo, RowNo)>) -> Verdict
-    requires { IsFound job.now.snapshot job.now.left job.now.target pair }
+// The verdict that a search for pairs leads to.
+pub(crate) fn verdict_of(job: &Job, pairs: &[(RowNo, RowNo)]) -> Verdict
+    requires { AreFound job.now.snapshot job.now.left job.now.target pairs.now }
     ensures { IsVerdict job.now result }
 {
-    match pair {
-        Some((i, j)) => Verdict::Broken { i, j },
+    match pairs.first() {
+        Some((i, j)) => Verdict::Broken { i: *i, j: *j },
         None => Verdict::Holds { to: job.to() },
     }
 }

@@ -1,29 +1,29 @@
 // Partitions that are kept for later verdicts.
-ghost use Rattle.std.specs.Prelude.{◌≡◌, ◌<◌, ◌≤◌, ◌+◌, ◌^◌, ℕ, Some, length, vec_len, true, IfOk, OnOk, IfSome, IsTrue, slice_index_or};
+ghost use Rattle.std.specs.Prelude.{◌≡◌, ◌<◌, ◌≤◌, ◌+◌, ◌^◌, ℕ, Some, [], length, vec_len, true, IfOk, OnOk, IfSome, IsTrue, slice_index_or};
 ghost use Rattle.std.specs.Option.{ForSome};
 ghost use Rattle.col_set.specs.ColSet.{has, subset, union, with, empty};
 ghost use Rattle.rel_base.specs.CodeTable.{CodeTable};
 ghost use Rattle.validator.specs.Kept.{AreKept};
-ghost use Rattle.validator.specs.Verdicts.{IsFound, IsFitting, new_rows};
+ghost use Rattle.validator.specs.Verdicts.{AreFound, IsFitting, new_rows};
 ghost use Rattle.validator.specs.Walk.{IsClear, plus};
 ghost use Rattle.validator.specs.declared.shelf.Kept.{Kept};
 
 use crate::walk::{self, Question};
 use col_set::ColSet;
+use indexmap::IndexMap;
 use rel_base::{Job, RowNo, Snapshot, Steps};
 use std::alloc::{AllocError, Global};
+use std::hash::{BuildHasherDefault, DefaultHasher};
 use std::sync::ledger::Ledger;
 use stripped_partition::Partition;
 
 // The most columns of a set whose partition is kept, and the most partitions that are kept.
-const MOST_COLUMNS: u32 = 3;
+const MOST_COLUMNS: u32 = 4;
 
-const MOST_KEPT: usize = 1024;
+const MOST_KEPT: usize = 4096;
 
-// The weight of a column whose partition was not made yet, and the greatest weight of another.
-pub(crate) const UNKNOWN: u32 = u32::MAX;
-
-const HEAVIEST: u32 = u32::MAX - 1;
+// The weight of a column whose partition was not made yet.
+const UNKNOWN: u32 = u32::MAX;
 
 // The partition by some columns, and how many rows its groups have.
 #[derive(Drop)]
@@ -33,6 +33,22 @@ pub(crate) struct Kept {
     pub(crate) rows: usize,
 }
 
+// By columns, a place. The hash is SipHash with a fixed key.
+type Places = IndexMap<ColSet, usize, BuildHasherDefault<DefaultHasher>>;
+
+// The partitions that are kept, the places where they are found, and the weight of each column: how many rows it does not tell
+// from an earlier one. All that is kept has `rows` rows in its groups, of the `room` that there is, and a partition is large with
+// more than `large` rows.
+#[derive(Drop)]
+pub(crate) struct Shelf {
+    pub(crate) kept: Vec<Kept>,
+    places: Places,
+    weights: [u32; 128],
+    rows: usize,
+    room: usize,
+    large: usize,
+}
+
 // How many rows the groups have.
 fn rows_of(partition: &Partition) -> usize {
     partition
@@ -40,38 +56,17 @@ fn rows_of(partition: &Partition) -> usize {
         .saturating_add(partition.error_count() as usize)
 }
 
-// What a verdict on these columns costs from a partition by some of them: a pass over its rows for each column that is left to
-// refine it by, and one to compare them.
-fn cost_of(kept: &Kept, columns: ColSet) -> usize {
-    let left = columns.len().saturating_sub(kept.columns.len());
-    kept.rows.saturating_mul(left as usize + 1)
-}
-
-// Whether a partition is by some of these columns, and a verdict on them costs less from it.
-fn is_better(kept: &Kept, columns: ColSet, least: usize) -> bool
-    ensures { IsTrue result → subset kept.now.columns columns ≡ true }
-{
-    if cost_of(kept, columns) < least {
-        kept.columns.subset_of(columns)
-    } else {
-        false
-    }
-}
-
-// The place of the partition by some of these columns from which a verdict costs the least.
-fn cheapest_within(kept: &[Kept], columns: ColSet) -> Option<usize>
+// The place of the partition by these columns, if it is kept. The table of places is but a hint, which is tried.
+fn place_of(kept: &[Kept], places: &Places, columns: ColSet) -> Option<usize>
     ensures place { IfSome result (λ k. k < length kept.now) }
-    ensures within { (k : ℕ) (d : Kept) → result ≡ Some k → subset (slice_index_or kept.now k d).columns columns ≡ true }
+    ensures columns { (k : ℕ) (d : Kept) → result ≡ Some k → (slice_index_or kept.now k d).columns ≡ columns }
 {
-    let mut best = None;
-    let mut least = usize::MAX;
-    for k in 0..kept.len() {
-        if is_better(&kept[k], columns, least) {
-            best = Some(k);
-            least = cost_of(&kept[k], columns);
-        }
+    let k = *places.get(&columns)?;
+    if k < kept.len() && kept[k].columns == columns {
+        Some(k)
+    } else {
+        None
     }
-    best
 }
 
 // The column of these that tells the most rows apart, as far as that is known.
@@ -186,24 +181,29 @@ fn push_all(alloc: Global, snapshot: &Snapshot, kept: &mut Vec<Kept>) -> Result<
     Ok(())
 }
 
-// Where a verdict on these columns begins: the place of a kept partition by some of them.
-fn base(
-    alloc: Global,
-    snapshot: &Snapshot,
-    kept: &mut Vec<Kept>,
+// The place of the kept partition by the most of the lightest of these columns, up to four of them.
+//
+// Partitions are refined by the lightest column first, so those that are kept are by the lightest columns of some left side.
+fn lightest_kept(
+    kept: &[Kept],
+    places: &Places,
+    weights: &[u32; 128],
     columns: ColSet,
-) -> Result<usize, AllocError>
-    requires { AreKept snapshot.now kept.old.items }
-    ensures kept { AreKept snapshot.now kept.new.items }
-    ensures place { IfOk result (λ k. k < vec_len kept.new) }
-    ensures within { IfOk result (λ k. (d : Kept) → subset (slice_index_or kept.new.items k d).columns columns ≡ true) }
+) -> Option<usize>
+    ensures place { IfSome result (λ k. k < length kept.now) }
+    ensures within { (k : ℕ) (d : Kept) → result ≡ Some k → subset (slice_index_or kept.now k d).columns columns ≡ true }
 {
-    if let Some(k) = cheapest_within(kept, columns) {
-        return Ok(k);
+    let mut chosen = ColSet::empty();
+    let mut best = place_of(kept, places, chosen);
+    for _ in 0..MOST_COLUMNS {
+        let left = columns.minus(chosen);
+        let Some(first) = left.first() else {
+            return best;
+        };
+        chosen = chosen.with(lightest(left, first, weights));
+        best = place_of(kept, places, chosen).or(best);
     }
-    let k = kept.len();
-    push_all(alloc, snapshot, kept)?;
-    Ok(k)
+    best
 }
 
 // Refines a kept partition by all but one of the columns that are left, and keeps what it makes. It answers the place of the last
@@ -242,56 +242,163 @@ fn refine_kept(
     Ok((k, None))
 }
 
-// Searches the groups by a job's left side for a pair that breaks its dependency.
-pub(crate) fn search<L: Ledger>(
-    alloc: Global,
-    job: &Job,
-    kept: &mut Vec<Kept>,
-    weights: &mut [u32; 128],
-    slots: &mut Vec<u32>,
-    steps: &mut Steps<L>,
-) -> Result<Option<(RowNo, RowNo)>, AllocError>
-    requires fitting { IsFitting job.now }
-    requires kept { AreKept job.now.snapshot kept.old.items }
-    requires clear { IsClear slots.old.items }
-    ensures kept { AreKept job.now.snapshot kept.new.items }
-    ensures clear { OnOk result (IsClear slots.new.items) }
-    ensures pair { IfOk result (IsFound job.now.snapshot job.now.left job.now.target) }
-    ensures steps { steps.new ≤ steps.old + new_rows job.now.snapshot job.now.from }
-{
-    let snapshot = job.snapshot();
-    let left = job.left();
-    keep_columns(alloc, snapshot, kept, weights, left)?;
-    let base = base(alloc, snapshot, kept, left)?;
-    let rest = left.minus(kept[base].columns);
-    let (k, by) = refine_kept(alloc, snapshot, kept, weights, slots, base, rest)?;
-    let question = Question {
-        target: job.target(),
-        by,
-        from: job.from(),
-    };
-    walk::first_pair(&kept[k].partition, snapshot, &question, slots, steps)
+// Notes where the partition by these columns is kept, and answers whether there was memory for it.
+fn note(places: &mut Places, columns: ColSet, k: usize) -> bool {
+    places.insert(columns, k).is_ok()
 }
 
-// Whether a partition is small enough to be kept, beside this many others with these rows.
-fn is_small(kept: &Kept, others: usize, rows: usize, room: usize) -> bool {
-    kept.columns.len() <= MOST_COLUMNS && others < MOST_KEPT && rows <= room
-}
-
-// Drops those of the partitions from a place on that are not small, and answers how many rows are kept.
-pub(crate) fn trim(kept: &mut Vec<Kept>, first: usize, rows: usize, room: usize) -> usize
-    ensures { (s : CodeTable) → AreKept s kept.old.items → AreKept s kept.new.items }
-{
-    let mut total = rows;
-    let mut k = kept.len();
-    while k > first {
-        k -= 1;
-        let more = total.saturating_add(kept[k].rows);
-        if is_small(&kept[k], k, more, room) {
-            total = more;
-        } else {
-            drop(kept.swap_remove(k));
+impl Shelf {
+    // An empty shelf with room for this many rows, for a snapshot with this many.
+    pub(crate) fn of(alloc: Global, rows: usize, room: usize) -> Shelf
+        ensures { result.kept.items ≡ [] }
+    {
+        Shelf {
+            kept: Vec::new(alloc),
+            places: Places::with_hasher(alloc, BuildHasherDefault::new()),
+            weights: [UNKNOWN; 128],
+            rows: 0,
+            room,
+            large: rows / 2,
         }
     }
-    total
+
+    // Searches the groups by a job's left side for pairs that break its dependency, up to so many.
+    pub(crate) fn search<L: Ledger>(
+        &mut self,
+        alloc: Global,
+        job: &Job,
+        most: usize,
+        slots: &mut Vec<u32>,
+        steps: &mut Steps<L>,
+    ) -> Result<Vec<(RowNo, RowNo)>, AllocError>
+        requires some { 0 < most }
+        requires fitting { IsFitting job.now }
+        requires kept { AreKept job.now.snapshot self.old.kept.items }
+        requires clear { IsClear slots.old.items }
+        ensures kept { AreKept job.now.snapshot self.new.kept.items }
+        ensures clear { OnOk result (IsClear slots.new.items) }
+        ensures pairs { IfOk result (λ pairs. AreFound job.now.snapshot job.now.left job.now.target pairs.items) }
+        ensures few { IfOk result (λ pairs. vec_len pairs ≤ most) }
+        ensures steps { steps.new ≤ steps.old + new_rows job.now.snapshot job.now.from }
+    {
+        let first = self.kept.len();
+        let made = keep_columns(
+            alloc,
+            job.snapshot(),
+            &mut self.kept,
+            &mut self.weights,
+            job.left(),
+        );
+        self.settle(first);
+        made?;
+        let first = self.kept.len();
+        let found = self.search_kept(alloc, job, most, slots, steps);
+        self.settle(first);
+        found
+    }
+
+    // The same from the partitions that are kept, where the weights are known. It keeps all that it makes.
+    fn search_kept<L: Ledger>(
+        &mut self,
+        alloc: Global,
+        job: &Job,
+        most: usize,
+        slots: &mut Vec<u32>,
+        steps: &mut Steps<L>,
+    ) -> Result<Vec<(RowNo, RowNo)>, AllocError>
+        requires some { 0 < most }
+        requires fitting { IsFitting job.now }
+        requires kept { AreKept job.now.snapshot self.old.kept.items }
+        requires clear { IsClear slots.old.items }
+        ensures kept { AreKept job.now.snapshot self.new.kept.items }
+        ensures clear { OnOk result (IsClear slots.new.items) }
+        ensures pairs { IfOk result (λ pairs. AreFound job.now.snapshot job.now.left job.now.target pairs.items) }
+        ensures few { IfOk result (λ pairs. vec_len pairs ≤ most) }
+        ensures steps { steps.new ≤ steps.old + new_rows job.now.snapshot job.now.from }
+    {
+        let snapshot = job.snapshot();
+        let left = job.left();
+        let base = self.base(alloc, snapshot, left)?;
+        let rest = left.minus(self.kept[base].columns);
+        let (k, by) = refine_kept(
+            alloc,
+            snapshot,
+            &mut self.kept,
+            &self.weights,
+            slots,
+            base,
+            rest,
+        )?;
+        let question = Question {
+            target: job.target(),
+            by,
+            from: job.from(),
+            most,
+        };
+        let partition = &self.kept[k].partition;
+        walk::pairs_in_groups(alloc, partition, snapshot, &question, slots, steps)
+    }
+
+    // Where a verdict on these columns begins: the place of a kept partition by some of them.
+    fn base(
+        &mut self,
+        alloc: Global,
+        snapshot: &Snapshot,
+        columns: ColSet,
+    ) -> Result<usize, AllocError>
+        requires { AreKept snapshot.now self.old.kept.items }
+        ensures kept { AreKept snapshot.now self.new.kept.items }
+        ensures place { IfOk result (λ k. k < vec_len self.new.kept) }
+        ensures within { IfOk result (λ k. (d : Kept) → subset (slice_index_or self.new.kept.items k d).columns columns ≡ true) }
+    {
+        if let Some(k) = lightest_kept(&self.kept, &self.places, &self.weights, columns) {
+            return Ok(k);
+        }
+        let k = self.kept.len();
+        push_all(alloc, snapshot, &mut self.kept)?;
+        Ok(k)
+    }
+
+    // Drops those of the partitions from a place on that may not stay.
+    fn settle(&mut self, first: usize)
+        ensures { (s : CodeTable) → AreKept s self.old.kept.items → AreKept s self.new.kept.items }
+    {
+        let mut k = first;
+        while k < self.kept.len() {
+            if self.accepts(k) {
+                k += 1;
+            } else {
+                drop(self.kept.remove(k));
+            }
+        }
+    }
+
+    // Whether the partition at a place may stay, beside those before it. If so it is found there from now on.
+    fn accepts(&mut self, k: usize) -> bool
+        requires { k < vec_len self.old.kept }
+        ensures { self.new.kept ≡ self.old.kept }
+    {
+        let columns = self.kept[k].columns;
+        let rows = self.rows.saturating_add(self.kept[k].rows);
+        if columns.len() > MOST_COLUMNS || k >= MOST_KEPT || rows > self.room_for(k) {
+            return false;
+        }
+        if !note(&mut self.places, columns, k) {
+            return false;
+        }
+        self.rows = rows;
+        true
+    }
+
+    // How many rows all that is kept may have with the partition at a place: half of the room, if it has more than half of the
+    // snapshot's rows. So large partitions, from which a verdict costs nearly what it costs from all rows, don't fill the room.
+    fn room_for(&self, k: usize) -> usize
+        requires { k < vec_len self.now.kept }
+    {
+        if self.kept[k].rows > self.large {
+            self.room / 2
+        } else {
+            self.room
+        }
+    }
 }

@@ -1,12 +1,13 @@
 // Verdicts that start from kept partitions.
-ghost use Rattle.std.specs.Prelude.{◌≡◌, ◌≤◌, ◌+◌, ◌↔◌, true, IfOk};
+ghost use Rattle.std.specs.Prelude.{◌≡◌, ◌<◌, ◌≤◌, ◌+◌, ◌↔◌, [], true, vec_len, IfOk};
+ghost use Rattle.std.specs.List.{All};
 ghost use Rattle.rel_base.specs.Shows.{holds_in};
-ghost use Rattle.validator.specs.Verdicts.{IsFitting, IsVerdict, new_rows};
-ghost use Rattle.validator.specs.declared.verdict.Verdict.TheVariants.{Holds};
+ghost use Rattle.validator.specs.Verdicts.{AreApart, AreFound, IsFitting, IsVerdict, new_rows};
+ghost use Rattle.validator.specs.declared.verdict.Verdict.TheVariants.{Holds, Broken};
 
-use crate::shelf::{self, Kept, UNKNOWN};
+use crate::shelf::Shelf;
 use crate::{Verdict, judge};
-use rel_base::{Job, Snapshot, Steps};
+use rel_base::{Job, RowNo, Snapshot, Steps};
 use std::alloc::{AllocError, Global};
 use std::marker::Model;
 use std::sync::Arc;
@@ -14,16 +15,14 @@ use std::sync::ledger::Ledger;
 
 /// Stripped partitions of one snapshot by small column sets, which verdicts start from. One worker owns it.
 ///
-/// It keeps the partition by each single column that a verdict asked for, and those by two and three columns that it made on its
-/// way, as long as the rows of all that is kept fit its room. Contracts see the codes of its snapshot.
+/// It keeps the partition by each single column that a verdict asked for, and those by two to four columns that it made on its way,
+/// 4,096 of them at most, as long as the rows of all that is kept fit its room. A partition with more than half of the snapshot's rows
+/// is kept only as long as they fit half of it. Contracts see the codes of its snapshot.
 #[derive(Drop)]
 pub struct Store {
     snapshot: Arc<Snapshot>,
-    kept: Vec<Kept>,
+    shelf: Shelf,
     slots: Vec<u32>,
-    weights: [u32; 128],
-    rows: usize,
-    room: usize,
 }
 
 impl Model for Store {
@@ -36,7 +35,7 @@ impl Model for Store {
 
     ghost view = { λ s. s.snapshot.value };
 
-    ghost invariant = { λ s. AreKept s.snapshot.value s.kept.items × IsClear s.slots.items };
+    ghost invariant = { λ s. AreKept s.snapshot.value s.shelf.kept.items × IsClear s.slots.items };
 }
 
 impl Store {
@@ -44,21 +43,20 @@ impl Store {
     pub fn of(alloc: Global, snapshot: Arc<Snapshot>, room: usize) -> Store
         ensures { result ≡ snapshot.value }
     {
+        let rows = snapshot.to().number() as usize;
         Store {
             snapshot,
-            kept: Vec::new(alloc),
+            shelf: Shelf::of(alloc, rows, room),
             slots: Vec::new(alloc),
-            weights: [UNKNOWN; 128],
-            rows: 0,
-            room,
         }
     }
 
     /// Validates a job on the store's snapshot, as `validate` does, with the same answer to whether the dependency holds.
     ///
-    /// It starts from the kept partition by columns of the left side from which the fewest rows are passed, refines it by the others
-    /// but one, and compares the rows of each group by the last one's codes, up to the first difference. So a verdict takes time by
-    /// the rows of that partition. After want of memory the store is as useful as before.
+    /// It takes the columns of the left side in the order of how many rows they tell apart, starts from the kept partition by the most of
+    /// the first of them, up to four, refines it by the others but the last, and compares the rows of each group by the last one's
+    /// codes, up to the first difference. So a verdict takes time by the rows of that partition, not by how many are kept. After want
+    /// of memory the store is as useful as before.
     pub fn validate<L: Ledger>(
         &mut self,
         alloc: Global,
@@ -72,19 +70,58 @@ impl Store {
         ensures steps { steps.new ≤ steps.old + new_rows job.now.snapshot job.now.from }
         ensures store { self.new ≡ self.old }
     {
-        let first = self.kept.len();
-        let found = shelf::search(
-            alloc,
-            job,
-            &mut self.kept,
-            &mut self.weights,
-            &mut self.slots,
-            steps,
-        );
+        let pairs = self.search(alloc, job, 1, steps)?;
+        Ok(judge::verdict_of(job, &pairs))
+    }
+
+    /// Pairs of live rows that break a job's dependency on the store's snapshot: up to so many, and none exactly where it holds.
+    ///
+    /// Of each pair the smaller number comes first, and the two rows agree on the left side and differ on the target. No two pairs
+    /// come from one group of rows that agree on the left side. The work of a verdict that fails is nearly all in the refining of
+    /// the groups, which is done for the first pair already: those of further groups come nearly free, and each is evidence against
+    /// other candidates too. So a worker asks for some tens here rather than for one verdict after another.
+    ///
+    /// It takes the time of `validate` where the dependency holds. After want of memory the store is as useful as before.
+    pub fn breaches<L: Ledger>(
+        &mut self,
+        alloc: Global,
+        job: &Job,
+        most: usize,
+        steps: &mut Steps<L>,
+    ) -> Result<Vec<(RowNo, RowNo)>, AllocError>
+        requires some { 0 < most }
+        requires same { self.old ≡ job.now.snapshot }
+        requires fitting { IsFitting job.now }
+        ensures pairs { IfOk result (λ pairs. All (λ pair. IsVerdict job.now (Broken pair.0 pair.1)) pairs.items) }
+        ensures groups { IfOk result (λ pairs. AreApart job.now.snapshot job.now.left pairs.items) }
+        ensures few { IfOk result (λ pairs. vec_len pairs ≤ most) }
+        ensures exactly { IfOk result (λ pairs. (pairs.items ≡ []) ↔ (holds_in job.now.snapshot job.now.left job.now.target ≡ true)) }
+        ensures steps { steps.new ≤ steps.old + new_rows job.now.snapshot job.now.from }
+        ensures store { self.new ≡ self.old }
+    {
+        self.search(alloc, job, most, steps)
+    }
+
+    // Searches for pairs that break a job's dependency, and keeps the small ones of the partitions that are made for it.
+    fn search<L: Ledger>(
+        &mut self,
+        alloc: Global,
+        job: &Job,
+        most: usize,
+        steps: &mut Steps<L>,
+    ) -> Result<Vec<(RowNo, RowNo)>, AllocError>
+        requires some { 0 < most }
+        requires same { self.old ≡ job.now.snapshot }
+        requires fitting { IsFitting job.now }
+        ensures pairs { IfOk result (λ pairs. AreFound job.now.snapshot job.now.left job.now.target pairs.items) }
+        ensures few { IfOk result (λ pairs. vec_len pairs ≤ most) }
+        ensures steps { steps.new ≤ steps.old + new_rows job.now.snapshot job.now.from }
+        ensures store { self.new ≡ self.old }
+    {
+        let found = self.shelf.search(alloc, job, most, &mut self.slots, steps);
         if found.is_err() {
             self.slots = Vec::new(alloc);
         }
-        self.rows = shelf::trim(&mut self.kept, first, self.rows, self.room);
-        Ok(judge::verdict_of(job, found?))
+        found
     }
 }

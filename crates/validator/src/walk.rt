@@ -1,29 +1,30 @@
 // Comparisons of rows on a target, group by group.
-ghost use Rattle.std.specs.Prelude.{◌≡◌, ◌<◌, ◌≤◌, ◌+◌, ◌^◌, ℕ, length, nat_le, not, vec_len, slice_index, true, false, IsTrue, IfOk, OnOk, cond};
+ghost use Rattle.std.specs.Prelude.{◌≡◌, ◌<◌, ◌≤◌, ◌+◌, ◌^◌, ◌++◌, ℕ, length, nat_le, not, vec_len, slice_index, true, false, IsTrue, IfOk, OnOk, cond};
 ghost use Rattle.std.specs.List.{All, count_by};
-ghost use Rattle.std.specs.Option.{ForSome};
+ghost use Rattle.std.specs.Option.{ForSome, option_to_list};
 ghost use Rattle.std.specs.List.Sorted.{IsStrictlyIncreasing};
 ghost use Rattle.col_set.specs.ColSet.{Columns};
 ghost use Rattle.col_set.specs.Target.{has_target, IsColumnTarget};
 ghost use Rattle.rel_base.specs.Shows.{code_agree, holds_in_below};
 ghost use Rattle.stripped_partition.specs.Stripped.{stripped, IsPartitionOf};
-ghost use Rattle.validator.specs.Verdicts.{IsFound, new_rows};
+ghost use Rattle.validator.specs.Verdicts.{AreFound, new_rows};
 ghost use Rattle.validator.specs.Walk as walks;
 ghost use Rattle.validator.specs.Walk.{plus, IsCompared, IsClear, IsClearBut};
 
 use col_set::Target;
 use rel_base::{RowNo, Snapshot, Steps};
-use std::alloc::AllocError;
+use std::alloc::{AllocError, Global};
 use std::sync::ledger::Ledger;
 use stripped_partition::Partition;
 
 // What is asked of the groups of a partition: whether the rows of each that have one code in the further column, if there is
-// one, agree on the target, where those below a number are known to.
+// one, agree on the target, where those below a number are known to, and for how many groups at most that do not.
 #[derive(Clone, Copy)]
 pub(crate) struct Question {
     pub(crate) target: Target,
     pub(crate) by: Option<u8>,
     pub(crate) from: RowNo,
+    pub(crate) most: usize,
 }
 
 // A row's code in the further column, or 0.
@@ -105,7 +106,12 @@ fn pair_in<L: Ledger>(
     ensures clear { OnOk result (IsClearBut snapshot.now question.now.by group.now slots.new.items) }
     ensures steps { steps.new ≤ steps.old + count_by (λ i. nat_le question.now.from i) group.now }
 {
-    let Question { target, by, from } = *question;
+    let Question {
+        target,
+        by,
+        from,
+        ..
+    } = *question;
     for row in group {
         let slot = key(snapshot, by, *row);
         reach(slots, slot)?;
@@ -170,27 +176,43 @@ fn pair_of_group<L: Ledger>(
     Ok(pair)
 }
 
-// In the first group that has one, two rows with one code in the further column that differ on the target.
-pub(crate) fn first_pair<L: Ledger>(
+// Adds a pair, if there is one.
+fn add(pairs: &mut Vec<(RowNo, RowNo)>, pair: Option<(RowNo, RowNo)>) -> Result<(), AllocError>
+    ensures { OnOk result (pairs.new.items ≡ pairs.old.items ++ option_to_list pair) }
+{
+    if let Some(pair) = pair {
+        pairs.push(pair)?;
+    }
+    Ok(())
+}
+
+// In each group that has such a pair, up to so many groups, two rows with one code in the further column that differ on the
+// target.
+pub(crate) fn pairs_in_groups<L: Ledger>(
+    alloc: Global,
     partition: &Partition,
     snapshot: &Snapshot,
     question: &Question,
     slots: &mut Vec<u32>,
     steps: &mut Steps<L>,
-) -> Result<Option<(RowNo, RowNo)>, AllocError>
+) -> Result<Vec<(RowNo, RowNo)>, AllocError>
     requires of { IsPartitionOf snapshot.now partition.now }
     requires target { IsColumnTarget (length snapshot.now.codes) question.now.target }
     requires column { ForSome question.now.by (λ column. column < length snapshot.now.codes) }
+    requires some { 0 < question.now.most }
     requires clear { IsClear slots.old.items }
-    ensures pair { IfOk result (λ pair. (x : Columns) → partition.now ≡ stripped snapshot.now x → holds_in_below question.now.from snapshot.now (plus x question.now.by) question.now.target ≡ true → IsFound snapshot.now (plus x question.now.by) question.now.target pair) }
+    ensures pairs { IfOk result (λ pairs. (x : Columns) → partition.now ≡ stripped snapshot.now x → holds_in_below question.now.from snapshot.now (plus x question.now.by) question.now.target ≡ true → AreFound snapshot.now (plus x question.now.by) question.now.target pairs.items) }
+    ensures few { IfOk result (λ pairs. vec_len pairs ≤ question.now.most) }
     ensures clear { OnOk result (IsClear slots.new.items) }
     ensures steps { steps.new ≤ steps.old + new_rows snapshot.now question.now.from }
 {
+    let mut pairs = Vec::new(alloc);
     for k in 0..partition.group_count() {
         let pair = pair_of_group(partition.group(k), snapshot, question, slots, steps)?;
-        if pair.is_some() {
-            return Ok(pair);
+        add(&mut pairs, pair)?;
+        if pairs.len() >= question.most {
+            return Ok(pairs);
         }
     }
-    Ok(None)
+    Ok(pairs)
 }

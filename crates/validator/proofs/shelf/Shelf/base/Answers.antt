@@ -1,6 +1,6 @@
 use Rattle.std.proofs.Common.{ℕ, get_or, ap, ◌∙◌}
 use Rattle.validator.proofs.KeptLists.{empty_within}
-use Rattle.validator.proofs.shelf.base.Goals as goal
+use Rattle.validator.proofs.shelf.Shelf.base.Goals as goal
 
 pub returns-clause-within : goal.returns-clause-within
 returns-clause-within c d =
