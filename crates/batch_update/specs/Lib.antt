@@ -1,0 +1,3 @@
+pub mod RowNumber
+pub mod Entry
+pub mod Changes
