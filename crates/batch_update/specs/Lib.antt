@@ -1,3 +1,4 @@
 pub mod RowNumber
 pub mod Entry
 pub mod Changes
+pub mod Coming

@@ -12,6 +12,10 @@ is_plain field = list_all is_ascii_digit field && nat_le (length field) 10 && no
 abbrev pub is_row_number : ℕ → Bool
 is_row_number n = nat_le 1 n && nat_le n 4294967295
 
+-- the number that digits write, if there is nothing else; no digits write 0
+abbrev pub value_of : List ℕ → Option ℕ
+value_of field = if list_all is_ascii_digit field then Some (digits_value 10 field) else None
+
 -- the row number that a field writes in plain decimal, if it does
 unfoldable pub row_number : List ℕ → Option ℕ
 row_number field = if is_plain field && is_row_number (digits_value 10 field) then Some (digits_value 10 field) else None

@@ -2,7 +2,11 @@
 ghost use Rattle.std.specs.Prelude.{◌≡◌, IfOk};
 ghost use Rattle.batch_update.specs.Changes.{changes};
 
+use crate::begun::{Begun, Place};
 use crate::item::Item;
+use crate::reading::read_entry;
+use csv::ByteRecord;
+use csv_load::RecordReader;
 use rel_base::Limits;
 use std::alloc::{AllocError, Global};
 
@@ -22,5 +26,17 @@ pub fn read_changes(
 ) -> Result<Vec<Item>, AllocError>
     ensures { IfOk result (λ items. items.items ≡ changes bytes.now columns limits.now) }
 {
-    Err(AllocError)
+    let mut reader = RecordReader::new(alloc, bytes);
+    let mut fields = ByteRecord::new(alloc);
+    let mut items = Vec::new(alloc);
+    let mut begun = Begun::Nothing;
+    let mut place = Place { no: 1, rec: 1 };
+    while reader.next(&mut fields)? {
+        let entry = read_entry(alloc, &fields, columns, limits)?;
+        let ends = entry.is_end();
+        begun = begun.after(alloc, &mut items, place, entry)?;
+        place = place.next(ends);
+    }
+    begun.cut_off(&mut items, place)?;
+    Ok(items)
 }

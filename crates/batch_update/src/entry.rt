@@ -1,4 +1,6 @@
 // What one record of a change text says.
+ghost use Rattle.std.specs.Prelude.{◌≡◌};
+
 use rel_base::{Op, Why};
 
 /// What one record says.
@@ -12,4 +14,15 @@ pub(crate) enum Entry {
     Report,
     /// Nothing that a change text may say.
     Malformed(Why),
+}
+
+impl Entry {
+    ghost use Rattle.batch_update.specs.Entry as spec;
+
+    /// Whether it ends a batch.
+    pub(crate) fn is_end(&self) -> bool
+        ensures { result ≡ spec.is_end self.now }
+    {
+        matches!(self, Entry::End)
+    }
 }
