@@ -9,6 +9,9 @@ use Rattle.rel_base.specs.Cells.{Cell, Row}
 use Rattle.csv_load.specs.Refusal.{has_long_cell}
 use Rattle.batch_update.specs.declared.entry.Entry.{Entry}
 use Rattle.batch_update.specs.declared.entry.Entry.TheVariants.{Operation, End, Report, Malformed}
+use Rattle.batch_update.specs.declared.kind.Kind.{Kind}
+use Rattle.batch_update.specs.declared.kind.Kind.TheVariants as kind
+use Rattle.batch_update.specs.Kind.{kind_of}
 use Rattle.batch_update.specs.RowNumber.{row_number}
 
 -- an operation with these cells, of which none may be too long
@@ -43,22 +46,19 @@ abbrev pub alone : Row → Entry → Entry
 alone [] entry = entry
 alone (field ∷ fields) entry = Malformed why.Fields
 
--- what the byte that is the first field makes of the other fields
-abbrev pub entry_by : ℕ → Limits → ℕ → Row → Entry
-entry_by columns limits byte fields =
-    if byte == 43 then insertion columns limits fields
-    else if byte == 45 then deletion fields
-    else if byte == 33 then alone fields End
-    else if byte == 63 then alone fields Report
-    else if byte == 61 then update columns limits fields
-    else Malformed why.Kind
+-- what the fields after the first say in a record of this kind
+abbrev pub entry_by : ℕ → Limits → Option Kind → Row → Entry
+entry_by columns limits None fields = Malformed why.Kind
+entry_by columns limits (Some kind.Insert) fields = insertion columns limits fields
+entry_by columns limits (Some kind.Delete) fields = deletion fields
+entry_by columns limits (Some kind.End) fields = alone fields End
+entry_by columns limits (Some kind.Report) fields = alone fields Report
+entry_by columns limits (Some kind.Update) fields = update columns limits fields
 
--- what a record says, for a relation of so many columns: its first field is one of + - ! ? =
+-- what a record says, for a relation of so many columns
 unfoldable pub entry_of : ℕ → Limits → Row → Entry
 entry_of columns limits [] = Malformed why.Kind
-entry_of columns limits ([] ∷ fields) = Malformed why.Kind
-entry_of columns limits ((byte ∷ []) ∷ fields) = entry_by columns limits byte fields
-entry_of columns limits ((byte ∷ other ∷ others) ∷ fields) = Malformed why.Kind
+entry_of columns limits (first ∷ fields) = entry_by columns limits (kind_of first) fields
 
 abbrev pub is_end : Entry → Bool
 is_end (Operation op) = false

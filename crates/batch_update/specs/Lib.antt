@@ -1,4 +1,5 @@
 pub mod RowNumber
+pub mod Kind
 pub mod Entry
 pub mod Changes
 pub mod Coming

@@ -4,18 +4,23 @@ use Rattle.std.specs.Char.{is_ascii_digit}
 use Rattle.std.specs.List.{list_all}
 use Rattle.std.specs.Str.Parse.{digits_value}
 
--- at most ten decimal digits, of which the first is not 0
-abbrev pub is_plain : List ℕ → Bool
-is_plain field = list_all is_ascii_digit field && nat_le (length field) 10 && not (slice_index field 0 == 48)
+-- at most ten bytes, of which the first is not the digit 0
+abbrev pub is_short : List ℕ → Bool
+is_short field = nat_le (length field) 10 && not (slice_index field 0 == 48)
 
--- whether this is the number of a row
-abbrev pub is_row_number : ℕ → Bool
-is_row_number n = nat_le 1 n && nat_le n 4294967295
-
--- the number that digits write, if there is nothing else; no digits write 0
+-- the number that digits write, if nothing else is there; no digits write 0
 abbrev pub value_of : List ℕ → Option ℕ
 value_of field = if list_all is_ascii_digit field then Some (digits_value 10 field) else None
 
+-- the number, if a row may have it
+abbrev pub numbered : ℕ → Option ℕ
+numbered n = if nat_le 1 n && nat_le n 4294967295 then Some n else None
+
+-- where there is a number, the row number that it is
+abbrev pub numbered_where : Option ℕ → Option ℕ
+numbered_where None = None
+numbered_where (Some n) = numbered n
+
 -- the row number that a field writes in plain decimal, if it does
-unfoldable pub row_number : List ℕ → Option ℕ
-row_number field = if is_plain field && is_row_number (digits_value 10 field) then Some (digits_value 10 field) else None
+abbrev pub row_number : List ℕ → Option ℕ
+row_number field = if is_short field then numbered_where (value_of field) else None

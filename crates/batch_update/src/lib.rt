@@ -6,6 +6,7 @@ mod cells;
 mod changes;
 mod entry;
 mod item;
+mod kind;
 mod reading;
 mod row_number;
 #[cfg(test)]

@@ -5,6 +5,7 @@ ghost use Rattle.batch_update.specs.Entry as spec;
 
 use crate::cells::{cells_from, has_long_cell};
 use crate::entry::Entry;
+use crate::kind::{Kind, kind_of};
 use crate::row_number::row_number;
 use csv::ByteRecord;
 use rel_base::{Limits, Op, Why};
@@ -19,16 +20,30 @@ pub(crate) fn read_entry(
 ) -> Result<Entry, AllocError>
     ensures { IfOk result (λ entry. entry ≡ spec.entry_of columns limits.now (fields_of fields.now)) }
 {
-    let Some(kind) = fields.get(0) else {
+    let Some(first) = fields.get(0) else {
         return Ok(Entry::Malformed(Why::Kind));
     };
+    by_kind(alloc, kind_of(first), fields, columns, limits)
+}
+
+// What the fields after the first say in a record of this kind.
+fn by_kind(
+    alloc: Global,
+    kind: Option<Kind>,
+    fields: &ByteRecord,
+    columns: u8,
+    limits: &Limits,
+) -> Result<Entry, AllocError>
+    requires { 0 < length (fields_of fields.now) }
+    ensures { IfOk result (λ entry. entry ≡ spec.entry_by columns limits.now kind (drop 1 (fields_of fields.now))) }
+{
     match kind {
-        b"+" => insertion(alloc, fields, columns, limits),
-        b"-" => Ok(deletion(fields)),
-        b"!" => Ok(alone(fields, Entry::End)),
-        b"?" => Ok(alone(fields, Entry::Report)),
-        b"=" => update(alloc, fields, columns, limits),
-        _ => Ok(Entry::Malformed(Why::Kind)),
+        Some(Kind::Insert) => insertion(alloc, fields, columns, limits),
+        Some(Kind::Delete) => Ok(deletion(fields)),
+        Some(Kind::End) => Ok(alone(fields, Entry::End)),
+        Some(Kind::Report) => Ok(alone(fields, Entry::Report)),
+        Some(Kind::Update) => update(alloc, fields, columns, limits),
+        None => Ok(Entry::Malformed(Why::Kind)),
     }
 }
 

@@ -11,14 +11,18 @@ const MOST_DIGITS: usize = 10;
 pub(crate) fn row_number(field: &[u8]) -> Option<RowNo>
     ensures { result ≡ spec.row_number field.now }
 {
-    if field.len() > MOST_DIGITS || field.first() == Some(&b'0') {
+    if !is_short(field) {
         return None;
     }
-    let number = value_of(field)?;
-    match u32::try_from(number) {
-        Ok(number) if number > 0 => Some(RowNo::of(number)),
-        _ => None,
-    }
+    let value = value_of(field)?;
+    numbered(value)
+}
+
+// Whether these bytes are few enough, and no 0 stands first.
+fn is_short(field: &[u8]) -> bool
+    ensures { result ≡ spec.is_short field.now }
+{
+    field.len() <= MOST_DIGITS && field.first() != Some(&b'0')
 }
 
 // The number that these bytes write, if they are digits alone. No bytes write 0.
@@ -34,4 +38,14 @@ fn value_of(field: &[u8]) -> Option<u64>
         value = value * 10 + u64::from(*byte - b'0');
     }
     Some(value)
+}
+
+// The row with this number, if there may be one.
+fn numbered(value: u64) -> Option<RowNo>
+    ensures { result ≡ spec.numbered value }
+{
+    if value == 0 || value > u64::from(u32::MAX) {
+        return None;
+    }
+    Some(RowNo::of(value as u32))
 }
