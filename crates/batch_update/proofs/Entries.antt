@@ -1,5 +1,5 @@
 -- What the fields of a record say.
-use Rattle.std.proofs.Common.{◌≡◌, ◌<◌, ◌+◌, ◌∙◌, eq-eqb, refl, sym, arith, ℕ, List, [], ◌∷◌, length, drop, get_or, Option, Some, None, Bor}
+use Rattle.std.proofs.Common.{◌≡◌, ◌<◌, eq-eqb, refl, arith, ℕ, [], ◌∷◌, length, drop, get_or, Option, Some, None, Bor}
 use Rattle.std.specs.Option.{option_map}
 use Rattle.csv.specs.Records.{field_at}
 use Rattle.rel_base.specs.declared.limits.Limits.{Limits}

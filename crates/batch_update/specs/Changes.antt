@@ -1,5 +1,5 @@
 -- The items of a change text.
-use Rattle.std.specs.Prelude.{◌+◌, ◌-◌, ℕ, List, [], ◌∷◌, ◌++◌, map, length, drop, Option, Some, None, option_map, slice_get}
+use Rattle.std.specs.Prelude.{◌+◌, ℕ, List, [], ◌∷◌, ◌++◌, map, length, drop, Option, Some, None, option_map, slice_get}
 use Rattle.std.specs.List.{filter_map, enumerate_from, prefix_len, take_while, slice_split}
 use Rattle.rel_base.specs.declared.limits.Limits.{Limits}
 use Rattle.rel_base.specs.declared.why.Why.{Why}

@@ -1,6 +1,8 @@
 -- What is to come of a change text, where so much of it has been read.
 use Rattle.std.specs.Prelude.{◌≡◌, ◌+◌, ◌-◌, if◌then◌else◌, ℕ, List, [], ◌∷◌, ◌++◌, length}
 use Rattle.std.specs.List.{filter_map, slice_split}
+use Rattle.rel_base.specs.declared.batch.Op.{Op}
+use Rattle.rel_base.specs.declared.why.Why.{Why}
 use Rattle.rel_base.specs.declared.why.Why.TheVariants.{Cut}
 use Rattle.batch_update.specs.declared.begun.Begun.{Begun}
 use Rattle.batch_update.specs.declared.begun.Begun.TheVariants.{Nothing, Sound, Faulty}
@@ -17,14 +19,22 @@ rest_of_batch ended cut number n [] = []
 rest_of_batch ended cut number n (part ∷ []) = cut part ∷ []
 rest_of_batch ended cut number n (part ∷ next ∷ parts) = ended part ∷ items_of_parts (number + 1) (n + length part + 1) (next ∷ parts)
 
--- the items of the parts that are left, where the next entry has the number n
-unfoldable pub coming_parts : ℕ → ℕ → Begun → List (List Entry) → List Item
-coming_parts number n Nothing parts = items_of_parts number n parts
-coming_parts number n (Sound first ops) parts =
+-- where the entries of the batch so far are these operations, of which the first is entry `first`
+abbrev pub after_operations : ℕ → ℕ → ℕ → List Op → List (List Entry) → List Item
+after_operations number n first ops parts =
     rest_of_batch
-    (λ part. bad_or number (first_fault n part) (Batch number first (ops.items ++ filter_map operation part)))
+    (λ part. bad_or number (first_fault n part) (Batch number first (ops ++ filter_map operation part)))
     (λ part. bad_or number (first_fault n part) (Bad number (n + length part - 1) Cut)) number n parts
-coming_parts number n (Faulty rec why) parts = rest_of_batch (λ part. Bad number rec why) (λ part. Bad number rec why) number n parts
+
+-- where the batch has a fault already
+abbrev pub after_fault : ℕ → ℕ → ℕ → Why → List (List Entry) → List Item
+after_fault number n rec why parts = rest_of_batch (λ part. Bad number rec why) (λ part. Bad number rec why) number n parts
+
+-- the items of the parts that are left, where the next entry has the number n
+abbrev pub coming_parts : ℕ → ℕ → Begun → List (List Entry) → List Item
+coming_parts number n Nothing parts = items_of_parts number n parts
+coming_parts number n (Sound first ops) parts = after_operations number n first ops.items parts
+coming_parts number n (Faulty rec why) parts = after_fault number n rec why parts
 
 -- the items of the entries that are left
 unfoldable pub coming : ℕ → ℕ → Begun → List Entry → List Item

@@ -1,11 +1,11 @@
 -- What one record of a change text says.
-use Rattle.std.specs.Prelude.{if◌then◌else◌, ◌==◌, ℕ, Bool, true, false, List, [], ◌∷◌, length, Option, Some, None}
+use Rattle.std.specs.Prelude.{if◌then◌else◌, ◌==◌, ℕ, Bool, true, false, [], ◌∷◌, length, Option, Some, None}
 use Rattle.rel_base.specs.declared.limits.Limits.{Limits}
 use Rattle.rel_base.specs.declared.batch.Op.{Op}
 use Rattle.rel_base.specs.declared.batch.Op.TheVariants.{Insert, Delete, Update}
 use Rattle.rel_base.specs.declared.why.Why.{Why}
 use Rattle.rel_base.specs.declared.why.Why.TheVariants as why
-use Rattle.rel_base.specs.Cells.{Cell, Row}
+use Rattle.rel_base.specs.Cells.{Row}
 use Rattle.csv_load.specs.Refusal.{has_long_cell}
 use Rattle.batch_update.specs.declared.entry.Entry.{Entry}
 use Rattle.batch_update.specs.declared.entry.Entry.TheVariants.{Operation, End, Report, Malformed}

@@ -66,19 +66,24 @@ impl Begun {
         ensures { OnOk result (items.new.items ≡ items.old.items ++ coming place.no place.rec self []) }
     {
         match self {
-            Begun::Nothing => {}
-            Begun::Sound { .. } => items.push(Item::Bad {
-                no: place.no,
-                rec: place.rec - 1,
-                why: Why::Cut,
-            })?,
-            Begun::Faulty { rec, why } => items.push(Item::Bad {
-                no: place.no,
-                rec,
-                why,
-            })?,
+            Begun::Nothing => Ok(()),
+            Begun::Sound { .. } => {
+                items.push(Item::Bad {
+                    no: place.no,
+                    rec: place.rec - 1,
+                    why: Why::Cut,
+                })?;
+                Ok(())
+            }
+            Begun::Faulty { rec, why } => {
+                items.push(Item::Bad {
+                    no: place.no,
+                    rec,
+                    why,
+                })?;
+                Ok(())
+            }
         }
-        Ok(())
     }
 }
 

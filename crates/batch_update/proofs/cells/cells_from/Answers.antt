@@ -1,4 +1,4 @@
-use Rattle.std.proofs.Common.{◌≡◌, ◌<◌, ◌+◌, ◌∙◌, ◌++◌, ◌∷◌, ap, append_assoc, refl, sym, arith, ℕ, List, [], length, drop, get_or}
+use Rattle.std.proofs.Common.{◌≡◌, ◌<◌, ◌+◌, ◌++◌, ◌∷◌, append_assoc, arith, ℕ, List, [], length, drop, get_or}
 use Rattle.std.proofs.lemmas.List.{drop_more}
 use Rattle.csv.specs.Records.{fields_of, partial_of}
 use Rattle.rel_base.proofs.Fields.{field-there, field-now}
@@ -21,6 +21,6 @@ loop-place-preserved c =
     let is = field-now c.get.result c.unwrap.result (fields_of c.args.fields.now) c.loop-place.place c.unwrap.ensures there c.get.ensures.value in
     record {
       copied = copied_more (fields_of c.args.fields.now) (fields_of c.loop-place.cells) (fields_of c.push_field.new.self) (drop c.args.start (fields_of c.args.fields.now))
-        (partial_of c.loop-place.cells) c.unwrap.result.now c.loop-place.place there is c.loop-place.invariant.between c.in_ok-push_field.ensures.fields c.loop-place.invariant.copied;
+          (partial_of c.loop-place.cells) c.unwrap.result.now c.loop-place.place there is c.loop-place.invariant.between c.in_ok-push_field.ensures.fields c.loop-place.invariant.copied;
       between = c.in_ok-push_field.ensures.partial;
     }

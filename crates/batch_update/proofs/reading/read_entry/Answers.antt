@@ -1,4 +1,3 @@
-use Rattle.std.proofs.Common.{refl}
 use Rattle.csv.specs.Records.{fields_of}
 use Rattle.batch_update.proofs.Entries.{first_is, no_first}
 use Rattle.batch_update.proofs.reading.read_entry.Goals as goal

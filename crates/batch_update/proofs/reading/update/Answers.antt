@@ -21,13 +21,20 @@ returns-then-has_long_cell c =
     let there : 1 < length (fields_of c.args.fields.now) = omega (arith, c.len.ensures) in
     let width : length (drop 2 (fields_of c.args.fields.now)) ≡ c.args.columns = rw length-drop (omega (arith, c.len.ensures)) in
     let is = second (fields_of c.args.fields.now) c.get.result c.unwrap.result there c.unwrap.ensures c.get.ensures.value in
-    rw (named_row_with_cells c.args.columns c.args.limits.now (fields_of c.args.fields.now) c.unwrap.result.now (Some c.in-Some.number) width is c.in-Some.ensures,
-    ← c.has_long_cell.ensures, c.if-has_long_cell.true) refl
+    rw (
+      named_row_with_cells c.args.columns c.args.limits.now (fields_of c.args.fields.now) c.unwrap.result.now (Some c.in-Some.number) width is c.in-Some.ensures,
+      ← c.has_long_cell.ensures,
+      c.if-has_long_cell.true,
+    ) refl
 
 pub returns : goal.returns
 returns c =
     let there : 1 < length (fields_of c.args.fields.now) = omega (arith, c.len.ensures) in
     let width : length (drop 2 (fields_of c.args.fields.now)) ≡ c.args.columns = rw length-drop (omega (arith, c.len.ensures)) in
     let is = second (fields_of c.args.fields.now) c.get.result c.unwrap.result there c.unwrap.ensures c.get.ensures.value in
-    rw (named_row_with_cells c.args.columns c.args.limits.now (fields_of c.args.fields.now) c.unwrap.result.now (Some c.in-Some.number) width is c.in-Some.ensures,
-    ← c.has_long_cell.ensures, c.if-has_long_cell.false, ← c.in_ok-cells.ensures) refl
+    rw (
+      named_row_with_cells c.args.columns c.args.limits.now (fields_of c.args.fields.now) c.unwrap.result.now (Some c.in-Some.number) width is c.in-Some.ensures,
+      ← c.has_long_cell.ensures,
+      c.if-has_long_cell.false,
+      ← c.in_ok-cells.ensures,
+    ) refl

@@ -1,4 +1,4 @@
-use Rattle.std.proofs.Common.{◌<◌, ◌^◌, arith, get_or, sym, ◌∙◌, refl}
+use Rattle.std.proofs.Common.{arith, get_or, sym, ◌∙◌, refl}
 use Rattle.batch_update.proofs.Digits.{nine_digits, one_more_digit}
 use Rattle.batch_update.proofs.row_number.value_of.Goals as goal
 
