@@ -2,3 +2,4 @@ pub mod Digits
 pub mod Entries
 pub mod Few
 pub mod Steps
+pub mod Numbered

@@ -2,4 +2,5 @@ pub mod RowNumber
 pub mod Kind
 pub mod Entry
 pub mod Changes
+pub mod Numbers
 pub mod Coming

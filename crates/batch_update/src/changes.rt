@@ -1,6 +1,7 @@
 // Reads a change text.
-ghost use Rattle.std.specs.Prelude.{◌≡◌, IfOk};
+ghost use Rattle.std.specs.Prelude.{◌≡◌, length, All, IfOk};
 ghost use Rattle.batch_update.specs.Changes.{changes};
+ghost use Rattle.batch_update.specs.Numbers.{IsNumberedTo};
 
 use crate::begun::{Begun, Place};
 use crate::item::Item;
@@ -17,14 +18,16 @@ use std::alloc::{AllocError, Global};
 /// (`?`). Batches are numbered from 1, bad ones too, and records from 1. A batch with a malformed record is bad by its first
 /// one, up to the `!` that ends it; a batch that the text cuts off is bad by the text's last record.
 ///
-/// The text is read once and not copied. An insert or an update takes one packed row.
+/// Its only error is want of memory. The text is read once and not copied; an insert or an update takes one packed row. No
+/// number of a batch or a record is above the number of the text's bytes.
 pub fn read_changes(
     alloc: Global,
     bytes: &[u8],
     columns: u8,
     limits: &Limits,
 ) -> Result<Vec<Item>, AllocError>
-    ensures { IfOk result (λ items. items.items ≡ changes bytes.now columns limits.now) }
+    ensures items { IfOk result (λ items. items.items ≡ changes bytes.now columns limits.now) }
+    ensures numbers { IfOk result (λ items. All (IsNumberedTo (length bytes.now)) items.items) }
 {
     let mut reader = RecordReader::new(alloc, bytes);
     let mut fields = ByteRecord::new(alloc);
