@@ -1,5 +1,5 @@
 // The candidates of all targets.
-ghost use Rattle.std.specs.Prelude.{if◌then◌else◌, ◌≡◌, ◌≤◌, ◌∷◌, [], ◌++◌, ℕ, List, Bool, true, replicate, map, IfOk};
+ghost use Rattle.std.specs.Prelude.{if◌then◌else◌, ◌≡◌, ◌≤◌, ◌∷◌, [], ◌++◌, ℕ, List, Bool, true, replicate, map, None, IfOk, IfSome};
 ghost use Rattle.std.specs.List.{All, find};
 ghost use Rattle.col_set.specs.ColSet.{empty};
 ghost use Rattle.col_set.specs.Target.{IsColumnTarget, has_target};
@@ -131,24 +131,30 @@ impl CandidateCover {
         Ok(Draft::of(rows, columns, agree_sets))
     }
 
-    /// The candidates of a target in report order that a draft leaves; those that stay keep their marks.
+    /// The candidates of a target in report order that a draft leaves, or none where these are the ones that there are. Those
+    /// that stay keep their marks.
     ///
-    /// Nothing changes here; `put` makes the part the target's list. It sorts the target's left sides, and looks each up among
-    /// the candidates.
+    /// Nothing changes here; `put` makes the part the target's list. Where the draft has not changed the target, it takes a
+    /// look at each candidate; else it sorts the target's left sides, and looks each up among the candidates.
     pub fn drafted(
         &self,
         alloc: Global,
         draft: &Draft,
         target: Target,
-    ) -> Result<Part, AllocError>
+    ) -> Result<Option<Part>, AllocError>
         requires target { IsColumnTarget (width self.now) target }
         requires width { draft.now.width ≡ width self.now }
-        ensures least { IfOk result (λ part. lefts part ≡ least (width self.now) draft.now.agree_sets target) }
-        ensures marks { IfOk result (λ part. part ≡ map (kept_or_fresh (cands_of self.now target)) (lefts part)) }
+        ensures same { IfOk result (λ part. part ≡ None → lefts (cands_of self.now target) ≡ least (width self.now) draft.now.agree_sets target) }
+        ensures least { IfOk result (λ part. IfSome part (λ cands. lefts cands ≡ least (width self.now) draft.now.agree_sets target)) }
+        ensures marks { IfOk result (λ part. IfSome part (λ cands. cands ≡ map (kept_or_fresh (cands_of self.now target)) (lefts cands))) }
     {
+        let tree = self.tree(target);
+        if tree.has_keys(draft.sets(target)) {
+            return Ok(None);
+        }
         let sets = draft.sorted_sets(alloc, target)?;
-        let tree = with_marks(alloc, self.tree(target), sets.as_slice())?;
-        Ok(Part { tree })
+        let tree = with_marks(alloc, tree, sets.as_slice())?;
+        Ok(Some(Part { tree }))
     }
 
     /// Makes the part the target's list.

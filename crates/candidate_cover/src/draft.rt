@@ -74,7 +74,7 @@ impl Draft {
     }
 
     // The left sides of a target.
-    fn sets(&self, target: Target) -> &[ColSet]
+    pub(crate) fn sets(&self, target: Target) -> &[ColSet]
         requires { IsColumnTarget self.now.width target }
         ensures { ListsLeast (words.choices self.now.width target) self.now.agree_sets target result.now }
     {

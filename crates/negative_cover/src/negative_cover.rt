@@ -62,6 +62,15 @@ impl NegativeCover {
         Ok(())
     }
 
+    /// Appends witnesses in their order. After want of memory the list is as before.
+    pub fn add_all(&mut self, more: &[Witness]) -> Result<(), AllocError>
+        ensures ok { OnOk result (self.new ≡ self.old ++ more.now) }
+        ensures refused { OnErr result (self.new ≡ self.old) }
+    {
+        self.witnesses.extend_from_slice(more)?;
+        Ok(())
+    }
+
     /// The agree sets that would be left, and those that would go, if these rows died.
     ///
     /// Two rows of each witness are looked up among the dead ones: by halves where `dead` ascends, so that the time grows

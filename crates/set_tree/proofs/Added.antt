@@ -1,8 +1,9 @@
 -- Which pairs a list has where pairs were added to it.
-use Rattle.std.proofs.Common.{inl, inr, ◌≡◌, ◌⊎◌, ℕ, Bool, true, false, eqb, refl, sym, ap, ◌∙◌, subst, List, [], ◌∷◌, if◌then◌else◌, Ordering, Less, Equal, Greater}
+use Rattle.std.proofs.Common.{inl, inr, ◌≡◌, ◌⊎◌, ℕ, ◌+◌, ◌<◌, Bool, true, false, not, eqb, refl, sym, ap, ap₂, ◌∙◌, subst, List, [], ◌∷◌, ◌++◌, length, get_or, take, if◌then◌else◌, Ordering, Less, Equal, Greater}
 use Rattle.std.specs.List.{filter}
 use Rattle.std.specs.Ordering.{is_lt, ordering_reverse}
 use Rattle.std.proofs.lemmas.Bool.{true≢false, false_from_ne_true, eqb-true, eq-eqb}
+use Rattle.std.proofs.lemmas.List.{take_more, get_or-map, length-map}
 use Rattle.col_set.specs.ColSet.{report_cmp}
 use Rattle.col_set.specs.Columns.{report_total}
 use Rattle.col_set.specs.Lists.{Listed, Rises, Rises-map, Listed-map, Listed-map_which, Listed-append_left, Listed-append_right, Listed-append_cases, Listed-filter, Listed-filter_parts, list_any_at, list_any_which}
@@ -114,3 +115,16 @@ module _ {V : Type 0} where
 
   pub added_keys : (ps : List (ℕ × V)) (xs : List ℕ) (v : V) (x : ℕ) → Listed x (keys ps) → Listed x (keys (added ps xs v))
   added_keys ps xs v x h = let w = listed-keys ps x h in subst (λ (z : ℕ). Listed z (keys (added ps xs v))) (sym w.2) (keys-listed (added ps xs v) w.0 (added_keeps ps xs v w.0 w.1))
+
+-- ---- the same keys, one after another
+true_of : (b : Bool) → not b ≡ false → b ≡ true
+true_of true e = refl
+true_of false e = absurd (true≢false e)
+
+module _ {V : Type 0} where
+  pub same_more : (ps : List (ℕ × V)) (xs : List ℕ) (k : ℕ) (p : ℕ × V) (x : ℕ) → k < length ps → k < length xs → p ≡ get_or ps k p → x ≡ get_or xs k x → not (eqb p.0 x) ≡ false → take k (keys ps) ≡ take k xs
+      → take (k + 1) (keys ps) ≡ take (k + 1) xs
+  same_more ps xs k p x l m e f g h =
+      take_more (keys ps) k x (subst (λ (n : ℕ). k < n) (sym (length-map ps (λ p. p.0))) l)
+      ∙ ap₂ (λ (ys : List ℕ) (y : ℕ). ys ++ y ∷ []) h (get_or-map (λ p. p.0) ps k p x l ∙ ap (λ p. p.0) (sym e) ∙ eqb-true p.0 x (true_of _ g) ∙ f)
+      ∙ sym (take_more xs k x m)

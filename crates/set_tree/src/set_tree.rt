@@ -1,9 +1,9 @@
 // A map from column sets to values, which is kept as a sorted list.
-ghost use Rattle.std.specs.Prelude.{◌≡◌, [], Bool, OnOk, OnErr, IfOk, length};
+ghost use Rattle.std.specs.Prelude.{◌≡◌, [], Bool, OnOk, OnErr, IfOk, IsTrue, length};
 ghost use Rattle.std.specs.List.{find, list_any};
 ghost use Rattle.col_set.specs.ColSet.{Columns, subset, report_cmp};
 ghost use Rattle.col_set.specs.Lists.{Rises};
-ghost use Rattle.set_tree.specs.Pairs.{IsInOrder, is_key, value_at, inserted, with_value, without_key, inside, not_inside, added};
+ghost use Rattle.set_tree.specs.Pairs.{IsInOrder, keys, is_key, value_at, inserted, with_value, without_key, inside, not_inside, added};
 
 use crate::place::place_of;
 use col_set::ColSet;
@@ -73,6 +73,23 @@ impl<V: Copy> SetTree<V> {
         ensures order { IsInOrder self.now }
     {
         self.pairs.len()
+    }
+
+    /// Whether these are the column sets of the tree, in report order. It takes a step a set, and no memory.
+    pub fn has_keys(&self, sets: &[ColSet]) -> bool
+        ensures same { IsTrue result → keys self.now ≡ sets.now }
+        ensures other { keys self.now ≡ sets.now → IsTrue result }
+        ensures order { IsInOrder self.now }
+    {
+        if self.pairs.len() != sets.len() {
+            return false;
+        }
+        for place in 0..sets.len() {
+            if self.pairs[place].0 != sets[place] {
+                return false;
+            }
+        }
+        true
     }
 
     /// Gives x this value, in place of the one that it has. After want of memory the tree is as before.
