@@ -34,7 +34,7 @@ use Rattle.cover_steps.proofs.Found.{drawable-entry}
 use Rattle.cover_steps.proofs.Exact.{listed_covers-exact}
 use Rattle.cover_core.specs.EndedRows.{ended}
 use Rattle.cover_core.specs.Kept.{IsBook}
-use Rattle.cover_core.specs.NewLists.{AreLeast}
+use Rattle.candidate_cover.specs.Drafts.{AreLeast}
 use Rattle.cover_core.specs.Replies.{reply_of_mark, reply_of_release}
 use Rattle.cover_core.specs.declared.answers.Release.{Release}
 use Rattle.cover_core.specs.declared.answers.Release.TheVariants as releases

@@ -1,5 +1,6 @@
 pub mod FirstFound
 pub mod Ending
+pub mod Evidences
 pub mod Putting
 pub mod Measure
 pub mod Booking

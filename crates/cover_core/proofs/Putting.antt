@@ -1,5 +1,5 @@
 -- New lists put in place, target by target.
-use Rattle.std.proofs.Common.{inl, inr, ◌≡◌, ℕ, ◌+◌, ◌<◌, ◌≤◌, refl, sym, ap, ◌∙◌, subst, arith, List, [], ◌∷◌, ◌++◌, length, get_or, Option, Some, None}
+use Rattle.std.proofs.Common.{inl, inr, ◌≡◌, ℕ, ◌+◌, ◌<◌, ◌≤◌, refl, sym, ap, ◌∙◌, subst, arith, List, [], ◌∷◌, ◌++◌, length, get_or, map, Option, Some, None}
 use Rattle.std.proofs.lemmas.Bool.{cases_eq}
 use Rattle.std.proofs.lemmas.List.{length-append, length-set, get_or-set_same, get_or-set_other, get_or_append_left}
 use Rattle.std.proofs.lemmas.List.FromFn.{length-map-range_with_len}
@@ -8,10 +8,12 @@ use Rattle.col_set.specs.declared.target.Target.TheVariants.{Col, RowId}
 use Rattle.col_set.specs.Target.{IsColumnTarget}
 use Rattle.candidate_cover.specs.declared.cand.Cand.{Cand}
 use Rattle.candidate_cover.specs.Lists.{CandLists}
-use Rattle.candidate_cover.specs.Cands.{cands_of, with_list}
+use Rattle.candidate_cover.specs.Cands.{cands_of, with_list, lefts, kept_or_fresh}
+use Rattle.col_set.specs.Evidence.{least}
+use Rattle.std.specs.Prelude.{IfSome}
 use Rattle.cover_steps.specs.Core.{renewed, renewed_list}
 use Rattle.cover_steps.proofs.Kept.{cands_of-renewed}
-use Rattle.cover_steps.proofs.Renewing.{same_lists}
+use Rattle.cover_steps.proofs.Renewing.{renewed_list-same, same_lists}
 use Rattle.cover_core.specs.NewLists.{IsPart, AreParts}
 
 -- the lists after a target's part was put, where there is one
@@ -169,3 +171,8 @@ ArePartsSoFar-whole n ws c first others k so e = record { rows = so.rows; count 
 pub none_left : {X : Type 0} (xs : List X) → length xs ≡ 0 → xs ≡ []
 none_left [] e = refl
 none_left (x ∷ xs) e = absurd (omega arith)
+
+-- the part of a draft
+pub IsPart-drafted : (n : ℕ) (ws : List ℕ) (c : CandLists) (t : Target) (part : Option (List Cand)) → (part ≡ None → lefts (cands_of c t) ≡ least n ws t) → IfSome part (λ cs. lefts cs ≡ least n ws t) → IfSome part (λ cs. cs ≡ map (kept_or_fresh (cands_of c t)) (lefts cs)) → IsPart n ws c t part
+IsPart-drafted n ws c t None same least marks = renewed_list-same n ws c t (same refl)
+IsPart-drafted n ws c t (Some cs) same e marks = marks ∙ ap (map (kept_or_fresh (cands_of c t))) e

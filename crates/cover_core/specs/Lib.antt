@@ -1,4 +1,5 @@
 pub mod EndedRows
+pub mod Evidences
 pub mod Kept
 pub mod Tests
 pub mod NewLists

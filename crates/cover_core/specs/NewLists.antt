@@ -10,10 +10,6 @@ use Rattle.candidate_cover.specs.Lists.{CandLists}
 use Rattle.candidate_cover.specs.Cands.{cands_of, lefts}
 use Rattle.cover_steps.specs.Core.{renewed_list}
 
--- for each target of n columns, the left sides are what these agree sets leave
-pub record AreLeast (n : ℕ) (ws : List Columns) (c : CandLists) : Type 0 where
-  pub each : (t : Target) → IsColumnTarget n t → lefts (cands_of c t) ≡ least n ws t
-
 -- the list that these agree sets leave for a target, or none where that is the list that there is
 abbrev pub IsPart : ℕ → List Columns → CandLists → Target → Option (List Cand) → Type 0
 IsPart n ws c t None = renewed_list n ws c t ≡ cands_of c t

@@ -5,6 +5,7 @@
 mod answers;
 mod book;
 mod ended;
+mod evidence;
 mod listed;
 mod parts;
 mod renewal;

@@ -6,10 +6,11 @@ ghost use Rattle.col_set.specs.Target.{IsColumnTarget, has_target};
 ghost use Rattle.col_set.specs.Evidence.{least};
 ghost use Rattle.candidate_cover.specs.Cands.{cands_of, lefts, width};
 ghost use Rattle.cover_steps.specs.Core.{renewed};
-ghost use Rattle.cover_core.specs.NewLists.{AreLeast, IsPart, AreParts};
+ghost use Rattle.candidate_cover.specs.Drafts.{AreLeast};
+ghost use Rattle.cover_core.specs.NewLists.{IsPart, AreParts};
 
 use crate::searching::is_refuted;
-use candidate_cover::{CandidateCover, Part};
+use candidate_cover::{CandidateCover, Draft, Part};
 use rel_base::{ColSet, Steps, Target};
 use std::alloc::{AllocError, Global};
 use std::sync::ledger::Ledger;
@@ -105,6 +106,39 @@ pub(crate) fn generalised<L: Ledger>(
             withdrawn,
             steps,
         )?;
+        columns.push(part)?;
+    }
+    Ok(Parts { rows, columns })
+}
+
+// What a draft leaves of a target's candidates, where it has changed them.
+fn drafted_part(
+    alloc: Global,
+    candidates: &CandidateCover,
+    draft: &Draft,
+    target: Target,
+) -> Result<Option<Part>, AllocError>
+    requires target { IsColumnTarget (width candidates.now) target }
+    requires width { draft.now.width ≡ width candidates.now }
+    ensures { IfOk result (λ part. IsPart (width candidates.now) draft.now.agree_sets candidates.now target part) }
+{
+    let part = candidates.drafted(alloc, draft, target)?;
+    Ok(part)
+}
+
+// What a draft leaves.
+pub(crate) fn drafted(
+    alloc: Global,
+    candidates: &CandidateCover,
+    draft: &Draft,
+) -> Result<Parts, AllocError>
+    requires { draft.now.width ≡ width candidates.now }
+    ensures { IfOk result (λ parts. AreParts (width candidates.now) draft.now.agree_sets candidates.now parts.rows parts.columns.items) }
+{
+    let rows = drafted_part(alloc, candidates, draft, Target::RowId)?;
+    let mut columns = Vec::with_capacity(alloc, candidates.columns() as usize)?;
+    for column in 0..candidates.columns() {
+        let part = drafted_part(alloc, candidates, draft, Target::Col(column))?;
         columns.push(part)?;
     }
     Ok(Parts { rows, columns })

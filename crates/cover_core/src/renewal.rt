@@ -5,7 +5,8 @@ ghost use Rattle.rel_base.specs.Shows.{Shows};
 ghost use Rattle.candidate_cover.specs.Cands.{width};
 ghost use Rattle.negative_cover.specs.Witnesses.{sets_of, live_of};
 ghost use Rattle.cover_core.specs.EndedRows as rows_of;
-ghost use Rattle.cover_core.specs.NewLists.{AreLeast, AreParts};
+ghost use Rattle.candidate_cover.specs.Drafts.{AreLeast};
+ghost use Rattle.cover_core.specs.NewLists.{AreParts};
 
 use crate::ended::ended;
 use crate::parts::{Parts, generalised};

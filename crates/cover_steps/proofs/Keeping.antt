@@ -112,7 +112,7 @@ module _ (s : Core) (sound : Sound s) (t : Target) (target : IsColumnTarget (wid
 
 -- ---- other rows and witnesses
 -- the candidates that these witnesses leave, of rows that follow those of a sound state
-Sound-renewed : (s : Core) (r : RowState) (ws : List Witness) → Sound s → IsRowState r → Follows s.rows r → All (IsWitness r) ws → AllPairs (λ v w. v.agree ≢ w.agree) ws
+pub Sound-renewed : (s : Core) (r : RowState) (ws : List Witness) → Sound s → IsRowState r → Follows s.rows r → All (IsWitness r) ws → AllPairs (λ v w. v.agree ≢ w.agree) ws
     → Sound (record { rows = r; witnesses = ws; candidates = renewed (width r) (sets_of ws) s.candidates })
 unfolding renewed
 Sound-renewed s r ws sound is f witnesses once = record {
@@ -133,11 +133,11 @@ Sound-renewed s r ws sound is f witnesses once = record {
         subst (IsMarked r t) (sym w.2) (IsMarked-kept r t (cands s t) w.0 is (λ d g. IsMarked-follows s.rows r t d sound.rows f (cand-marked s t d sound (subst (λ (n : ℕ). IsColumnTarget n t) same l) g)))
 
 -- a row that is live, as a test and as a fact
-live-Contains : (r : RowState) (i : ℕ) → is_live r i ≡ true → Contains r.live i
+pub live-Contains : (r : RowState) (i : ℕ) → is_live r i ≡ true → Contains r.live i
 live-Contains r i e = let w = list_any_which (eqb i) r.live e in Contains-listed i r.live (subst (λ (k : ℕ). Listed k r.live) (sym (eqb-true i w.0 w.2)) w.1)
 
 -- what follows itself
-Follows-itself : (r : RowState) → Follows r r
+pub Follows-itself : (r : RowState) → Follows r r
 Follows-itself r = record { names = refl; nulls = refl; limit = refl; more = omega arith; rows = λ number p l. refl; live = λ number l h. h }
 
 pub Sound-booked : (s : Core) (i j : ℕ) → Sound s → i ≢ j → AreLive s.rows i j → refutes_some s (agree_of s.rows i j) ≡ true → Sound (booked s i j)

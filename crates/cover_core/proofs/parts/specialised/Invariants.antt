@@ -1,6 +1,6 @@
 use Rattle.std.proofs.Common.{ℕ, List, [], ◌∷◌, ◌++◌}
 use Rattle.candidate_cover.specs.Cands.{width}
-use Rattle.cover_core.specs.NewLists.{AreLeast}
+use Rattle.candidate_cover.specs.Drafts.{AreLeast}
 use Rattle.cover_core.proofs.Putting.{ArePartsSoFar}
 use Rattle.cover_core.proofs.parts.specialised.Given as goal
 

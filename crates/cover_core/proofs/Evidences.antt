@@ -1,0 +1,82 @@
+-- Evidence that is news.
+use Rattle.std.proofs.Common.{inl, inr, ◌≡◌, ◌≢◌, ◌⊎◌, ℕ, Bool, true, false, not, ◌&&◌, ◌||◌, refl, sym, ap, ◌∙◌, subst, List, [], ◌∷◌, ◌++◌, append_assoc, append-nil, map, IsPermutation}
+use Rattle.std.specs.List.{All, AllPairs, list_any}
+use Rattle.std.proofs.lemmas.Bool.{true≢false, and_parts, and_from, or_cases, not-true, not_from_false}
+use Rattle.std.proofs.lemmas.List.{map-append}
+use Rattle.std.proofs.lemmas.List.Sorted.{Contains-permutation, IsPermutation-sym}
+use Rattle.col_set.specs.declared.target.Target.{Target}
+use Rattle.col_set.specs.declared.target.Target.TheVariants.{Col, RowId}
+use Rattle.col_set.specs.ColSet.{has, subset, upto}
+use Rattle.col_set.specs.Target.{has_target}
+use Rattle.col_set.specs.Evidence.{refuted}
+use Rattle.col_set.specs.Subsets.{IsSubset-refl, true-subset}
+use Rattle.col_set.specs.Lists.{Listed, Listed-append_left, Listed-append_right, Listed-append_cases, Listed-map, list_any_at, list_any_which}
+use Rattle.col_set.proofs.Places.{Contains-listed, Listed-contained}
+use Rattle.rel_base.specs.RowState.{RowState}
+use Rattle.rel_base.specs.Validity.{agree_of}
+use Rattle.rel_base.specs.Batches.{is_live}
+use Rattle.rel_base.proofs.States.{All-listed, All-from}
+use Rattle.negative_cover.specs.declared.negative_cover.Witness.{Witness}
+use Rattle.negative_cover.specs.Witnesses.{sets_of}
+use Rattle.candidate_cover.specs.Drafts.{Drafted, is_news}
+use Rattle.cover_steps.specs.Sound.{IsWitness}
+use Rattle.cover_steps.proofs.Keeping.{live-Contains}
+use Rattle.cover_steps.proofs.Lists.{AllPairs-Pairwise, Pairwise-AllPairs, Pairwise-append_one}
+use Rattle.cover_core.specs.declared.evidence.Evidence.{Evidence}
+use Rattle.cover_core.specs.Evidences.{IsEvidence, IsNews}
+
+pub evidence-witness : (r : RowState) (i j z : ℕ) → is_live r i ≡ true → is_live r j ≡ true → i ≢ j → z ≡ agree_of r i j → IsWitness r (record { i = i; j = j; agree = z })
+evidence-witness r i j z a b ne e = record { first = live-Contains r i a; second = live-Contains r j b; different = ne; agrees = e }
+
+All-push : {X : Type 0} (P : X → Type 0) (xs : List X) (x : X) → All P xs → P x → All P (xs ++ x ∷ [])
+All-push P xs x a p = All-from P (xs ++ x ∷ []) (λ y h. at y (Listed-append_cases y xs (x ∷ []) h))
+  where
+    at : (y : _) → Listed y xs ⊎ Listed y (x ∷ []) → P y
+    at y (inl h) = All-listed P y xs a h
+    at y (inr (inl e)) = subst P (sym e) p
+    at y (inr (inr h)) = absurd h
+
+pub All-front : {X : Type 0} (P : X → Type 0) (xs : List X) (x : X) → All P (xs ++ x ∷ []) → All P xs
+All-front P xs x a = All-from P xs (λ y h. All-listed P y (xs ++ x ∷ []) a (Listed-append_left y xs (x ∷ []) h))
+
+pub All-back : {X : Type 0} (P : X → Type 0) (xs : List X) (x : X) → All P (xs ++ x ∷ []) → P x
+All-back P xs x a = All-listed P x (xs ++ x ∷ []) a (Listed-append_right x xs (x ∷ []) (inl refl))
+
+pub All-permuted : {X : Type 0} (P : X → Type 0) (xs ys : List X) → IsPermutation xs ys → All P xs → All P ys
+All-permuted P xs ys p a = All-from P ys (λ x h. All-listed P x xs a (Listed-contained x xs (Contains-permutation ys xs x (IsPermutation-sym xs ys p) (Contains-listed x ys h))))
+
+-- what is news is not among the agree sets
+pub news_apart : (n : ℕ) (ws : List ℕ) (z : ℕ) → is_news n ws z ≡ true → Listed z ws → ⊥
+unfolding is_news refuted has_target
+news_apart n ws z e h = by (or_cases _ _ e)
+  where
+    by : (not (refuted ws RowId z) ≡ true) ⊎ (list_any (λ a. not (has z a) && not (refuted ws (Col a) z)) (upto n) ≡ true) → ⊥
+    by (inl f) = true≢false (sym (list_any_at (λ w. subset z w && not (has_target w RowId)) z ws h (and_from _ _ (true-subset (IsSubset-refl z)) refl)) ∙ not-true _ f)
+    by (inr f) =
+        let w = list_any_which (λ a. not (has z a) && not (refuted ws (Col a) z)) (upto n) f in
+        let p = and_parts (not (has z w.0)) _ w.2 in
+        true≢false (sym (list_any_at (λ v. subset z v && not (has_target v (Col w.0))) z ws h (and_from _ _ (true-subset (IsSubset-refl z)) p.0)) ∙ not-true _ p.1)
+
+pub news_none : (r : RowState) (n : ℕ) (ws : List Witness) (d : Drafted) → d ≡ record { width = n; agree_sets = sets_of ws } → IsNews r n ws [] d
+news_none r n ws d e = record {
+  drafted = e ∙ (λ i. record { width = n; agree_sets = sets_of (sym (append-nil ws) i) });
+  witnesses = All-from (IsWitness r) [] (λ w h. absurd h);
+  once = λ a. subst (AllPairs (λ v w. v.agree ≢ w.agree)) (sym (append-nil ws)) a;
+}
+
+pub news_more : (r : RowState) (n : ℕ) (ws more new : List Witness) (d e : Drafted) (w : Witness) → IsNews r n ws more d → is_news d.width d.agree_sets w.agree ≡ true → IsWitness r w → e ≡ record { width = d.width; agree_sets = d.agree_sets ++ w.agree ∷ [] }
+    → new ≡ more ++ w ∷ [] → IsNews r n ws new e
+news_more r n ws more new d e w k news is f g = subst (λ (vs : List Witness). IsNews r n ws vs e) (sym g) (record {
+  drafted = f ∙ (λ i. record { width = (k.drafted i).width; agree_sets = (k.drafted i).agree_sets ++ w.agree ∷ [] })
+      ∙ (λ i. record { width = n; agree_sets = sets i });
+  witnesses = All-push (IsWitness r) more w k.witnesses is;
+  once = λ a. subst (AllPairs (λ v w. v.agree ≢ w.agree)) (append_assoc ws more (w ∷ []))
+      (AllPairs-Pairwise (λ v w. v.agree ≢ w.agree) ((ws ++ more) ++ w ∷ []) (Pairwise-append_one (λ v w. v.agree ≢ w.agree) (ws ++ more) w (Pairwise-AllPairs (λ v w. v.agree ≢ w.agree) (ws ++ more) (k.once a)) apart));
+})
+  where
+    sets : sets_of (ws ++ more) ++ w.agree ∷ [] ≡ sets_of (ws ++ (more ++ w ∷ []))
+    sets = sym (map-append (λ (w : Witness). w.agree) (ws ++ more) (w ∷ [])) ∙ ap (λ (vs : List Witness). sets_of vs) (append_assoc ws more (w ∷ []))
+
+    apart : (v : Witness) → Listed v (ws ++ more) → v.agree ≢ w.agree
+    apart v h i = news_apart d.width d.agree_sets w.agree news
+        (subst (λ (x : Drafted). Listed w.agree x.agree_sets) (sym k.drafted) (subst (λ (z : ℕ). Listed z (sets_of (ws ++ more))) i (Listed-map (λ w. w.agree) v (ws ++ more) h)))

@@ -1,0 +1,19 @@
+-- Evidence, and what of it is news.
+use Rattle.std.specs.Prelude.{◌≡◌, ◌≢◌, ℕ, List, ◌++◌}
+use Rattle.std.specs.List.{All, AllPairs}
+use Rattle.rel_base.specs.RowState.{RowState}
+use Rattle.negative_cover.specs.declared.negative_cover.Witness.{Witness}
+use Rattle.negative_cover.specs.Witnesses.{sets_of}
+use Rattle.candidate_cover.specs.Drafts.{Drafted}
+use Rattle.cover_steps.specs.Sound.{IsWitness}
+use Rattle.cover_core.specs.declared.evidence.Evidence.{Evidence}
+
+-- two different live rows, and what they agree on
+abbrev pub IsEvidence : RowState → Evidence → Type 0
+IsEvidence r e = IsWitness r (record { i = e.i; j = e.j; agree = e.agree })
+
+-- More witnesses, none with the agree set of another, and a draft of n columns that has their agree sets behind the others.
+pub record IsNews (r : RowState) (n : ℕ) (ws more : List Witness) (draft : Drafted) : Type 0 where
+  pub drafted : draft ≡ record { width = n; agree_sets = sets_of (ws ++ more) }
+  pub witnesses : All (IsWitness r) more
+  pub once : AllPairs (λ v w. v.agree ≢ w.agree) ws → AllPairs (λ v w. v.agree ≢ w.agree) (ws ++ more)

@@ -1,0 +1,117 @@
+// Evidence: what pairs of rows agree on, and what much of it at once leaves of the candidates.
+ghost use Rattle.std.specs.Prelude.{◌≡◌, ◌<◌, ℕ, OnOk, IfOk, IfSome};
+ghost use Rattle.std.specs.List.{All};
+ghost use Rattle.col_set.specs.Target.{IsColumnTarget};
+ghost use Rattle.rel_base.specs.RowState.{RowState};
+ghost use Rattle.candidate_cover.specs.Cands.{width};
+ghost use Rattle.candidate_cover.specs.Drafts.{AreLeast};
+ghost use Rattle.negative_cover.specs.Witnesses as sets;
+ghost use Rattle.cover_core.specs.Evidences.{IsEvidence, IsNews};
+
+use candidate_cover::{CandidateCover, Draft};
+use negative_cover::{NegativeCover, Witness};
+use rel_base::{ColSet, RowNo, Target};
+use row_log::RowLog;
+use std::alloc::{AllocError, Global};
+
+// Two rows, and the columns on which they agree. Evidence stands by these columns in report order.
+#[derive(Clone, Copy, PartialEq, Eq, PartialOrd, Ord)]
+pub(crate) struct Evidence {
+    pub(crate) agree: ColSet,
+    pub(crate) i: RowNo,
+    pub(crate) j: RowNo,
+}
+
+impl Evidence {
+    fn witness(self) -> Witness
+        ensures { result ≡ record { i = self.i; j = self.j; agree = self.agree } }
+    {
+        Witness {
+            i: self.i,
+            j: self.j,
+            agree: self.agree,
+        }
+    }
+}
+
+// What two rows agree on, where they are different and live.
+pub(crate) fn evidence_of(rows: &RowLog, i: RowNo, j: RowNo) -> Option<Evidence>
+    ensures { IfSome result (IsEvidence rows.now) }
+{
+    if i == j || !rows.is_live(i) || !rows.is_live(j) {
+        return None;
+    }
+    let agree = rows.agree(i, j);
+    Some(Evidence { agree, i, j })
+}
+
+// Adds what each of these pairs of rows agrees on.
+pub(crate) fn push_evidence(
+    rows: &RowLog,
+    pairs: &[(RowNo, RowNo)],
+    found: &mut Vec<Evidence>,
+) -> Result<(), AllocError>
+    requires { All (IsEvidence rows.now) found.old.items }
+    ensures { OnOk result (All (IsEvidence rows.now) found.new.items) }
+{
+    for pair in pairs {
+        if let Some(evidence) = evidence_of(rows, pair.0, pair.1) {
+            found.push(evidence)?;
+        }
+    }
+    Ok(())
+}
+
+// Whether some of the evidence refutes this dependency.
+pub(crate) fn is_told(found: &[Evidence], target: Target, left: ColSet) -> bool
+    requires { IsColumnTarget 128 target }
+{
+    found
+        .iter()
+        .any(|evidence| left.subset_of(evidence.agree) && !evidence.agree.has_target(target))
+}
+
+// The agree sets of the witnesses.
+fn sets_of(alloc: Global, witnesses: &NegativeCover) -> Result<Vec<ColSet>, AllocError>
+    ensures { IfOk result (λ found. found.items ≡ sets.sets_of witnesses.now) }
+{
+    let mut found = Vec::with_capacity(alloc, witnesses.len())?;
+    for witness in witnesses.witnesses() {
+        found.push(witness.agree)?;
+    }
+    Ok(found)
+}
+
+// The evidence that no witness had told, as witnesses, and what these leave.
+#[derive(Drop)]
+pub(crate) struct News {
+    pub(crate) witnesses: Vec<Witness>,
+    pub(crate) draft: Draft,
+}
+
+// What is news in this evidence. The largest agree sets come first, since one inside another is seldom news.
+pub(crate) fn news_of(
+    alloc: Global,
+    witnesses: &NegativeCover,
+    candidates: &CandidateCover,
+    mut found: Vec<Evidence>,
+) -> Result<News, AllocError>
+    requires { AreLeast (width candidates.now) (sets.sets_of witnesses.now) candidates.now }
+    ensures { IfOk result (λ news. (r : RowState) → All (IsEvidence r) found.items → IsNews r (width candidates.now) witnesses.now news.witnesses.items news.draft) }
+{
+    found.sort_unstable();
+    let mut draft = candidates.draft(alloc, sets_of(alloc, witnesses)?)?;
+    let mut more = Vec::new(alloc);
+    let mut last = None;
+    while let Some(evidence) = found.pop() {
+        if last != Some(evidence.agree) && draft.is_news(evidence.agree) {
+            draft = draft.grown(alloc, evidence.agree)?;
+            more.push(evidence.witness())?;
+        }
+        last = Some(evidence.agree);
+    }
+    Ok(News {
+        witnesses: more,
+        draft,
+    })
+}
