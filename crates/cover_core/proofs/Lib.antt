@@ -1,6 +1,7 @@
 pub mod FirstFound
 pub mod Ending
 pub mod Evidences
+pub mod Passes
 pub mod Putting
 pub mod Measure
 pub mod Booking

@@ -10,25 +10,32 @@ ghost use Rattle.rel_base.specs.Covers.{covers};
 ghost use Rattle.rel_base.specs.Laws.{IsAsWide};
 ghost use Rattle.cover_steps.specs.Core.{opened_core, first_unfinished as first_unfinished_of};
 ghost use Rattle.cover_steps.specs.Steps as steps;
-ghost use Rattle.cover_steps.specs.Sound.{Sound, Fits};
+ghost use Rattle.cover_steps.specs.Sound.{Sound, Fits, IsMarked};
+ghost use Rattle.cover_core.specs.Evidences.{IsEvidence};
 ghost use Rattle.cover_core.specs.Work.{Extends, work};
 ghost use Rattle.cover_core.specs.Replies.{reply_of_draw, reply_of_refutation, reply_of_mark, reply_of_release, reply_of_batch, reply_of_settle, IfJob, IfReady};
 
 use crate::answers::{Draw, Refutation, Release, Settling};
+use crate::evidence::{Evidence, is_told, news_of, push_evidence};
 use crate::listed::listed;
-use crate::parts::{put_all, specialised};
+use crate::parts::{drafted, put_all, specialised};
 use crate::renewal::renewed_after;
+use crate::sampling::sampled;
 use crate::searching::{first_drawable, first_unfinished, refutes_some};
-use crate::verdict::{store_of, verdict_on};
-use candidate_cover::{CandidateCover, Marking};
+use crate::verdict::{breaches_on, store_of, verdict_on};
+use candidate_cover::{Cand, CandidateCover, Marking};
 use negative_cover::{NegativeCover, Witness};
-use rel_base::{Batch, Covers, Job, Limits, Nulls, Relation, RowNo, Snapshot};
+use rel_base::{Batch, Covers, Job, Limits, Nulls, Relation, RowNo, Snapshot, Target};
 use row_log::{Applying, RowLog};
 use std::alloc::{AllocError, Global};
 use std::marker::{Brand, Model};
 use std::sync::Arc;
 use std::sync::ledger::Blank;
 use validator::{Store, Verdict};
+
+// After so many passes one candidate after another is validated. Each pass refutes sets of one column more at least, so that
+// there are hardly more passes than columns.
+const MOST_PASSES: u32 = 1000;
 
 /// The rows of a relation, the witnesses that refute dependencies, and for each target the candidates that they leave.
 ///
@@ -241,8 +248,12 @@ impl Book {
         first_unfinished(&self.candidates, self.rows.next()).is_none()
     }
 
-    /// Finds the covers of the rows: validates one candidate after another, the first unfinished one each time, and books each
-    /// verdict, until each candidate is known to hold in all rows.
+    /// Finds the covers of the rows (HyFD, Papenbrock and Naumann, 2016).
+    ///
+    /// A book without witnesses begins with pairs of rows that stand near each other, whose agree sets refute most of what does
+    /// not hold. Then the candidates of one target after another are validated; of those that fail, pairs of rows from many
+    /// groups are booked at once, and what comes new is validated in the next pass, until each candidate is known to hold in all
+    /// rows. So its time is mostly that of the verdicts: one for each minimal dependency, and some for those that fail.
     ///
     /// After want of memory the rows are the same, and the book is sound, with all witnesses that were booked so far.
     pub fn finish(&mut self) -> Result<Covers, AllocError>
@@ -253,8 +264,112 @@ impl Book {
         ensures fits { (job : JobParts) → Fits self.old.rows job → Fits self.new.rows job }
         ensures sound { Sound self.new }
     {
+        self.search()?;
         while self.advance()? {}
         self.covers()
+    }
+
+    // Validates candidates in passes, until a pass finds no evidence against any.
+    fn search(&mut self) -> Result<(), AllocError>
+        ensures rows { self.new.rows ≡ self.old.rows }
+        ensures witnesses { Extends self.old.witnesses self.new.witnesses }
+        ensures sound { Sound self.new }
+    {
+        if self.witnesses.is_empty() {
+            self.sample()?;
+        }
+        for _ in 0..MOST_PASSES {
+            if !self.pass()? {
+                return Ok(());
+            }
+        }
+        Ok(())
+    }
+
+    // Books what pairs of rows near each other agree on.
+    fn sample(&mut self) -> Result<(), AllocError>
+        ensures rows { self.new.rows ≡ self.old.rows }
+        ensures witnesses { Extends self.old.witnesses self.new.witnesses }
+        ensures sound { Sound self.new }
+    {
+        let found = sampled(self.alloc, &self.rows, &self.snapshot)?;
+        self.book_all(found)
+    }
+
+    // Validates the unfinished candidates of each target, and tells whether evidence against some was booked.
+    fn pass(&mut self) -> Result<bool, AllocError>
+        ensures rows { self.new.rows ≡ self.old.rows }
+        ensures witnesses { Extends self.old.witnesses self.new.witnesses }
+        ensures sound { Sound self.new }
+    {
+        let before = self.witnesses.len();
+        self.pass_over(Target::RowId)?;
+        for column in 0..self.candidates.columns() {
+            self.pass_over(Target::Col(column))?;
+        }
+        Ok(self.witnesses.len() > before)
+    }
+
+    // Validates the unfinished candidates of a target that no evidence against an earlier one refutes, and books the evidence.
+    fn pass_over(&mut self, target: Target) -> Result<(), AllocError>
+        requires { IsColumnTarget (width self.old.rows) target }
+        ensures rows { self.new.rows ≡ self.old.rows }
+        ensures witnesses { Extends self.old.witnesses self.new.witnesses }
+        ensures sound { Sound self.new }
+    {
+        let next = self.rows.next();
+        let list = self.candidates.list(self.alloc, target)?;
+        let mut found = Vec::new(self.alloc);
+        for cand in list.as_slice() {
+            if cand.upto < next && !is_told(found.as_slice(), target, cand.left) {
+                self.judge(target, *cand, &mut found)?;
+            }
+        }
+        self.book_all(found)
+    }
+
+    // Validates a candidate, and marks it where it holds, or else adds evidence against it.
+    fn judge(
+        &mut self,
+        target: Target,
+        cand: Cand,
+        found: &mut Vec<Evidence>,
+    ) -> Result<(), AllocError>
+        requires target { IsColumnTarget (width self.old.rows) target }
+        requires left { cand.left < 2 ^ width self.old.rows }
+        requires marked { IsMarked self.old.rows target cand }
+        requires found { All (IsEvidence self.old.rows) found.old.items }
+        ensures rows { self.new.rows ≡ self.old.rows }
+        ensures witnesses { self.new.witnesses ≡ self.old.witnesses }
+        ensures found { OnOk result (All (IsEvidence self.new.rows) found.new.items) }
+        ensures sound { Sound self.new }
+    {
+        let next = self.rows.next();
+        let job = Job::of(target, cand.left, cand.upto, next, self.snapshot.clone()?);
+        let pairs = breaches_on::<Brand>(&mut self.store, self.alloc, &job, Blank::new(1))?;
+        if pairs.is_empty() {
+            self.mark(&job);
+            return Ok(());
+        }
+        push_evidence(&self.rows, pairs.as_slice(), found)
+    }
+
+    // Books the evidence that is news, all of it or none.
+    fn book_all(&mut self, found: Vec<Evidence>) -> Result<(), AllocError>
+        requires { All (IsEvidence self.old.rows) found.items }
+        ensures rows { self.new.rows ≡ self.old.rows }
+        ensures witnesses { Extends self.old.witnesses self.new.witnesses }
+        ensures sound { Sound self.new }
+    {
+        let alloc = self.alloc;
+        if found.is_empty() {
+            return Ok(());
+        }
+        let news = news_of(alloc, &self.witnesses, &self.candidates, found)?;
+        let parts = drafted(alloc, &self.candidates, &news.draft)?;
+        self.witnesses.add_all(news.witnesses.as_slice())?;
+        put_all(&mut self.candidates, parts);
+        Ok(())
     }
 
     // Validates the first unfinished candidate and books the verdict, and tells whether there was one.

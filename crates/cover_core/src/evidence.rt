@@ -35,7 +35,7 @@ impl Evidence {
 }
 
 // What two rows agree on, where they are different and live.
-pub(crate) fn evidence_of(rows: &RowLog, i: RowNo, j: RowNo) -> Option<Evidence>
+fn evidence_of(rows: &RowLog, i: RowNo, j: RowNo) -> Option<Evidence>
     ensures { IfSome result (IsEvidence rows.now) }
 {
     if i == j || !rows.is_live(i) || !rows.is_live(j) {
@@ -43,6 +43,22 @@ pub(crate) fn evidence_of(rows: &RowLog, i: RowNo, j: RowNo) -> Option<Evidence>
     }
     let agree = rows.agree(i, j);
     Some(Evidence { agree, i, j })
+}
+
+// Adds what two rows agree on, where they are different and live.
+pub(crate) fn push_pair(
+    rows: &RowLog,
+    i: RowNo,
+    j: RowNo,
+    found: &mut Vec<Evidence>,
+) -> Result<(), AllocError>
+    requires { All (IsEvidence rows.now) found.old.items }
+    ensures { OnOk result (All (IsEvidence rows.now) found.new.items) }
+{
+    if let Some(evidence) = evidence_of(rows, i, j) {
+        found.push(evidence)?;
+    }
+    Ok(())
 }
 
 // Adds what each of these pairs of rows agrees on.
@@ -55,9 +71,7 @@ pub(crate) fn push_evidence(
     ensures { OnOk result (All (IsEvidence rows.now) found.new.items) }
 {
     for pair in pairs {
-        if let Some(evidence) = evidence_of(rows, pair.0, pair.1) {
-            found.push(evidence)?;
-        }
+        push_pair(rows, pair.0, pair.1, found)?;
     }
     Ok(())
 }

@@ -9,6 +9,7 @@ mod evidence;
 mod listed;
 mod parts;
 mod renewal;
+mod sampling;
 mod searching;
 #[cfg(test)]
 mod tests;

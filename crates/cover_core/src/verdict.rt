@@ -1,8 +1,9 @@
 // Verdicts on the snapshot of a book.
-ghost use Rattle.std.specs.Prelude.{◌≡◌, ◌<◌, IfOk};
+ghost use Rattle.std.specs.Prelude.{◌≡◌, ◌<◌, [], true, IfOk};
+ghost use Rattle.rel_base.specs.Shows.{holds_in};
 ghost use Rattle.validator.specs.Verdicts.{IsFitting, IsVerdict};
 
-use rel_base::{Job, Snapshot, Steps};
+use rel_base::{Job, RowNo, Snapshot, Steps};
 use std::alloc::{AllocError, Global};
 use std::sync::Arc;
 use std::sync::ledger::{Blank, Ledger};
@@ -35,4 +36,27 @@ pub(crate) fn verdict_on<L: Ledger>(
 {
     let mut steps = Steps::<L>::none(blank);
     store.validate(alloc, job, &mut steps)
+}
+
+// How many pairs of rows are asked for where a dependency does not hold.
+const MOST_BREACHES: usize = 64;
+
+// Pairs of rows that break a job's dependency, from groups of their own. Steps are not counted.
+pub(crate) fn breaches_on<L: Ledger>(
+    store: &mut Store,
+    alloc: Global,
+    job: &Job,
+    blank: Blank,
+) -> Result<Vec<(RowNo, RowNo)>, AllocError>
+    requires name { blank.name ≡ L.name }
+    requires parts { blank.parts ≡ L.parts }
+    requires some { 0 < L.parts }
+    requires same { store.old ≡ job.now.snapshot }
+    requires fitting { IsFitting job.now }
+    ensures none { IfOk result (λ pairs. pairs.items ≡ [] → holds_in job.now.snapshot job.now.left job.now.target ≡ true) }
+    ensures store { store.new ≡ store.old }
+{
+    let mut steps = Steps::<L>::none(blank);
+    let pairs = store.breaches(alloc, job, MOST_BREACHES, &mut steps)?;
+    Ok(pairs)
 }

@@ -4,7 +4,7 @@ use Rattle.cover_core.proofs.book.Book.finish.Goals as goal
 use Rattle.cover_core.proofs.book.Book.finish.Goals.{After-from_residual, After-covers}
 
 pub loop-init : goal.loop-init
-loop-init c = IsTurned-none _
+loop-init c = IsTurned-more _ _ _ (IsTurned-none _) c.search.ensures.rows c.search.ensures.witnesses
 
 pub loop-smaller : goal.loop-smaller
 loop-smaller c = OnTrue_at c.if-branch.true c.in_ok-advance.ensures.less

@@ -1,0 +1,86 @@
+-- A pass over the candidates, and evidence that is booked all at once.
+use Rattle.std.proofs.Common.{inl, inr, ◌≡◌, ◌⊎◌, ℕ, ◌^◌, ◌<◌, refl, sym, ap, ◌∙◌, subst, List, [], ◌∷◌, ◌++◌, append-nil, length, get_or}
+use Rattle.std.specs.List.{All}
+use Rattle.col_set.specs.declared.target.Target.{Target}
+use Rattle.col_set.specs.Target.{IsColumnTarget}
+use Rattle.col_set.specs.Lists.{Listed, Listed-append_cases}
+use Rattle.col_set.proofs.Places.{Listed-get_or}
+use Rattle.rel_base.specs.CodeTable.{CodeTable}
+use Rattle.rel_base.specs.JobParts.{JobParts}
+use Rattle.rel_base.specs.RowState.{RowState, width, next}
+use Rattle.rel_base.proofs.States.{All-listed, All-from}
+use Rattle.negative_cover.specs.declared.negative_cover.Witness.{Witness}
+use Rattle.negative_cover.specs.Witnesses.{sets_of}
+use Rattle.candidate_cover.specs.declared.cand.Cand.{Cand}
+use Rattle.candidate_cover.specs.Lists.{CandLists}
+use Rattle.candidate_cover.specs.Drafts.{Drafted}
+use Rattle.cover_steps.specs.Core.{Core, cands, renewed}
+use Rattle.cover_steps.specs.Sound.{IsWitness, IsMarked, Sound, Fits}
+use Rattle.cover_steps.proofs.Fitting.{Fits-shown}
+use Rattle.cover_steps.proofs.Keeping.{Sound-renewed, Follows-itself, cand-least, cand-marked}
+use Rattle.validator.specs.Verdicts.{IsFitting}
+use Rattle.cover_core.specs.declared.evidence.Evidence.{Evidence}
+use Rattle.cover_core.specs.Evidences.{IsEvidence, IsNews}
+use Rattle.cover_core.specs.Kept.{IsBook}
+use Rattle.cover_core.specs.Work.{Extends}
+use Rattle.cover_core.proofs.Booking.{job_of, IsFitting-fits}
+use Rattle.cover_core.proofs.Whole.{IsJobOf}
+
+pub Extends-itself : (ws : List Witness) → Extends ws ws
+Extends-itself ws = ([], sym (append-nil ws))
+
+pub Extends-same : (old new : List Witness) → new ≡ old → Extends old new
+Extends-same old new e = ([], e ∙ sym (append-nil old))
+
+All-both : {X : Type 0} (P : X → Type 0) (xs ys : List X) → All P xs → All P ys → All P (xs ++ ys)
+All-both P xs ys a b = All-from P (xs ++ ys) (λ x h. at x (Listed-append_cases x xs ys h))
+  where
+    at : (x : _) → Listed x xs ⊎ Listed x ys → P x
+    at x (inl h) = All-listed P x xs a h
+    at x (inr h) = All-listed P x ys b h
+
+-- ---- booking
+module _ (s : Core) (table : CodeTable) (book : IsBook s table) (more : List Witness) (d : Drafted) (news : IsNews s.rows (length s.candidates.columns) s.witnesses more d) (new : CandLists)
+    (made : new ≡ renewed (length s.candidates.columns) d.agree_sets s.candidates) where
+  abbrev pub booked_all : Core
+  booked_all = record { rows = s.rows; witnesses = s.witnesses ++ more; candidates = new }
+
+  lists : new ≡ renewed (width s.rows) (sets_of (s.witnesses ++ more)) s.candidates
+  lists = made ∙ (λ i. renewed (book.sound.columns i) ((news.drafted i).agree_sets) s.candidates)
+
+  pub IsBook-all : (ws : List Witness) → ws ≡ s.witnesses ++ more → IsBook (record { rows = s.rows; witnesses = ws; candidates = new }) table
+  IsBook-all ws e = subst (λ (ws : List Witness). IsBook (record { rows = s.rows; witnesses = ws; candidates = new }) table) (sym e) (record {
+    sound = subst (λ (c : CandLists). Sound (record { rows = s.rows; witnesses = s.witnesses ++ more; candidates = c })) (sym lists)
+        (Sound-renewed s s.rows (s.witnesses ++ more) book.sound book.sound.rows (Follows-itself s.rows)
+        (All-both (IsWitness s.rows) s.witnesses more book.sound.witnesses news.witnesses) (news.once book.sound.once));
+    table = book.table;
+    shows = book.shows;
+  })
+
+-- ---- a candidate that is judged
+module _ (s now : Core) (table : CodeTable) (book : IsBook s table) (view : s ≡ now) (t : Target) (c : Cand) (target : IsColumnTarget (width now.rows) t) (left : c.left < 2 ^ width now.rows) (marked : IsMarked now.rows t c)
+    (n : ℕ) (e : n ≡ next s.rows) (job : JobParts) (is : IsJobOf job t c n table) where
+  same : job ≡ job_of s t c table
+  same = λ k. record { target = is.target k; left = is.left k; from = is.from k; to = (is.to ∙ e) k; snapshot = is.shared k }
+
+  pub judged-fits : Fits s.rows job
+  judged-fits = subst (Fits s.rows) (sym same) (Fits-shown s.rows (job_of s t c table) book.sound.rows book.table book.shows
+      (subst (λ (m : Core). IsColumnTarget (width m.rows) t) (sym view) target) (subst (λ (m : Core). c.left < 2 ^ width m.rows) (sym view) left) refl
+      (subst (λ (m : Core). IsMarked m.rows t c) (sym view) marked).holds)
+
+  pub judged-fitting : IsFitting job
+  judged-fitting = IsFitting-fits s.rows job judged-fits
+
+-- ---- the candidates of a target
+module _ (s now : Core) (table : CodeTable) (book : IsBook s table) (view : s ≡ now) (t : Target) (target : IsColumnTarget (width now.rows) t) (list : List Cand) (is : list ≡ cands s t) (k : ℕ) (c : Cand) (l : k < length list) (at : c ≡ get_or list k c) where
+  listed : Listed c (cands s t)
+  listed = subst (λ (cs : List Cand). Listed c cs) is (subst (λ (d : Cand). Listed d list) (sym at) (Listed-get_or list k c l))
+
+  own : IsColumnTarget (width s.rows) t
+  own = subst (λ (m : Core). IsColumnTarget (width m.rows) t) (sym view) target
+
+  pub cand_left : (r : RowState) → r ≡ now.rows → c.left < 2 ^ width r
+  cand_left r e = subst (λ (r : RowState). c.left < 2 ^ width r) (ap (λ (m : Core). m.rows) view ∙ sym e) (cand-least s t c book.sound own listed).below
+
+  pub cand_marked : (r : RowState) → r ≡ now.rows → IsMarked r t c
+  cand_marked r e = subst (λ (r : RowState). IsMarked r t c) (ap (λ (m : Core). m.rows) view ∙ sym e) (cand-marked s t c book.sound own listed)
