@@ -1,10 +1,9 @@
 -- Evidence that is news.
-use Rattle.std.proofs.Common.{inl, inr, ◌≡◌, ◌≢◌, ◌⊎◌, ℕ, Bool, true, false, not, ◌&&◌, ◌||◌, refl, sym, ap, ◌∙◌, subst, List, [], ◌∷◌, ◌++◌, append_assoc, append-nil, map, IsPermutation}
+use Rattle.std.proofs.Common.{inl, inr, ◌≡◌, ◌≢◌, ◌⊎◌, ℕ, true, not, ◌&&◌, refl, sym, ap, ◌∙◌, subst, List, [], ◌∷◌, ◌++◌, append_assoc, append-nil, IsPermutation}
 use Rattle.std.specs.List.{All, AllPairs, list_any}
-use Rattle.std.proofs.lemmas.Bool.{true≢false, and_parts, and_from, or_cases, not-true, not_from_false}
+use Rattle.std.proofs.lemmas.Bool.{true≢false, and_parts, and_from, or_cases, not-true}
 use Rattle.std.proofs.lemmas.List.{map-append}
 use Rattle.std.proofs.lemmas.List.Sorted.{Contains-permutation, IsPermutation-sym}
-use Rattle.col_set.specs.declared.target.Target.{Target}
 use Rattle.col_set.specs.declared.target.Target.TheVariants.{Col, RowId}
 use Rattle.col_set.specs.ColSet.{has, subset, upto}
 use Rattle.col_set.specs.Target.{has_target}
@@ -22,8 +21,7 @@ use Rattle.candidate_cover.specs.Drafts.{Drafted, is_news}
 use Rattle.cover_steps.specs.Sound.{IsWitness}
 use Rattle.cover_steps.proofs.Keeping.{live-Contains}
 use Rattle.cover_steps.proofs.Lists.{AllPairs-Pairwise, Pairwise-AllPairs, Pairwise-append_one}
-use Rattle.cover_core.specs.declared.evidence.Evidence.{Evidence}
-use Rattle.cover_core.specs.Evidences.{IsEvidence, IsNews}
+use Rattle.cover_core.specs.Evidences.{IsNews}
 
 pub evidence-witness : (r : RowState) (i j z : ℕ) → is_live r i ≡ true → is_live r j ≡ true → i ≢ j → z ≡ agree_of r i j → IsWitness r (record { i = i; j = j; agree = z })
 evidence-witness r i j z a b ne e = record { first = live-Contains r i a; second = live-Contains r j b; different = ne; agrees = e }

@@ -1,5 +1,5 @@
 -- A pass over the candidates, and evidence that is booked all at once.
-use Rattle.std.proofs.Common.{inl, inr, ◌≡◌, ◌⊎◌, ℕ, ◌^◌, ◌<◌, refl, sym, ap, ◌∙◌, subst, List, [], ◌∷◌, ◌++◌, append-nil, length, get_or}
+use Rattle.std.proofs.Common.{inl, inr, ◌≡◌, ◌⊎◌, ℕ, ◌^◌, ◌<◌, refl, sym, ap, ◌∙◌, subst, List, [], ◌++◌, append-nil, length, get_or}
 use Rattle.std.specs.List.{All}
 use Rattle.col_set.specs.declared.target.Target.{Target}
 use Rattle.col_set.specs.Target.{IsColumnTarget}
@@ -19,8 +19,7 @@ use Rattle.cover_steps.specs.Sound.{IsWitness, IsMarked, Sound, Fits}
 use Rattle.cover_steps.proofs.Fitting.{Fits-shown}
 use Rattle.cover_steps.proofs.Keeping.{Sound-renewed, Follows-itself, cand-least, cand-marked}
 use Rattle.validator.specs.Verdicts.{IsFitting}
-use Rattle.cover_core.specs.declared.evidence.Evidence.{Evidence}
-use Rattle.cover_core.specs.Evidences.{IsEvidence, IsNews}
+use Rattle.cover_core.specs.Evidences.{IsNews}
 use Rattle.cover_core.specs.Kept.{IsBook}
 use Rattle.cover_core.specs.Work.{Extends}
 use Rattle.cover_core.proofs.Booking.{job_of, IsFitting-fits}

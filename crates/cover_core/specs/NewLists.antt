@@ -3,11 +3,9 @@ use Rattle.std.specs.Prelude.{◌≡◌, ◌<◌, ℕ, List, length, slice_index
 use Rattle.col_set.specs.declared.target.Target.{Target}
 use Rattle.col_set.specs.declared.target.Target.TheVariants.{Col, RowId}
 use Rattle.col_set.specs.ColSet.{Columns}
-use Rattle.col_set.specs.Target.{IsColumnTarget}
-use Rattle.col_set.specs.Evidence.{least}
 use Rattle.candidate_cover.specs.declared.cand.Cand.{Cand}
 use Rattle.candidate_cover.specs.Lists.{CandLists}
-use Rattle.candidate_cover.specs.Cands.{cands_of, lefts}
+use Rattle.candidate_cover.specs.Cands.{cands_of}
 use Rattle.cover_steps.specs.Core.{renewed_list}
 
 -- the list that these agree sets leave for a target, or none where that is the list that there is

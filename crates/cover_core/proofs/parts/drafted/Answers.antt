@@ -1,5 +1,4 @@
-use Rattle.std.proofs.Common.{◌<◌, arith}
-use Rattle.candidate_cover.specs.Cands.{width}
+use Rattle.std.proofs.Common.{arith}
 use Rattle.cover_core.proofs.Putting.{ArePartsSoFar-first, ArePartsSoFar-more, ArePartsSoFar-whole}
 use Rattle.cover_core.proofs.parts.drafted.Goals as goal
 

@@ -1,4 +1,3 @@
-use Rattle.std.proofs.Common.{rules}
 use Rattle.cover_core.proofs.Putting.{IsPart-drafted}
 use Rattle.candidate_cover.specs.Cands.{width}
 use Rattle.cover_core.proofs.parts.drafted_part.Goals as goal

@@ -1,7 +1,7 @@
 use Rattle.std.proofs.lemmas.Bool.{OnTrue_at}
 use Rattle.cover_core.proofs.Turn.{IsTurned, IsTurned-none, IsTurned-more, IsTurned-fits}
 use Rattle.cover_core.proofs.book.Book.finish.Goals as goal
-use Rattle.cover_core.proofs.book.Book.finish.Goals.{After-from_residual, After-covers}
+use Rattle.cover_core.proofs.book.Book.finish.Goals.{After-from_residual-in_err-advance, After-covers}
 
 pub loop-init : goal.loop-init
 loop-init c = IsTurned-more _ _ _ (IsTurned-none _) c.search.ensures.rows c.search.ensures.witnesses
@@ -12,7 +12,7 @@ loop-smaller c = OnTrue_at c.if-branch.true c.in_ok-advance.ensures.less
 pub loop-preserved : goal.loop-preserved
 loop-preserved c = IsTurned-more _ _ _ c.loop.invariant c.advance.ensures.rows c.advance.ensures.witnesses
 
-failed : (c : After-from_residual) → IsTurned c.args.self.now c.advance.new.self
+failed : (c : After-from_residual-in_err-advance) → IsTurned c.args.self.now c.advance.new.self
 failed c = IsTurned-more _ _ _ c.loop.invariant c.advance.ensures.rows c.advance.ensures.witnesses
 
 done : (c : After-covers) → IsTurned c.args.self.now c.advance.new.self
