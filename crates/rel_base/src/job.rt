@@ -81,6 +81,13 @@ impl Job {
         &self.snapshot
     }
 
+    /// The same with its owners, for what is to keep the snapshot longer than the job.
+    pub fn shared(&self) -> &Arc<Snapshot>
+        ensures { result.now.value ≡ self.now.snapshot }
+    {
+        &self.snapshot
+    }
+
     /// An equal job, which shares the snapshot. It fails where no further owner of the snapshot can be counted.
     pub fn again(&self) -> Result<Job, AllocError>
         ensures { IfOk result (λ job. job ≡ self.now) }

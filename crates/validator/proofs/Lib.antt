@@ -4,3 +4,4 @@ pub mod Soundness
 pub mod Refinements
 pub mod Exactly
 pub mod KeptLists
+pub mod PlainTests

@@ -37,8 +37,8 @@ pub(crate) struct Kept {
 type Places = IndexMap<ColSet, usize, BuildHasherDefault<DefaultHasher>>;
 
 // The partitions that are kept, the places where they are found, and the weight of each column: how many rows it does not tell
-// from an earlier one. All that is kept has `rows` rows in its groups, of the `room` that there is, and a partition is large with
-// more than `large` rows.
+// from an earlier one. All that is kept has `rows` rows in its groups, of the `room` that there is, and a partition is large
+// with more than `large` rows.
 #[derive(Drop)]
 pub(crate) struct Shelf {
     pub(crate) kept: Vec<Kept>,

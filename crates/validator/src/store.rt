@@ -15,9 +15,9 @@ use std::sync::ledger::Ledger;
 
 /// Stripped partitions of one snapshot by small column sets, which verdicts start from. One worker owns it.
 ///
-/// It keeps the partition by each single column that a verdict asked for, and those by two to four columns that it made on its way,
-/// 4,096 of them at most, as long as the rows of all that is kept fit its room. A partition with more than half of the snapshot's rows
-/// is kept only as long as they fit half of it. Contracts see the codes of its snapshot.
+/// It keeps the partition by each single column that a verdict asked for, and those by two to four columns that it made on its
+/// way, 4,096 of them at most, as long as the rows of all that is kept fit its room. A partition with more than half of the
+/// snapshot's rows is kept only as long as they fit half of it. Contracts see the codes of its snapshot.
 #[derive(Drop)]
 pub struct Store {
     snapshot: Arc<Snapshot>,
@@ -53,10 +53,10 @@ impl Store {
 
     /// Validates a job on the store's snapshot, as `validate` does, with the same answer to whether the dependency holds.
     ///
-    /// It takes the columns of the left side in the order of how many rows they tell apart, starts from the kept partition by the most of
-    /// the first of them, up to four, refines it by the others but the last, and compares the rows of each group by the last one's
-    /// codes, up to the first difference. So a verdict takes time by the rows of that partition, not by how many are kept. After want
-    /// of memory the store is as useful as before.
+    /// It takes the columns of the left side in the order of how many rows they tell apart, starts from the kept partition by the
+    /// most of the first of them, up to four, refines it by the others but the last, and compares the rows of each group by the
+    /// last one's codes, up to the first difference. So a verdict takes time by the rows of that partition, not by how many are
+    /// kept. After want of memory the store is as useful as before.
     pub fn validate<L: Ledger>(
         &mut self,
         alloc: Global,

@@ -1,7 +1,9 @@
-ghost use Rattle.std.specs.Prelude.{◌≡◌, ◌<◌, IsTrue};
-ghost use Rattle.col_set.specs.Target.{IsColumnTarget};
-ghost use Rattle.validator.specs.Verdicts.{IsFitting};
+ghost use Rattle.std.specs.Prelude.{◌≡◌, ◌<◌};
 
+mod plain;
+mod shapes;
+
+use self::plain::is_fitting;
 use crate::{Store, Verdict, validate};
 use col_set::{ColSet, Target};
 use rel_base::{Codes, Job, RowNo, Snapshot, Steps};
@@ -22,30 +24,6 @@ fn five_rows(alloc: Global, rt: &impl Abort, live: Vec<bool>) -> Result<Snapshot
     assert!(rt; codes[0].as_slice().len() == 5 && codes[1].as_slice().len() == 5);
     assert!(rt; codes[2].as_slice().len() == 5);
     Ok(Snapshot::of(codes, live, RowNo::of(6)))
-}
-
-// Whether the target is a column of the first n, or which row it is.
-fn is_target(target: Target, columns: u8) -> bool
-    ensures { IsTrue result → IsColumnTarget columns target }
-{
-    match target {
-        Target::Col(column) => column < columns,
-        Target::RowId => true,
-    }
-}
-
-// Whether the job's parts fit, and at most its first row is old.
-fn is_fitting(job: &Job) -> bool
-    ensures { IsTrue result → IsFitting job.now }
-{
-    let columns = job.snapshot().columns();
-    if job.from().number() > 2 {
-        return false;
-    }
-    if !job.left().subset_of(ColSet::all(columns)) {
-        return false;
-    }
-    is_target(job.target(), columns)
 }
 
 fn verdict_on<L: Ledger>(
