@@ -4,3 +4,4 @@ pub mod Entry
 pub mod Changes
 pub mod Numbers
 pub mod Coming
+pub mod Laws

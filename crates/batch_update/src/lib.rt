@@ -7,6 +7,7 @@ mod changes;
 mod entry;
 mod item;
 mod kind;
+pub mod laws;
 mod reading;
 mod row_number;
 #[cfg(test)]
