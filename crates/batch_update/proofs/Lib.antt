@@ -1,0 +1,5 @@
+pub mod Digits
+pub mod Entries
+pub mod Few
+pub mod Steps
+pub mod Numbered

@@ -1,0 +1,6 @@
+pub mod RowNumber
+pub mod Kind
+pub mod Entry
+pub mod Changes
+pub mod Numbers
+pub mod Coming
