@@ -1,4 +1,5 @@
 pub mod Files
+pub mod Inclusions
 pub mod Texts
 pub mod Workers
 pub mod Found

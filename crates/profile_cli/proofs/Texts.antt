@@ -1,15 +1,15 @@
 -- The text of several reports, and what a run of `profile` comes to.
-use Rattle.std.proofs.Common.{◌≡◌, ℕ, zero, suc, ◌+◌, ◌<◌, refl, sym, ap, ap₂, ◌∙◌, subst, arith, List, [], ◌∷◌, ◌++◌, length, get_or, take, map, append-nil, Option, Some, None, Result, Ok, Err, false, cond}
+use Rattle.std.proofs.Common.{◌≡◌, ℕ, zero, suc, ◌+◌, ◌<◌, refl, sym, ap, ap₂, ◌∙◌, ◌≤◌, subst, arith, List, [], ◌∷◌, ◌++◌, length, get_or, take, map, append-nil, Option, Some, None, Result, Ok, Err, false, cond}
 use Rattle.std.specs.Prelude.{OnOk, IfOk, IfSome, is_ok, is_err}
 use Rattle.std.proofs.lemmas.Bool.{false≢true}
-use Rattle.std.specs.List.{flat_map, zip, range_with_len}
+use Rattle.std.specs.List.{flat_map, zip}
+use Rattle.std.proofs.lemmas.List.{take_more}
 use Rattle.std.proofs.lemmas.List.Concat.{flat_map-append}
-use Rattle.std.proofs.lemmas.List.FromFn.{length-range_with_len}
 use Rattle.rel_base.specs.declared.nulls.Nulls.{Nulls}
 use Rattle.rel_base.specs.declared.limits.Limits.{Limits}
-use Rattle.rel_base.specs.Cells.{Row}
+use Rattle.rel_base.specs.Cells.{Cell, Row}
 use Rattle.rel_base.specs.Relation.{Content}
-use Rattle.rel_base.specs.RowState.{opened}
+use Rattle.rel_base.specs.RowState.{RowState, opened}
 use Rattle.rel_base.specs.Covers.{CoverLists, covers}
 use Rattle.report_text.specs.Report.{report_text}
 use Rattle.ports.specs.Bytes.{Gains}
@@ -18,8 +18,10 @@ use Rattle.ports.specs.Files.{Files, bytes_of}
 use Rattle.profile_cli.specs.declared.outcome.Outcome.{Outcome}
 use Rattle.profile_cli.specs.declared.outcome.Outcome.TheVariants.{Done, Usage, Refused, ReadFault, WriteFault, NoMemory}
 use Rattle.profile_cli.specs.Request.{Request}
-use Rattle.profile_cli.specs.Output.{file_content, report_of, reports, first_refusal}
+use Rattle.profile_cli.specs.Columns.{AreColumnsOf}
+use Rattle.profile_cli.specs.Output.{file_content, file_state, report_of, inclusion_lines, reports, first_refusal}
 use Rattle.profile_cli.specs.Outcomes.{WritesText, Profiles, ReadsCounted}
+use Rattle.profile_cli.proofs.Files.{take_whole}
 
 module _ {T E : Type 0} where
   pub OnOk-map : (r : Result T E) {P Q : Type 0} → (P → Q) → OnOk r P → OnOk r Q
@@ -30,61 +32,83 @@ module _ {T E : Type 0} where
   IfOk-map (Ok x) f p = f x p
   IfOk-map (Err e) f p = p
 
--- the report of a relation as it was read
-pub report_text-of : (nulls : Nulls) (limit : ℕ) (name : List ℕ) (c : Content) (names : Row) (rows : List Row) (found : CoverLists) → names ≡ c.names → rows ≡ c.rows
-    → found ≡ covers (opened nulls limit c) → report_text name names (length rows) found ≡ report_of name (opened nulls limit c)
+-- the report of a row state
+pub report_text-of : (r : RowState) (name : List ℕ) (names : Row) (rows : ℕ) (found : CoverLists) → names ≡ r.names → rows ≡ length r.live → found ≡ covers r
+    → report_text name names rows found ≡ report_of name r
 unfolding report_of
-report_text-of nulls limit name c names rows found same same' is =
-    λ i. report_text name (same i) (live i) (is i)
-  where
-    live : length rows ≡ length (range_with_len 1 (length c.rows))
-    live = ap length same' ∙ sym (length-range_with_len 1 (length c.rows))
+report_text-of r name names rows found same live is = λ i. report_text name (same i) (live i) (is i)
 
 -- ---- one more
-zip_more : (xs : List (List ℕ)) (ys : List Content) (i : ℕ) (d : List ℕ) (e : Content) → i < length xs → i < length ys
+zip_more : {X Y : Type 0} (xs : List X) (ys : List Y) (i : ℕ) (d : X) (e : Y) → i < length xs → i < length ys
     → zip (take (i + 1) xs) (take (i + 1) ys) ≡ zip (take i xs) (take i ys) ++ (get_or xs i d, get_or ys i e) ∷ []
 zip_more [] ys i d e h g = absurd (omega arith)
 zip_more (x ∷ xs) [] i d e h g = absurd (omega arith)
 zip_more (x ∷ xs) (y ∷ ys) zero d e h g = refl
-zip_more (x ∷ xs) (y ∷ ys) (suc i) d e h g =
+zip_more {X} {Y} (x ∷ xs) (y ∷ ys) (suc i) d e h g =
     let s : suc i + 1 ≡ suc (i + 1) = omega arith in
-    ap (λ (j : ℕ). zip (take j (x ∷ xs)) (take j (y ∷ ys))) s ∙ ap (λ (ps : List (List ℕ × Content)). (x, y) ∷ ps) (zip_more xs ys i d e (omega arith) (omega arith))
+    ap (λ (j : ℕ). zip (take j (x ∷ xs)) (take j (y ∷ ys))) s ∙ ap (λ (ps : List (X × Y)). (x, y) ∷ ps) (zip_more xs ys i d e (omega arith) (omega arith))
 
-pub reports_more : (f : List ℕ × Content → List ℕ) (names : List (List ℕ)) (relations : List Content) (i : ℕ) (d : List ℕ) (e : Content) (old new : List ℕ) → i < length names → i < length relations
-    → new ≡ old ++ f (get_or names i d, get_or relations i e) → old ≡ flat_map f (zip (take i names) (take i relations))
-    → new ≡ flat_map f (zip (take (i + 1) names) (take (i + 1) relations))
-reports_more f names relations i d e old new h g made is =
-    made ∙ ap₂ (λ (u v : List ℕ). u ++ v) is (sym (append-nil (f (get_or names i d, get_or relations i e))))
-    ∙ sym (ap (flat_map f) (zip_more names relations i d e h g) ∙ flat_map-append f (zip (take i names) (take i relations)) ((get_or names i d, get_or relations i e) ∷ []))
+-- the reports of the first n of these row states, and what is kept of them
+pub record AreReports (names : List (List ℕ)) (states : List RowState) (n : ℕ) (text widths : List ℕ) (columns : List (List Cell)) : Type 0 where
+  pub text_is : text ≡ flat_map (λ p. report_of p.0 p.1) (zip (take n names) (take n states))
+  pub columns_are : AreColumnsOf (take n states) widths columns
+
+module _ (names : List (List ℕ)) (states : List RowState) where
+  pub AreReports-none : (text widths : List ℕ) (columns : List (List Cell)) → text ≡ [] → AreColumnsOf [] widths columns → AreReports names states 0 text widths columns
+  AreReports-none text widths columns is are = record { text_is = is; columns_are = are }
+
+  pub AreReports-more : (n : ℕ) (text text' widths widths' : List ℕ) (columns columns' : List (List Cell)) (name : List ℕ) (r : RowState)
+      → n < length names → n < length states → name ≡ get_or names n [] → r ≡ get_or states n r → text' ≡ text ++ report_of name r
+      → ((before : List RowState) → AreColumnsOf before widths columns → AreColumnsOf (before ++ r ∷ []) widths' columns')
+      → AreReports names states n text widths columns → AreReports names states (n + 1) text' widths' columns'
+  AreReports-more n text text' widths widths' columns columns' name r h g named at made more so_far =
+      let f : List ℕ × RowState → List ℕ = λ p. report_of p.0 p.1 in
+      record {
+        text_is =
+            made ∙ ap₂ (λ (u v : List ℕ). u ++ v) so_far.text_is (ap₂ report_of named at ∙ sym (append-nil (f (get_or names n [], get_or states n r))))
+            ∙ sym (ap (flat_map f) (zip_more names states n [] r h g) ∙ flat_map-append f (zip (take n names) (take n states)) ((get_or names n [], get_or states n r) ∷ []));
+        columns_are =
+            subst (λ (before : List RowState). AreColumnsOf before widths' columns') (ap (λ (s : RowState). take n states ++ s ∷ []) at ∙ sym (take_more states n r g)) (more (take n states) so_far.columns_are);
+      }
+
+  pub AreReports-whole : (n : ℕ) (text widths : List ℕ) (columns : List (List Cell)) → length names ≤ n → length states ≤ n → AreReports names states n text widths columns
+      → (text ≡ flat_map (λ p. report_of p.0 p.1) (zip names states)) × AreColumnsOf states widths columns
+  AreReports-whole n text widths columns h g so_far = (
+    so_far.text_is ∙ ap₂ (λ (ns : List (List ℕ)) (ss : List RowState). flat_map (λ p. report_of p.0 p.1) (zip ns ss)) (take_whole n names h) (take_whole n states g),
+    subst (λ (ss : List RowState). AreColumnsOf ss widths columns) (take_whole n states g) so_far.columns_are,
+  )
+
+pub reports-whole : (names : List (List ℕ)) (states : List RowState) (text whole : List ℕ) → text ≡ flat_map (λ p. report_of p.0 p.1) (zip names states) → whole ≡ text ++ inclusion_lines states
+    → whole ≡ reports names states
+unfolding reports
+reports-whole names states text whole is more = more ∙ ap (λ (t : List ℕ). t ++ inclusion_lines states) is
 
 -- ---- relations that were read of files
-zip_read : (f : List ℕ × Content → List ℕ) (g : List ℕ → Content) (names : List (List ℕ)) → flat_map f (zip names (map g names)) ≡ flat_map (λ name. f (name, g name)) names
-zip_read f g [] = refl
-zip_read f g (name ∷ names) = ap (λ rest. f (name, g name) ++ rest) (zip_read f g names)
+map-map : {X Y Z : Type 0} (f : Y → Z) (g : X → Y) (xs : List X) → map f (map g xs) ≡ map (λ x. f (g x)) xs
+map-map f g [] = refl
+map-map f g (x ∷ xs) = ap (λ rest. f (g x) ∷ rest) (map-map f g xs)
 
 pub reports_read : (nulls : Nulls) (limits : Limits) (held : Files) (names : List (List ℕ)) (relations : List Content) → relations ≡ map (λ name. file_content (bytes_of held name)) names
-    → flat_map (λ p. report_of p.0 (opened nulls limits.rows p.1)) (zip names relations) ≡ reports nulls limits held names
-unfolding reports
+    → reports names (map (opened nulls limits.rows) relations) ≡ reports names (map (file_state nulls limits held) names)
 reports_read nulls limits held names relations is =
-    ap (λ (rs : List Content). flat_map (λ p. report_of p.0 (opened nulls limits.rows p.1)) (zip names rs)) is
-    ∙ zip_read (λ p. report_of p.0 (opened nulls limits.rows p.1)) (λ name. file_content (bytes_of held name)) names
+    ap (λ (rs : List Content). reports names (map (opened nulls limits.rows) rs)) is
+    ∙ ap (reports names) (map-map (opened nulls limits.rows) (λ name. file_content (bytes_of held name)) names)
 
 -- what is known of the files and of their text is known of a run
 pub Profiles-read : (o : Outcome) (request : Request) (limits : Limits) (content : Option Files) (relations : List Content) (before now : Option (List ℕ)) (faults faults' : ℕ)
     → IfSome content (λ held. (first_refusal limits held request.files ≡ None) × (relations ≡ map (λ name. file_content (bytes_of held name)) request.files))
-    → ((limit : ℕ) → WritesText o (flat_map (λ p. report_of p.0 (opened request.nulls limit p.1)) (zip request.files relations)) before now faults faults')
+    → WritesText o (reports request.files (map (opened request.nulls limits.rows) relations)) before now faults faults'
     → Profiles o request limits content before now faults faults'
-Profiles-read Done request limits None relations before now faults faults' k w = (k, (w 0).1)
+Profiles-read Done request limits None relations before now faults faults' k w = (k, w.1)
 Profiles-read Done request limits (Some held) relations before now faults faults' k w =
-    ((k.0, subst (Gains before now) (reports_read request.nulls limits held request.files relations k.1) (w limits.rows).0), (w 0).1)
-Profiles-read Usage request limits content relations before now faults faults' k w = w 0
-Profiles-read (Refused file rec why) request limits content relations before now faults faults' k w = absurd (w 0)
-Profiles-read (ReadFault file) request limits content relations before now faults faults' k w = absurd (w 0)
-Profiles-read WriteFault request limits None relations before now faults faults' k w = (k, (w 0).1)
+    ((k.0, subst (Gains before now) (reports_read request.nulls limits held request.files relations k.1) w.0), w.1)
+Profiles-read Usage request limits content relations before now faults faults' k w = w
+Profiles-read (Refused file rec why) request limits content relations before now faults faults' k w = absurd w
+Profiles-read (ReadFault file) request limits content relations before now faults faults' k w = absurd w
+Profiles-read WriteFault request limits None relations before now faults faults' k w = (k, w.1)
 Profiles-read WriteFault request limits (Some held) relations before now faults faults' k w =
-    let v = (w limits.rows).0 in
-    ((k.0, (v.0, subst (λ text. Gains before now (take v.0 text)) (reports_read request.nulls limits held request.files relations k.1) v.1)), (w 0).1)
-Profiles-read NoMemory request limits content relations before now faults faults' k w = w 0
+    ((k.0, (w.0.0, subst (λ text. Gains before now (take w.0.0 text)) (reports_read request.nulls limits held request.files relations k.1) w.0.1)), w.1)
+Profiles-read NoMemory request limits content relations before now faults faults' k w = w
 
 pub ReadsCounted-written : {S : Type 0} (o : Outcome) (count : S → ℕ) (last : S → Option (List ℕ)) (old new : S) (text : List ℕ) (before now : Option (List ℕ)) (faults faults' : ℕ)
     → WritesText o text before now faults faults' → SameFaults count last old new → ReadsCounted o count last old new

@@ -4,4 +4,5 @@ pub mod Words
 pub mod Command
 pub mod Outcomes
 pub mod Output
+pub mod Columns
 pub mod FilesRead

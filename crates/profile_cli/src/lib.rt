@@ -1,6 +1,7 @@
 //! The top call: words, files and input to the text that a run writes.
 #![tactic(auto)]
 
+mod columns;
 mod command;
 #[cfg(test)]
 mod fault_tests;

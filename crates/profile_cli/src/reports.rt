@@ -1,41 +1,50 @@
 // The text of a run.
-ghost use Rattle.std.specs.Prelude.{◌≡◌, ◌++◌, ℕ, [], length, IfOk, OnOk, OnErr};
-ghost use Rattle.std.specs.List.{flat_map, zip};
+ghost use Rattle.std.specs.Prelude.{◌≡◌, ◌++◌, length, map, IfOk, OnOk};
 ghost use Rattle.rel_base.specs.RowState.{opened};
-ghost use Rattle.profile_cli.specs.Output.{report_of};
+ghost use Rattle.profile_cli.specs.Output.{report_of, reports};
 
-use plain_base::covers;
-use rel_base::{Name, Nulls, Relation};
+use crate::columns::Columns;
+use cover_core::Book;
+use rel_base::{Limits, Name, Nulls, Relation};
 use report_text::Lines;
 use std::alloc::{AllocError, Global};
+use std::thread::Threads;
 
-// Adds the report of one relation.
-fn push_report_of(
-    alloc: Global,
+/// Adds the report of a book's rows, whose covers it finds.
+pub(crate) fn push_report_of(
     lines: &mut Lines,
-    nulls: Nulls,
     name: &Name,
-    relation: &Relation,
+    book: &mut Book,
 ) -> Result<(), AllocError>
-    ensures { OnOk result ((limit : ℕ) → lines.new ≡ lines.old ++ report_of name.now (opened nulls limit relation.now)) }
+    ensures text { OnOk result (lines.new ≡ lines.old ++ report_of name.now book.old.rows) }
+    ensures rows { book.new.rows ≡ book.old.rows }
 {
-    let found = covers(alloc, nulls, relation)?;
-    lines.push_report(name, relation.names(), relation.rows().len() as u64, &found)
+    let found = book.finish()?;
+    let rows = book.rows();
+    lines.push_report(name, rows.names(), u64::from(rows.live_len()), &found)
 }
 
-/// The reports of these relations, under these names.
-pub(crate) fn reports_of(
+/// The reports of these relations, under these names, and then the inclusions among all their columns.
+///
+/// A relation is let go as soon as it is coded, and its codes as soon as its report is made: its columns' distinct cells are kept.
+pub(crate) fn reports_of<R: Threads + Sync>(
+    rt: &R,
     alloc: Global,
     nulls: Nulls,
+    limits: Limits,
     names: &[Name],
-    relations: &[Relation],
+    relations: Vec<Relation>,
 ) -> Result<Vec<u8>, AllocError>
-    requires { length relations.now ≡ length names.now }
-    ensures { IfOk result (λ text. (limit : ℕ) → text.items ≡ flat_map (λ p. report_of p.0 (opened nulls limit p.1)) (zip names.now relations.now)) }
+    requires { length relations.items ≡ length names.now }
+    ensures { IfOk result (λ text. text.items ≡ reports names.now (map (opened nulls limits.rows) relations.items)) }
 {
     let mut lines = Lines::new(alloc);
-    for place in 0..names.len() {
-        push_report_of(alloc, &mut lines, nulls, &names[place], &relations[place])?;
+    let mut columns = Columns::new(alloc);
+    for (place, relation) in relations.into_iter().enumerate() {
+        let mut book = Book::open_with(alloc, relation, limits, nulls)?;
+        push_report_of(&mut lines, &names[place], &mut book)?;
+        columns.push(alloc, book.rows())?;
     }
+    columns.push_inclusions(rt, alloc, &mut lines)?;
     lines.into_text()
 }

@@ -64,7 +64,7 @@ fn reports_keys_and_dependencies(rt: HostRuntime) -> Result<(), Fail> {
         (
             "bare.csv",
             "a,b\n",
-            "relation,bare.csv,2,0\ncolumn,1,a\ncolumn,2,b\nkey,\nfd,,1\nfd,,2\n",
+            "relation,bare.csv,2,0\ncolumn,1,a\ncolumn,2,b\nkey,\nfd,,1\nfd,,2\nind,1.1,1.2\nind,1.2,1.1\n",
         ),
         (
             "one.csv",
@@ -74,7 +74,7 @@ fn reports_keys_and_dependencies(rt: HostRuntime) -> Result<(), Fail> {
         (
             "null.csv",
             "a,b\n,1\n,2\n",
-            "relation,null.csv,2,2\ncolumn,1,a\ncolumn,2,b\nkey,2\nfd,,1\n",
+            "relation,null.csv,2,2\ncolumn,1,a\ncolumn,2,b\nkey,2\nfd,,1\nind,1.1,1.2\n",
         ),
         (
             "twice.csv",
@@ -84,7 +84,7 @@ fn reports_keys_and_dependencies(rt: HostRuntime) -> Result<(), Fail> {
         (
             "parity.csv",
             "a,b,c\n0,0,0\n0,1,1\n1,0,1\n1,1,0\n",
-            "relation,parity.csv,3,4\ncolumn,1,a\ncolumn,2,b\ncolumn,3,c\nkey,1 2\nkey,1 3\nkey,2 3\nfd,2 3,1\nfd,1 3,2\nfd,1 2,3\n",
+            "relation,parity.csv,3,4\ncolumn,1,a\ncolumn,2,b\ncolumn,3,c\nkey,1 2\nkey,1 3\nkey,2 3\nfd,2 3,1\nfd,1 3,2\nfd,1 2,3\nind,1.1,1.2\nind,1.1,1.3\nind,1.2,1.1\nind,1.2,1.3\nind,1.3,1.1\nind,1.3,1.2\n",
         ),
         (
             "marks.csv",
@@ -257,14 +257,17 @@ fn options_are_read_in_each_of_their_forms(rt: HostRuntime) -> Result<(), Fail> 
 fn null_agrees_as_the_words_say(rt: HostRuntime) -> Result<(), Fail> {
     let alloc = rt.alloc();
     let cases: [(&[&str], &str); 3] = [
-        (&["depprof", "profile", "n.csv"], "key,2\nfd,,1\n"),
+        (
+            &["depprof", "profile", "n.csv"],
+            "key,2\nfd,,1\nind,1.1,1.2\n",
+        ),
         (
             &["depprof", "profile", "--nulls", "equal", "n.csv"],
-            "key,2\nfd,,1\n",
+            "key,2\nfd,,1\nind,1.1,1.2\n",
         ),
         (
             &["depprof", "profile", "--nulls", "distinct", "n.csv"],
-            "key,1\nkey,2\nfd,2,1\nfd,1,2\n",
+            "key,1\nkey,2\nfd,2,1\nfd,1,2\nind,1.1,1.2\n",
         ),
     ];
     for case in cases {
@@ -297,11 +300,19 @@ fn files_are_reported_in_the_order_of_the_words(rt: HostRuntime) -> Result<(), F
     let one = "relation,one,1,2\ncolumn,1,a\nkey,1\n";
     let bare = "relation,-x,1,0\ncolumn,1,b\nkey,\nfd,,1\n";
     let dash = "relation,-,1,1\ncolumn,1,c\nkey,\nfd,,1\n";
-    let cases: [(&[&str], &[u8]); 6] = [
-        (&["depprof", "profile", "one", "-"], b"o-"),
-        (&["depprof", "profile", "-", "one"], b"-o"),
-        (&["depprof", "profile", "one", "one"], b"oo"),
-        (&["depprof", "profile", "--", "-x", "one", "-x"], b"xox"),
+    let cases: [(&[&str], &[u8], &str); 6] = [
+        (&["depprof", "profile", "one", "-"], b"o-", ""),
+        (&["depprof", "profile", "-", "one"], b"-o", ""),
+        (
+            &["depprof", "profile", "one", "one"],
+            b"oo",
+            "ind,1.1,2.1\nind,2.1,1.1\n",
+        ),
+        (
+            &["depprof", "profile", "--", "-x", "one", "-x"],
+            b"xox",
+            "ind,1.1,2.1\nind,1.1,3.1\nind,3.1,1.1\nind,3.1,2.1\n",
+        ),
         (
             &[
                 "depprof",
@@ -316,8 +327,13 @@ fn files_are_reported_in_the_order_of_the_words(rt: HostRuntime) -> Result<(), F
                 "-x",
             ],
             b"o-x",
+            "ind,3.1,1.1\nind,3.1,2.1\n",
         ),
-        (&["depprof", "profile", "-", "--", "-", "one", "-"], b"--o-"),
+        (
+            &["depprof", "profile", "-", "--", "-", "one", "-"],
+            b"--o-",
+            "ind,1.1,2.1\nind,1.1,4.1\nind,2.1,1.1\nind,2.1,4.1\nind,4.1,1.1\nind,4.1,2.1\n",
+        ),
     ];
     let files: [(&str, &[u8]); 3] = [("one", b"a\n1\n2\n"), ("-x", b"b\n"), ("-", b"c\n3\n")];
     for case in cases {
@@ -330,6 +346,7 @@ fn files_are_reported_in_the_order_of_the_words(rt: HostRuntime) -> Result<(), F
             };
             wanted.extend_from_slice(report.as_bytes())?;
         }
+        wanted.extend_from_slice(case.2.as_bytes())?;
         let (written, status) = ran(&rt, alloc, case.0, files.as_slice(), Limits::standard())?;
         assert!(rt;
             written.as_slice() == wanted.as_slice(),
@@ -337,6 +354,37 @@ fn files_are_reported_in_the_order_of_the_words(rt: HostRuntime) -> Result<(), F
             case.0
         );
         assert!(rt; status == 0, "the status at {:?}", case.0);
+    }
+    Ok(())
+}
+
+#[test]
+fn inclusions_stand_after_the_last_report(rt: HostRuntime) -> Result<(), Fail> {
+    let alloc = rt.alloc();
+    let words = ["depprof", "profile", "p", "q"];
+    let cases = [
+        (
+            "a\n1\n2\n",
+            "b\n1\n2\n3\n",
+            "relation,p,1,2\ncolumn,1,a\nkey,1\nrelation,q,1,3\ncolumn,1,b\nkey,1\nind,1.1,2.1\n",
+        ),
+        // NULL of the dependent column needs no partner.
+        (
+            "a\n1\n\"\"\n",
+            "b\n1\n",
+            "relation,p,1,2\ncolumn,1,a\nkey,1\nrelation,q,1,1\ncolumn,1,b\nkey,\nfd,,1\nind,1.1,2.1\nind,2.1,1.1\n",
+        ),
+    ];
+    for case in cases {
+        let (written, status) = ran(
+            &rt,
+            alloc,
+            &words,
+            &[("p", case.0.as_bytes()), ("q", case.1.as_bytes())],
+            Limits::standard(),
+        )?;
+        assert!(rt; written.as_slice() == case.2.as_bytes(), "at {}", case.0);
+        assert!(rt; status == 0);
     }
     Ok(())
 }
@@ -368,11 +416,11 @@ fn widths_up_to_the_limit_are_reported(rt: HostRuntime) -> Result<(), Fail> {
     let alloc = rt.alloc();
     let words = ["depprof", "profile", "w.csv"];
     let cases = [
-        (13, 0, 28, 0),
-        (64, 0, 130, 0),
-        (128, 0, 258, 0),
+        (13, 0, 184, 0),
+        (64, 0, 4162, 0),
+        (128, 0, 16514, 0),
         (129, 0, 1, 3),
-        (65, 2, 131, 0),
+        (65, 2, 4163, 0),
     ];
     for case in cases {
         let bytes = wide(alloc, case.0, case.1)?;
@@ -403,7 +451,7 @@ fn widths_up_to_the_limit_are_reported(rt: HostRuntime) -> Result<(), Fail> {
     )?;
     assert!(rt;
         written.as_slice()
-            == b"relation,w.csv,3,2\ncolumn,1,c\ncolumn,2,c\ncolumn,3,c\nkey,3\nfd,,1\nfd,,2\n".as_slice()
+            == b"relation,w.csv,3,2\ncolumn,1,c\ncolumn,2,c\ncolumn,3,c\nkey,3\nfd,,1\nfd,,2\nind,1.1,1.2\nind,1.2,1.1\n".as_slice()
     );
     Ok(())
 }

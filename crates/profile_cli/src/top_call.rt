@@ -11,10 +11,9 @@ ghost use Rattle.profile_cli.specs.Command as words_of;
 ghost use Rattle.profile_cli.specs.Command.{texts};
 ghost use Rattle.profile_cli.specs.Outcomes.{OnDone, OnUsage, IfRefused, IfReadFault, OnWriteFault, OnNoMemory, ReadsCounted, WritesText, Profiles, EndsWith, IsDoneOrNoMemory, IsUsageOrNoMemory, IsRefusedOrNoMemory};
 ghost use Rattle.profile_cli.specs.Output.{IsPut, IsReached, first_refusal, profile_text};
-ghost use Rattle.profile_cli.specs.Output.{report_of};
+ghost use Rattle.profile_cli.specs.Output.{reports};
 ghost use Rattle.profile_cli.specs.Usage.{usage_text};
 ghost use Rattle.profile_cli.specs.declared.outcome.Outcome.TheVariants.{Refused, ReadFault};
-ghost use Rattle.std.specs.List.{flat_map, zip};
 
 use crate::command::{Command, command_of};
 use crate::reading::{FilesRead, read_files};
@@ -29,7 +28,8 @@ use std::thread::Threads;
 
 /// Runs the command that the words are. The first word is the program's own name.
 ///
-/// `profile FILE..` reads all files, and then writes for each of them its relation's columns, minimal keys and minimal functional dependencies.
+/// `profile FILE..` reads all files, and then writes for each of them its relation's columns, minimal keys and minimal functional dependencies, and after
+/// these the inclusions among the columns of all of them.
 pub fn run<R: Threads + Wait + Sync, H: Shelf, I: Source, O: Sink, G: Gate + Sync>(
     rt: &R,
     alloc: Global,
@@ -94,7 +94,7 @@ pub fn run<R: Threads + Wait + Sync, H: Shelf, I: Source, O: Sink, G: Gate + Syn
     ensures input { input.new ≡ input.old }
 {
     match command_of(alloc, words.as_slice()) {
-        Ok(Some(command)) => profile(alloc, command, shelf, out, &limits),
+        Ok(Some(command)) => profile(rt, alloc, command, shelf, out, &limits),
         Ok(None) => {
             put_all(out, usage_line());
             Outcome::Usage
@@ -104,7 +104,8 @@ pub fn run<R: Threads + Wait + Sync, H: Shelf, I: Source, O: Sink, G: Gate + Syn
 }
 
 // Reads the files of a command, and writes their reports, or why there are none.
-fn profile<H: Shelf, O: Sink>(
+fn profile<R: Threads + Sync, H: Shelf, O: Sink>(
+    rt: &R,
     alloc: Global,
     command: Command,
     shelf: &mut H,
@@ -120,7 +121,7 @@ fn profile<H: Shelf, O: Sink>(
     ensures writes { SameFaults H.write_faults H.write_last shelf.old shelf.new }
 {
     match read_files(alloc, shelf, command.files(), limits) {
-        FilesRead::Read(relations) => write_reports(alloc, &command, relations.as_slice(), out),
+        FilesRead::Read(relations) => write_reports(rt, alloc, &command, *limits, relations, out),
         FilesRead::Refused { place, rec, why } => refuse(alloc, command, place, rec, why, out),
         FilesRead::Fault { place } => end_at_fault(alloc, command, place, out),
         FilesRead::NoMemory => Outcome::NoMemory,
@@ -128,18 +129,27 @@ fn profile<H: Shelf, O: Sink>(
 }
 
 // Makes the whole text before the first byte of it is written.
-fn write_reports<O: Sink>(
+fn write_reports<R: Threads + Sync, O: Sink>(
+    rt: &R,
     alloc: Global,
     command: &Command,
-    relations: &[Relation],
+    limits: Limits,
+    relations: Vec<Relation>,
     out: &mut O,
 ) -> Outcome
-    requires { length relations.now ≡ length command.now.files }
-    ensures written { (limit : ℕ) → WritesText result (flat_map (λ p. report_of p.0 (opened command.now.nulls limit p.1)) (zip command.now.files relations.now))
+    requires { length relations.items ≡ length command.now.files }
+    ensures written { WritesText result (reports command.now.files (map (opened command.now.nulls limits.rows) relations.items))
         (O.held out.old) (O.held out.new) (O.faults out.old) (O.faults out.new) }
     ensures room { O.room out.new ≡ O.room out.old }
 {
-    match reports_of(alloc, command.nulls(), command.files(), relations) {
+    match reports_of(
+        rt,
+        alloc,
+        command.nulls(),
+        limits,
+        command.files(),
+        relations,
+    ) {
         Ok(text) => match put_all(out, text.as_slice()) {
             Putting::Put => Outcome::Done,
             Putting::Failed => Outcome::WriteFault,

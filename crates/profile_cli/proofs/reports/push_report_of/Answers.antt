@@ -1,8 +1,15 @@
-use Rattle.std.proofs.Common.{◌∙◌, ◌++◌, ap}
+use Rattle.std.proofs.Common.{◌≡◌, ◌∙◌, ◌++◌, ap, length}
+use Rattle.rel_base.specs.Covers.{covers}
+use Rattle.rel_base.specs.RowState.{RowState}
 use Rattle.profile_cli.proofs.Texts.{OnOk-map, report_text-of}
 use Rattle.profile_cli.proofs.reports.push_report_of.Goals as goal
 
-pub returns : goal.returns
-returns c = OnOk-map c.push_report.result
-    (λ e limit. e ∙ ap (λ text. c.args.lines.now ++ text) (report_text-of c.args.nulls limit c.args.name.now c.args.relation.now c.names.result.now c.rows.result.now c.in_ok-found.found c.names.ensures.value c.rows.ensures.value (c.in_ok-found.ensures limit)))
+pub returns-clause-text : goal.returns-clause-text
+returns-clause-text c =
+    let rows : c.rows-rows.result.now ≡ c.args.book.now.rows = c.rows-rows.ensures.rows ∙ c.in_ok-found.ensures.rows in
+    OnOk-map c.push_report.result
+    (λ e. e ∙ ap (λ text. c.args.lines.now ++ text) (report_text-of c.args.book.now.rows c.args.name.now c.names.result.now c.from.result c.in_ok-found.found
+    (c.names.ensures.value ∙ ap (λ (r : RowState). r.names) rows)
+    (c.from.ensures ∙ c.live_len.ensures.value ∙ ap (λ (r : RowState). length r.live) rows)
+    (c.in_ok-found.ensures.covers ∙ ap covers c.in_ok-found.ensures.rows)))
     c.push_report.ensures.ok

@@ -1,8 +1,7 @@
-use Rattle.std.proofs.Common.{◌≡◌, ℕ, take}
-use Rattle.std.specs.List.{flat_map, zip}
+use Rattle.std.proofs.Common.{length, map}
 use Rattle.rel_base.specs.RowState.{opened}
-use Rattle.profile_cli.specs.Output.{report_of}
+use Rattle.profile_cli.proofs.Texts.{AreReports}
 use Rattle.profile_cli.proofs.reports.reports_of.Given as goal
 
 abbrev pub invariant-loop-place : goal.invariant-loop-place
-invariant-loop-place l = (limit : ℕ) → l.lines ≡ flat_map (λ p. report_of p.0 (opened l.nulls limit p.1)) (zip (take l.place l.names) (take l.place l.relations))
+invariant-loop-place g l = AreReports l.names (map (opened l.nulls l.limits.rows) l.fn.relations.items) (length l.yielded) l.lines l.columns.widths.items l.columns.cells.items
