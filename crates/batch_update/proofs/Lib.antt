@@ -3,3 +3,4 @@ pub mod Entries
 pub mod Few
 pub mod Steps
 pub mod Numbered
+pub mod Wide

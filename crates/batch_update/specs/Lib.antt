@@ -3,4 +3,5 @@ pub mod Kind
 pub mod Entry
 pub mod Changes
 pub mod Numbers
+pub mod Wide
 pub mod Coming
