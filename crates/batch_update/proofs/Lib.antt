@@ -5,3 +5,4 @@ pub mod Said
 pub mod Few
 pub mod Steps
 pub mod Numbered
+pub mod Wide

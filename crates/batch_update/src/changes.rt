@@ -2,6 +2,7 @@
 ghost use Rattle.std.specs.Prelude.{◌≡◌, length, All, IfOk};
 ghost use Rattle.batch_update.specs.Changes.{changes};
 ghost use Rattle.batch_update.specs.Numbers.{IsNumberedTo};
+ghost use Rattle.batch_update.specs.Wide.{IsWide};
 
 use crate::begun::{Begun, Place};
 use crate::item::Item;
@@ -28,6 +29,7 @@ pub fn read_changes(
 ) -> Result<Vec<Item>, AllocError>
     ensures items { IfOk result (λ items. items.items ≡ changes bytes.now columns limits.now) }
     ensures numbers { IfOk result (λ items. All (IsNumberedTo (length bytes.now)) items.items) }
+    ensures wide { IfOk result (λ items. All (IsWide columns) items.items) }
 {
     let mut reader = RecordReader::new(alloc, bytes);
     let mut fields = ByteRecord::new(alloc);

@@ -47,7 +47,7 @@ first_refusal-append limits held [] ys = refl
 first_refusal-append limits held (x ∷ xs) ys =
     ap (or_else (named x (refused_file limits (bytes_of held x)))) (first_refusal-append limits held xs ys) ∙ or_else-assoc (named x (refused_file limits (bytes_of held x))) (first_refusal limits held xs) (first_refusal limits held ys)
 
-first_refusal-one : (limits : Limits) (held : Files) (x : List ℕ) → first_refusal limits held (x ∷ []) ≡ named x (refused_file limits (bytes_of held x))
+pub first_refusal-one : (limits : Limits) (held : Files) (x : List ℕ) → first_refusal limits held (x ∷ []) ≡ named x (refused_file limits (bytes_of held x))
 unfolding first_refusal
 first_refusal-one limits held x = or_else-none (named x (refused_file limits (bytes_of held x)))
 

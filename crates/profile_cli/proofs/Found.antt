@@ -14,7 +14,7 @@ use Rattle.clap.proofs.WalkLemmas.{first_value-rows, one_text-rows, raw_values-r
 use Rattle.clap.specs.ValueTests.{is_unsigned_in}
 use Rattle.clap.specs.declared.builder.value_parser.ValueParser.TheVariants as vp
 use Rattle.clap.proofs.ValueTestLemmas.{Accepts-accepts, accepts-Accepts}
-use Rattle.profile_cli.specs.Command.{files_of, nulls_of, number_or, workers_of}
+use Rattle.profile_cli.specs.Command.{file_of, files_of, nulls_of, number_or, workers_of}
 
 -- the text of a reference, or another
 text_or : (o : Option (Bor Text)) (d : Bor Text) → (unwrap_or o d).now ≡ unwrap_or (option_map (λ s. s.now) o) d.now
@@ -27,6 +27,11 @@ nulls_of-word f o word d is found same default_word e =
     ap (λ b. cond b Distinct Equal) e
     ∙ ap (λ (t : Text). cond (bytes_eq t (codes "distinct")) Distinct Equal)
     (ap (λ (s : Bor Text). s.now) same ∙ text_or o d ∙ (λ i. unwrap_or ((found ∙ first_value-rows f (codes "nulls")) i) (default_word i)))
+
+pub file_of-word : (f : Found) (o : Option (Bor Text)) (word d : Bor Text) → option_map (λ s. s.now) o ≡ first_value f (codes "file") → word ≡ unwrap_or o d → d.now ≡ []
+    → word.now ≡ file_of (rows_of f)
+file_of-word f o word d found same default_word =
+    ap (λ (s : Bor Text). s.now) same ∙ text_or o d ∙ (λ i. unwrap_or ((found ∙ first_value-rows f (codes "file")) i) (default_word i))
 
 pub files_of-words : (f : Found) (o : Option (List Text)) → o ≡ option_map raw_values (matched_of f (codes "files")) → unwrap_or o [] ≡ files_of (rows_of f)
 files_of-words f o found = ap (λ (x : Option (List Text)). unwrap_or x []) (found ∙ raw_values-rows f (codes "files"))

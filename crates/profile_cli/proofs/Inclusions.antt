@@ -17,7 +17,7 @@ use Rattle.row_log.specs.Distinct.{AreDistinctCells}
 use Rattle.inclusion_merge.proofs.Pairing.{upto_more}
 use Rattle.report_text.specs.Inclusions.{inclusions_text}
 use Rattle.profile_cli.specs.Columns.{AreColumnsOf, SameFilled}
-use Rattle.profile_cli.specs.Output.{inclusion_lines}
+use Rattle.profile_cli.specs.Reports.{inclusion_lines}
 
 -- ---- one column more
 columns_more : (r : RowState) (xs : List (List Cell)) (n : ℕ) → xs ++ map (column_cells r) (upto (n + 1)) ≡ (xs ++ map (column_cells r) (upto n)) ++ column_cells r n ∷ []

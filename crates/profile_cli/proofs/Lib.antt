@@ -1,6 +1,8 @@
 pub mod Files
 pub mod Inclusions
 pub mod Texts
+pub mod Ends
+pub mod Answering
 pub mod Workers
 pub mod Found
 pub mod Parse

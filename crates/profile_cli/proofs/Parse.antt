@@ -16,42 +16,45 @@ use Rattle.clap.specs.declared.parser.matches.SubCommand.{SubCommand}
 use Rattle.clap.specs.declared.error.kind.ErrorKind.{ErrorKind}
 use Rattle.clap.specs.declared.error.kind.ErrorKind.TheVariants.{OutOfMemory}
 use Rattle.std.proofs.lemmas.Slice.Eq.{bytes_eq-Decides}
-use Rattle.profile_cli.specs.Request.{Request}
+use Rattle.profile_cli.specs.declared.request.Request.{Request}
 use Rattle.profile_cli.specs.Words.{IsTheApp, app_with, behind, the_app}
-use Rattle.profile_cli.specs.Command.{command, profile_request, request_of}
+use Rattle.profile_cli.specs.Command.{command, profile_request, request_of, session_request}
 use Rattle.profile_cli.proofs.Bare.{bare_words, entered-bare, entered_fault-bare}
 
--- ---- the command, wherever the words of its option stand
-simple_with : (names : Bor (List (Bor Text))) → is_simple (app_with names) ≡ true
-simple_with names = refl
+-- ---- the command, wherever the words of its options stand
+module _ (profile_names session_names : Bor (List (Bor Text))) where
+  simple_with : is_simple (app_with profile_names session_names) ≡ true
+  simple_with = refl
 
-free_with : (names : Bor (List (Bor Text))) → is_simple_and_free (app_with names) ≡ true
-free_with names = refl
+  free_with : is_simple_and_free (app_with profile_names session_names) ≡ true
+  free_with = refl
 
-fault_bare : (names : Bor (List (Bor Text))) (words : List Text) → fault_of (app_with (bare_words names)) words ≡ fault_of (app_with names) words
-fault_bare names words =
-    let b = built (app_with names) in
-    let stop = stop_after b.top.rules (names_of b) (drop 1 words) in
-    λ i. level_fault b.top (names_of b) nothing_held (drop 1 words) (is_some (entered-bare b.subs stop i)) (entered_fault-bare b.subs stop i)
+  fault_bare : (words : List Text) → fault_of (app_with (bare_words profile_names) (bare_words session_names)) words ≡ fault_of (app_with profile_names session_names) words
+  fault_bare words =
+      let b = built (app_with profile_names session_names) in
+      let stop = stop_after b.top.rules (names_of b) (drop 1 words) in
+      λ i. level_fault b.top (names_of b) nothing_held (drop 1 words) (is_some (entered-bare b.subs stop i)) (entered_fault-bare b.subs stop i)
 
-subcommand_bare : (names : Bor (List (Bor Text))) (words : List Text) → subcommand_of (app_with (bare_words names)) words ≡ subcommand_of (app_with names) words
-subcommand_bare names words =
-    let b = built (app_with names) in
-    entered-bare b.subs (stop_after b.top.rules (names_of b) (drop 1 words))
+  subcommand_bare : (words : List Text) → subcommand_of (app_with (bare_words profile_names) (bare_words session_names)) words ≡ subcommand_of (app_with profile_names session_names) words
+  subcommand_bare words =
+      let b = built (app_with profile_names session_names) in
+      entered-bare b.subs (stop_after b.top.rules (names_of b) (drop 1 words))
 
 pub is_simple-app : (a : App) → IsTheApp a → is_simple a ≡ true
-is_simple-app a is = ap is_simple is.app ∙ simple_with is.names
+is_simple-app a is = ap is_simple is.app ∙ simple_with is.profile_names is.session_names
 
 pub is_free-app : (a : App) → IsTheApp a → is_simple_and_free a ≡ true
-is_free-app a is = ap is_simple_and_free is.app ∙ free_with is.names
+is_free-app a is = ap is_simple_and_free is.app ∙ free_with is.profile_names is.session_names
 
 pub fault_of-app : (a : App) (words : List Text) → IsTheApp a → fault_of a words ≡ fault_of the_app words
 fault_of-app a words is =
-    ap (λ (x : App). fault_of x words) is.app ∙ sym (fault_bare is.names words) ∙ ap (λ (ts : List Text). fault_of (app_with (behind ts)) words) is.words
+    ap (λ (x : App). fault_of x words) is.app ∙ sym (fault_bare is.profile_names is.session_names words)
+    ∙ (λ i. fault_of (app_with (behind (is.profile_words i)) (behind (is.session_words i))) words)
 
 pub subcommand_of-app : (a : App) (words : List Text) → IsTheApp a → subcommand_of a words ≡ subcommand_of the_app words
 subcommand_of-app a words is =
-    ap (λ (x : App). subcommand_of x words) is.app ∙ sym (subcommand_bare is.names words) ∙ ap (λ (ts : List Text). subcommand_of (app_with (behind ts)) words) is.words
+    ap (λ (x : App). subcommand_of x words) is.app ∙ sym (subcommand_bare is.profile_names is.session_names words)
+    ∙ (λ i. subcommand_of (app_with (behind (is.profile_words i)) (behind (is.session_words i))) words)
 
 -- ---- what the words are
 command-found : (words : List Text) (o : Option (Text × List Row)) (r : Option Request) → fault_of the_app words ≡ [] → subcommand_of the_app words ≡ o → option_and_then request_of o ≡ r
@@ -74,37 +77,53 @@ module _ {Z : Type 0} where
   abbrev name_in : Option (Box SubCommand Z) → Option Text
   name_in = option_map (λ b. (out-SubCommand (box_value b)).name.now)
 
-  request_here : (x : Option (Box SubCommand Z)) (rows : List Row) → name_in x ≡ Some (codes "profile") → option_map (λ p. p.1) (subcommand_rows x) ≡ Some rows
-      → option_and_then request_of (subcommand_rows x) ≡ Some (profile_request rows)
-  request_here None rows named found = cc
-  request_here (Some b) rows named found =
-      let is : (out-SubCommand (box_value b)).name.now ≡ codes "profile" = cc in
+  request_here : (make : List Row → Request) (name : Text) → ((rows : List Row) → request_of (name, rows) ≡ Some (make rows))
+      → (x : Option (Box SubCommand Z)) (rows : List Row) → name_in x ≡ Some name → option_map (λ p. p.1) (subcommand_rows x) ≡ Some rows
+      → option_and_then request_of (subcommand_rows x) ≡ Some (make rows)
+  request_here make name by None rows named found = cc
+  request_here make name by (Some b) rows named found =
+      let is : (out-SubCommand (box_value b)).name.now ≡ name = cc in
       let same : rows_of (found_of (out-SubCommand (box_value b)).matches) ≡ rows = cc in
-      ap (λ (n : Text). cond (bytes_eq n (codes "profile")) (Some (profile_request (rows_of (found_of (out-SubCommand (box_value b)).matches)))) None) is
-      ∙ ap (λ (rs : List Row). Some (profile_request rs)) same
+      ap (λ (n : Text). request_of (n, rows_of (found_of (out-SubCommand (box_value b)).matches))) is
+      ∙ by (rows_of (found_of (out-SubCommand (box_value b)).matches)) ∙ ap (λ (rs : List Row). Some (make rs)) same
 
-  request_elsewhere : (x : Option (Box SubCommand Z)) → (name_in x ≡ Some (codes "profile") → ⊥) → option_and_then request_of (subcommand_rows x) ≡ None
-  request_elsewhere None other = refl
-  request_elsewhere (Some b) other = go (bytes_eq (out-SubCommand (box_value b)).name.now (codes "profile")) refl
+  request_elsewhere : (x : Option (Box SubCommand Z)) → (name_in x ≡ Some (codes "profile") → ⊥) → (name_in x ≡ Some (codes "session") → ⊥) → option_and_then request_of (subcommand_rows x) ≡ None
+  request_elsewhere None profile session = refl
+  request_elsewhere (Some b) profile session = go (bytes_eq n (codes "profile")) (bytes_eq n (codes "session")) refl refl
     where
-      go : (t : Bool) → bytes_eq (out-SubCommand (box_value b)).name.now (codes "profile") ≡ t
-          → cond (bytes_eq (out-SubCommand (box_value b)).name.now (codes "profile")) (Some (profile_request (rows_of (found_of (out-SubCommand (box_value b)).matches)))) None ≡ None
-      go true e = absurd (other (ap (λ (n : Text). Some n) ((bytes_eq-Decides (out-SubCommand (box_value b)).name.now (codes "profile")).0 e)))
-      go false e = rw e refl
+      n : Text
+      n = (out-SubCommand (box_value b)).name.now
 
--- a parse that entered `profile`
-pub command-profile : (a : App) (words : List Text) (m : ArgMatches) (rows : List Row) → IsTheApp a → fault_of a words ≡ [] → subcommand_rows_of m ≡ subcommand_of a words
-    → subcommand_name_of m ≡ Some (codes "profile") → option_map (λ p. p.1) (subcommand_rows (out-ArgMatches m).subcommand) ≡ Some rows → Some (profile_request rows) ≡ command words
-command-profile a words m rows is none met named found =
-    sym (command-found words (subcommand_rows_of m) (Some (profile_request rows)) (sym (fault_of-app a words is) ∙ none) (sym (subcommand_of-app a words is) ∙ sym met)
-    (request_here (out-ArgMatches m).subcommand rows named found))
+      rows : List Row
+      rows = rows_of (found_of (out-SubCommand (box_value b)).matches)
 
--- a parse that did not
-pub command-other : (a : App) (words : List Text) (m : ArgMatches) → IsTheApp a → fault_of a words ≡ [] → subcommand_rows_of m ≡ subcommand_of a words
-    → (subcommand_name_of m ≡ Some (codes "profile") → ⊥) → None ≡ command words
-command-other a words m is none met other =
-    sym (command-found words (subcommand_rows_of m) None (sym (fault_of-app a words is) ∙ none) (sym (subcommand_of-app a words is) ∙ sym met)
-    (request_elsewhere (out-ArgMatches m).subcommand other))
+      go : (t u : Bool) → bytes_eq n (codes "profile") ≡ t → bytes_eq n (codes "session") ≡ u
+          → cond (bytes_eq n (codes "profile")) (Some (profile_request rows)) (cond (bytes_eq n (codes "session")) (Some (session_request rows)) None) ≡ None
+      go true u e f = absurd (profile (ap (λ (m : Text). Some m) ((bytes_eq-Decides n (codes "profile")).0 e)))
+      go false true e f = absurd (session (ap (λ (m : Text). Some m) ((bytes_eq-Decides n (codes "session")).0 f)))
+      go false false e f = rw (e, f) refl
+
+-- a parse that entered one of the subcommands
+module _ (a : App) (words : List Text) (m : ArgMatches) (is : IsTheApp a) (none : fault_of a words ≡ []) (met : subcommand_rows_of m ≡ subcommand_of a words) where
+  command-named : (make : List Row → Request) (name : Text) → ((rows : List Row) → request_of (name, rows) ≡ Some (make rows))
+      → (rows : List Row) → subcommand_name_of m ≡ Some name → option_map (λ p. p.1) (subcommand_rows (out-ArgMatches m).subcommand) ≡ Some rows → Some (make rows) ≡ command words
+  command-named make name by rows named found =
+      sym (command-found words (subcommand_rows_of m) (Some (make rows)) (sym (fault_of-app a words is) ∙ none) (sym (subcommand_of-app a words is) ∙ sym met)
+      (request_here make name by (out-ArgMatches m).subcommand rows named found))
+
+  pub command-profile : (rows : List Row) → subcommand_name_of m ≡ Some (codes "profile") → option_map (λ p. p.1) (subcommand_rows (out-ArgMatches m).subcommand) ≡ Some rows
+      → Some (profile_request rows) ≡ command words
+  command-profile rows named found = command-named profile_request (codes "profile") (λ rs. refl) rows named found
+
+  pub command-session : (rows : List Row) → subcommand_name_of m ≡ Some (codes "session") → option_map (λ p. p.1) (subcommand_rows (out-ArgMatches m).subcommand) ≡ Some rows
+      → Some (session_request rows) ≡ command words
+  command-session rows named found = command-named session_request (codes "session") (λ rs. refl) rows named found
+
+  -- a parse that entered neither
+  pub command-other : (subcommand_name_of m ≡ Some (codes "profile") → ⊥) → (subcommand_name_of m ≡ Some (codes "session") → ⊥) → None ≡ command words
+  command-other profile session =
+      sym (command-found words (subcommand_rows_of m) None (sym (fault_of-app a words is) ∙ none) (sym (subcommand_of-app a words is) ∙ sym met)
+      (request_elsewhere (out-ArgMatches m).subcommand profile session))
 
 -- a parse that failed, and not for memory
 pub command-none : (a : App) (words : List Text) (k : ErrorKind) → IsTheApp a → (k ≡ OutOfMemory) ⊎ IsAmong k (fault_of a words) → (k ≡ OutOfMemory → ⊥) → None ≡ command words

@@ -12,21 +12,21 @@ use Rattle.rel_base.specs.Relation.{Content}
 use Rattle.rel_base.specs.RowState.{RowState, opened}
 use Rattle.rel_base.specs.Covers.{CoverLists, covers}
 use Rattle.report_text.specs.Report.{report_text}
-use Rattle.ports.specs.Bytes.{Gains}
 use Rattle.ports.specs.Faults.{SameFaults}
 use Rattle.ports.specs.Files.{Files, bytes_of}
-use Rattle.profile_cli.specs.declared.outcome.Outcome.{Outcome}
-use Rattle.profile_cli.specs.declared.outcome.Outcome.TheVariants.{Done, Usage, Refused, ReadFault, WriteFault, NoMemory}
-use Rattle.profile_cli.specs.Request.{Request}
 use Rattle.profile_cli.specs.Columns.{AreColumnsOf}
-use Rattle.profile_cli.specs.Output.{file_content, file_state, report_of, inclusion_lines, reports, first_refusal}
-use Rattle.profile_cli.specs.Outcomes.{WritesText, Profiles, ReadsCounted}
+use Rattle.profile_cli.specs.Output.{file_content, file_state}
+use Rattle.profile_cli.specs.Reports.{report_of, inclusion_lines, reports}
 use Rattle.profile_cli.proofs.Files.{take_whole}
 
 module _ {T E : Type 0} where
   pub OnOk-map : (r : Result T E) {P Q : Type 0} → (P → Q) → OnOk r P → OnOk r Q
   OnOk-map (Ok x) f p = f p
   OnOk-map (Err e) f p = p
+
+  pub OnOk-always : (r : Result T E) {P : Type 0} → P → OnOk r P
+  OnOk-always (Ok x) p = p
+  OnOk-always (Err e) p = tt
 
   pub IfOk-map : (r : Result T E) {P Q : T → Type 0} → ((x : T) → P x → Q x) → IfOk r P → IfOk r Q
   IfOk-map (Ok x) f p = f x p
@@ -93,31 +93,6 @@ pub reports_read : (nulls : Nulls) (limits : Limits) (held : Files) (names : Lis
 reports_read nulls limits held names relations is =
     ap (λ (rs : List Content). reports names (map (opened nulls limits.rows) rs)) is
     ∙ ap (reports names) (map-map (opened nulls limits.rows) (λ name. file_content (bytes_of held name)) names)
-
--- what is known of the files and of their text is known of a run
-pub Profiles-read : (o : Outcome) (request : Request) (limits : Limits) (content : Option Files) (relations : List Content) (before now : Option (List ℕ)) (faults faults' : ℕ)
-    → IfSome content (λ held. (first_refusal limits held request.files ≡ None) × (relations ≡ map (λ name. file_content (bytes_of held name)) request.files))
-    → WritesText o (reports request.files (map (opened request.nulls limits.rows) relations)) before now faults faults'
-    → Profiles o request limits content before now faults faults'
-Profiles-read Done request limits None relations before now faults faults' k w = (k, w.1)
-Profiles-read Done request limits (Some held) relations before now faults faults' k w =
-    ((k.0, subst (Gains before now) (reports_read request.nulls limits held request.files relations k.1) w.0), w.1)
-Profiles-read Usage request limits content relations before now faults faults' k w = w
-Profiles-read (Refused file rec why) request limits content relations before now faults faults' k w = absurd w
-Profiles-read (ReadFault file) request limits content relations before now faults faults' k w = absurd w
-Profiles-read WriteFault request limits None relations before now faults faults' k w = (k, w.1)
-Profiles-read WriteFault request limits (Some held) relations before now faults faults' k w =
-    ((k.0, (w.0.0, subst (λ text. Gains before now (take w.0.0 text)) (reports_read request.nulls limits held request.files relations k.1) w.0.1)), w.1)
-Profiles-read NoMemory request limits content relations before now faults faults' k w = w
-
-pub ReadsCounted-written : {S : Type 0} (o : Outcome) (count : S → ℕ) (last : S → Option (List ℕ)) (old new : S) (text : List ℕ) (before now : Option (List ℕ)) (faults faults' : ℕ)
-    → WritesText o text before now faults faults' → SameFaults count last old new → ReadsCounted o count last old new
-ReadsCounted-written Done count last old new text before now faults faults' w s = s
-ReadsCounted-written Usage count last old new text before now faults faults' w s = s
-ReadsCounted-written (Refused file rec why) count last old new text before now faults faults' w s = s
-ReadsCounted-written (ReadFault file) count last old new text before now faults faults' w s = absurd w
-ReadsCounted-written WriteFault count last old new text before now faults faults' w s = s
-ReadsCounted-written NoMemory count last old new text before now faults faults' w s = tt
 
 -- ---- facts of options and results
 module _ {T : Type 0} where

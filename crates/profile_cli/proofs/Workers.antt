@@ -27,9 +27,10 @@ use Rattle.clap.specs.declared.error.kind.ErrorKind.{ErrorKind}
 use Rattle.clap.specs.declared.error.kind.ErrorKind.TheVariants as kind
 use Rattle.clap.proofs.CallerReads.{signed_reads}
 use Rattle.clap.proofs.ValueTestLemmas.{accepts-Accepts}
-use Rattle.profile_cli.specs.Request.{Request}
+use Rattle.profile_cli.specs.declared.request.Request.{Request}
+use Rattle.profile_cli.specs.Request.{options_of}
 use Rattle.profile_cli.specs.Words.{the_app}
-use Rattle.profile_cli.specs.Command.{command, number_or, profile_request, request_of, workers_of}
+use Rattle.profile_cli.specs.Command.{command, number_or, profile_request, request_of, session_request, workers_of}
 
 -- ---- values from 1 to 16
 abbrev the_parser : ValueParser
@@ -399,7 +400,10 @@ other_name x less e =
 fit_subs : FitSubs (built the_app).subs
 fit_subs = (
   ((λ e. (refl, refl)), ((λ e. absurd (other_name (codes "nulls") (omega arith) e)), ((λ e. absurd (other_name (codes "files") (omega arith) e)), ((λ e. absurd (other_name (codes "help") (omega arith) e)), tt)))),
-  (((λ e. absurd (other_name (codes "subcommand") (omega arith) e)), tt), tt),
+  (
+    ((λ e. (refl, refl)), ((λ e. absurd (other_name (codes "nulls") (omega arith) e)), ((λ e. absurd (other_name (codes "file") (omega arith) e)), ((λ e. absurd (other_name (codes "help") (omega arith) e)), tt)))),
+    (((λ e. absurd (other_name (codes "subcommand") (omega arith) e)), tt), tt),
+  ),
 )
 
 below_good : (words : List Text) (q : Text × List Row) → fault_of the_app words ≡ [] → subcommand_of the_app words ≡ Some q → Good q.1
@@ -411,20 +415,26 @@ below_good words q none is =
     entered_good b stop q fit_subs is m.0
 
 -- what a command asks for is 1 to 16 workers
-pub workers-range : (words : List Text) (request : Request) → command words ≡ Some request → (1 ≤ request.workers) × (request.workers ≤ 16)
+pub workers-range : (words : List Text) (request : Request) → command words ≡ Some request → (1 ≤ (options_of request).workers) × ((options_of request).workers ≤ 16)
 unfolding command
 workers-range words request is = kinds (fault_of the_app words) refl is
   where
-    named : (q : Text × List Row) (b : Bool) → Good q.1 → cond b (Some (profile_request q.1)) None ≡ Some request → (1 ≤ request.workers) × (request.workers ≤ 16)
-    named q true good e =
+    InRange : Request → Type 0
+    InRange r = (1 ≤ (options_of r).workers) × ((options_of r).workers ≤ 16)
+
+    named : (q : Text × List Row) (b c : Bool) → Good q.1 → cond b (Some (profile_request q.1)) (cond c (Some (session_request q.1)) None) ≡ Some request → InRange request
+    named q true c good e =
         let same : profile_request q.1 ≡ request = cc in
-        subst (λ (r : Request). (1 ≤ r.workers) × (r.workers ≤ 16)) same (found_in_range q.1 good)
-    named q false good e = absurd (some≢none request e)
+        subst InRange same (found_in_range q.1 good)
+    named q false true good e =
+        let same : session_request q.1 ≡ request = cc in
+        subst InRange same (found_in_range q.1 good)
+    named q false false good e = absurd (some≢none request e)
 
-    met : (o : Option (Text × List Row)) → fault_of the_app words ≡ [] → subcommand_of the_app words ≡ o → option_and_then request_of o ≡ Some request → (1 ≤ request.workers) × (request.workers ≤ 16)
+    met : (o : Option (Text × List Row)) → fault_of the_app words ≡ [] → subcommand_of the_app words ≡ o → option_and_then request_of o ≡ Some request → InRange request
     met None none same e = absurd (some≢none request e)
-    met (Some q) none same e = named q (bytes_eq q.0 (codes "profile")) (below_good words q none same) e
+    met (Some q) none same e = named q (bytes_eq q.0 (codes "profile")) (bytes_eq q.0 (codes "session")) (below_good words q none same) e
 
-    kinds : (ks : Kinds) → fault_of the_app words ≡ ks → cond (is_empty ks) (option_and_then request_of (subcommand_of the_app words)) None ≡ Some request → (1 ≤ request.workers) × (request.workers ≤ 16)
+    kinds : (ks : Kinds) → fault_of the_app words ≡ ks → cond (is_empty ks) (option_and_then request_of (subcommand_of the_app words)) None ≡ Some request → InRange request
     kinds [] none e = met (subcommand_of the_app words) none refl e
     kinds (k ∷ ks) none e = absurd (some≢none request (ap (λ b. cond b (option_and_then request_of (subcommand_of the_app words)) None) (sym (cons_some k ks)) ∙ e))

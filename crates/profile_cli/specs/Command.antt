@@ -10,7 +10,9 @@ use Rattle.clap.specs.Walk.{Row, Text, all_of, first_of, is_empty, one_of}
 use Rattle.clap.specs.Simple.{subcommand_of}
 use Rattle.clap.specs.ValueTests.{is_unsigned_in}
 use Rattle.clap.specs.Faults.{fault_of}
-use Rattle.profile_cli.specs.Request.{Request}
+use Rattle.profile_cli.specs.declared.request.Options.{Options}
+use Rattle.profile_cli.specs.declared.request.Request.{Request}
+use Rattle.profile_cli.specs.declared.request.Request.TheVariants.{Profile, Session}
 use Rattle.profile_cli.specs.Words.{the_app}
 
 -- the bytes of each word
@@ -33,13 +35,27 @@ nulls_of rows = if bytes_eq (unwrap_or (first_of (codes "nulls") rows) (codes "e
 abbrev pub files_of : List Row → List Text
 files_of rows = unwrap_or (all_of (codes "files") rows) []
 
+-- the one file
+abbrev pub file_of : List Row → Text
+file_of rows = unwrap_or (first_of (codes "file") rows) []
+
+abbrev pub options_of : List Row → Options
+options_of rows = record { workers = workers_of rows; nulls = nulls_of rows }
+
 -- what was found for the arguments of `profile`, as a request
 abbrev pub profile_request : List Row → Request
-profile_request rows = record { workers = workers_of rows; nulls = nulls_of rows; files = files_of rows }
+profile_request rows = Profile (options_of rows) (files_of rows)
+
+-- what was found for the arguments of `session`, as a request
+abbrev pub session_request : List Row → Request
+session_request rows = Session (options_of rows) (file_of rows)
 
 -- the request of a subcommand, by its name
 abbrev pub request_of : Text × List Row → Option Request
-request_of p = if bytes_eq p.0 (codes "profile") then Some (profile_request p.1) else None
+request_of p =
+    if bytes_eq p.0 (codes "profile") then Some (profile_request p.1)
+    else if bytes_eq p.0 (codes "session") then Some (session_request p.1)
+    else None
 
 -- what the words ask for, where nothing is wrong with them
 unfoldable pub command : List Text → Option Request

@@ -3,6 +3,9 @@ pub mod Request
 pub mod Words
 pub mod Command
 pub mod Outcomes
+pub mod Reports
+pub mod Session
+pub mod Items
 pub mod Output
 pub mod Columns
 pub mod FilesRead

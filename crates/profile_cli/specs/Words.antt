@@ -29,13 +29,22 @@ files_rule = record (new_rule (codes "files")) {
   required = true;
 }
 
+-- one file
+abbrev pub file_rule : Rule
+file_rule = record (new_rule (codes "file")) { required = true }
+
 -- `profile [--workers N] [--nulls equal|distinct] FILE..`
 abbrev pub profile_app : Bor (List (Bor Text)) → App
 profile_app names = with_rule (with_rule (with_rule (new_app (codes "profile")) workers_rule) (nulls_rule names)) files_rule
 
--- the program with its subcommand, which is required
-abbrev pub app_with : Bor (List (Bor Text)) → App
-app_with names = let a = with_subcommand (new_app (codes "depprof")) (profile_app names).top in
+-- `session [--workers N] [--nulls equal|distinct] FILE`
+abbrev pub session_app : Bor (List (Bor Text)) → App
+session_app names = with_rule (with_rule (with_rule (new_app (codes "session")) workers_rule) (nulls_rule names)) file_rule
+
+-- The program with its subcommands, of which one is required. The words of each one's `--nulls` may stand in another place.
+abbrev pub app_with : Bor (List (Bor Text)) → Bor (List (Bor Text)) → App
+app_with profile_names session_names =
+    let a = with_subcommand (with_subcommand (new_app (codes "depprof")) (profile_app profile_names).top) (session_app session_names).top in
     record a { top = record a.top { subcommand_required = true } }
 
 -- the words of `--nulls`
@@ -48,10 +57,16 @@ behind texts = record { ref_ptr = (0, 0); now = map (λ text. record { ref_ptr =
 
 -- the command that the words are read by
 abbrev pub the_app : App
-the_app = app_with (behind null_words)
+the_app = app_with (behind null_words) (behind null_words)
+
+-- these are the words of `--nulls`
+abbrev pub AreNullWords : Bor (List (Bor Text)) → Type 0
+AreNullWords names = map (λ name. name.now) names.now ≡ null_words
 
 -- The same command, wherever the words of `--nulls` stand in memory.
 pub record IsTheApp (a : App) : Type 0 where
-  pub names : Bor (List (Bor Text))
-  pub words : map (λ name. name.now) names.now ≡ null_words
-  pub app : a ≡ app_with names
+  pub profile_names : Bor (List (Bor Text))
+  pub session_names : Bor (List (Bor Text))
+  pub profile_words : AreNullWords profile_names
+  pub session_words : AreNullWords session_names
+  pub app : a ≡ app_with profile_names session_names

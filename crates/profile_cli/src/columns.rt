@@ -3,7 +3,7 @@ ghost use Rattle.std.specs.Prelude.{◌≡◌, ◌++◌, ◌∷◌, ℕ, List, [
 ghost use Rattle.rel_base.specs.Cells.{Cell};
 ghost use Rattle.rel_base.specs.RowState.{RowState};
 ghost use Rattle.profile_cli.specs.Columns.{AreColumnsOf};
-ghost use Rattle.profile_cli.specs.Output.{inclusion_lines};
+ghost use Rattle.profile_cli.specs.Reports.{inclusion_lines};
 
 use inclusion_merge::included;
 use rel_base::Row;

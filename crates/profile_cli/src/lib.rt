@@ -3,12 +3,17 @@
 
 mod columns;
 mod command;
+mod ending;
 #[cfg(test)]
 mod fault_tests;
 pub mod laws;
 mod outcome;
+mod profile_run;
 mod reading;
 mod reports;
+mod request;
+mod session;
+mod session_run;
 #[cfg(test)]
 mod sure_tests;
 #[cfg(test)]

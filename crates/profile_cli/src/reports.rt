@@ -1,7 +1,7 @@
 // The text of a run.
 ghost use Rattle.std.specs.Prelude.{◌≡◌, ◌++◌, length, map, IfOk, OnOk};
 ghost use Rattle.rel_base.specs.RowState.{opened};
-ghost use Rattle.profile_cli.specs.Output.{report_of, reports};
+ghost use Rattle.profile_cli.specs.Reports.{report_of, reports};
 
 use crate::columns::Columns;
 use cover_core::Book;

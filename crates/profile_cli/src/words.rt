@@ -1,7 +1,7 @@
 // The words that the program takes.
-ghost use Rattle.std.specs.Prelude.{◌≡◌, map, IfOk};
+ghost use Rattle.std.specs.Prelude.{◌≡◌, IfOk};
 ghost use Rattle.clap.specs.Words.{app_of, rule_of};
-ghost use Rattle.profile_cli.specs.Words.{IsTheApp, files_rule, null_words, nulls_rule, profile_app, workers_rule};
+ghost use Rattle.profile_cli.specs.Words.{AreNullWords, IsTheApp, file_rule, files_rule, nulls_rule, profile_app, session_app, workers_rule};
 
 use clap::{Arg, Command, value_parser};
 use std::alloc::{AllocError, Global};
@@ -18,7 +18,7 @@ fn workers_option<'a>(alloc: Global) -> Arg<'a>
 }
 
 fn nulls_option<'a>(alloc: Global) -> Arg<'a>
-    ensures { (names : _) × (map (λ name. name.now) names.now ≡ null_words) × (rule_of result ≡ nulls_rule names) }
+    ensures { (names : _) × AreNullWords names × (rule_of result ≡ nulls_rule names) }
 {
     Arg::new(alloc, "nulls")
         .long("nulls")
@@ -33,7 +33,7 @@ fn file_words<'a>(alloc: Global) -> Arg<'a>
 }
 
 fn profile_words<'a>(alloc: Global) -> Result<Command<'a>, AllocError>
-    ensures { IfOk result (λ c. (names : _) × (map (λ name. name.now) names.now ≡ null_words) × (app_of c ≡ profile_app names)) }
+    ensures { IfOk result (λ c. (names : _) × AreNullWords names × (app_of c ≡ profile_app names)) }
 {
     Command::new(alloc, "profile")
         .arg(workers_option(alloc))?
@@ -41,10 +41,27 @@ fn profile_words<'a>(alloc: Global) -> Result<Command<'a>, AllocError>
         .arg(file_words(alloc))
 }
 
+fn file_word<'a>(alloc: Global) -> Arg<'a>
+    ensures { rule_of result ≡ file_rule }
+{
+    Arg::new(alloc, "file").required(true)
+}
+
+fn session_words<'a>(alloc: Global) -> Result<Command<'a>, AllocError>
+    ensures { IfOk result (λ c. (names : _) × AreNullWords names × (app_of c ≡ session_app names)) }
+{
+    Command::new(alloc, "session")
+        .arg(workers_option(alloc))?
+        .arg(nulls_option(alloc))?
+        .arg(file_word(alloc))
+}
+
 /// The words that the program takes, as the crate `clap` describes a command.
 pub(crate) fn depprof_words<'a>(alloc: Global) -> Result<Command<'a>, AllocError>
     ensures { IfOk result (λ c. IsTheApp (app_of c)) }
 {
-    let command = Command::new(alloc, "depprof").subcommand(profile_words(alloc)?)?;
+    let command = Command::new(alloc, "depprof")
+        .subcommand(profile_words(alloc)?)?
+        .subcommand(session_words(alloc)?)?;
     Ok(command.subcommand_required(true))
 }

@@ -3,6 +3,7 @@ use Rattle.batch_update.specs.Changes.{changes}
 use Rattle.batch_update.specs.Coming.{coming}
 use Rattle.batch_update.proofs.Few.{few_records}
 use Rattle.batch_update.proofs.Numbered.{changes_are_numbered}
+use Rattle.batch_update.proofs.Wide.{changes_are_wide}
 use Rattle.batch_update.proofs.changes.read_changes.Goals as goal
 
 pub loop-begun-init : goal.loop-begun-init
@@ -20,3 +21,10 @@ returns-clause-numbers c =
     let all = rw end.0 at c.loop-begun.invariant.items in
     let same : c.cut_off.new.items.items ≡ changes c.args.bytes.now c.args.columns c.args.limits.now = c.in_ok-cut_off.ensures ∙ sym all in
     rw same (changes_are_numbered c.args.bytes.now c.args.columns c.args.limits.now)
+
+pub returns-clause-wide : goal.returns-clause-wide
+returns-clause-wide c =
+    let end = rw c.if-branch.false at c.in_ok-next.ensures.end in
+    let all = rw end.0 at c.loop-begun.invariant.items in
+    let same : c.cut_off.new.items.items ≡ changes c.args.bytes.now c.args.columns c.args.limits.now = c.in_ok-cut_off.ensures ∙ sym all in
+    rw same (changes_are_wide c.args.bytes.now c.args.columns c.args.limits.now)

@@ -7,7 +7,7 @@ use Rattle.rel_base.specs.Relation.{Content}
 use Rattle.rel_base.specs.RowState.{RowState, opened}
 use Rattle.cover_steps.specs.Core.{Core}
 use Rattle.profile_cli.specs.Columns.{AreColumnsOf}
-use Rattle.profile_cli.specs.Output.{report_of}
+use Rattle.profile_cli.specs.Reports.{report_of}
 use Rattle.profile_cli.proofs.Files.{name_at}
 use Rattle.profile_cli.proofs.Texts.{AreReports, AreReports-more, AreReports-none, AreReports-whole, IfOk-map, reports-whole}
 use Rattle.profile_cli.proofs.reports.reports_of.Goals as goal

@@ -1,18 +1,24 @@
 use Rattle.std.proofs.Common.{◌≡◌, ◌∙◌, refl, ap, ap₂, true}
 use Rattle.std.specs.Prelude.{codes}
 use Rattle.clap.specs.Simple.{App, app_of, app_of_fields, new_app, with_subcommand}
-use Rattle.profile_cli.specs.Words.{profile_app}
+use Rattle.profile_cli.specs.Words.{profile_app, session_app}
 use Rattle.profile_cli.proofs.TheApp.{local_command}
 use Rattle.profile_cli.proofs.words.depprof_words.Goals as goal
 
 pub returns : goal.returns
 returns c =
     let p = c.in_ok-profile_words.ensures in
-    let made : app_of c.in_ok-command.command ≡ with_subcommand (new_app (codes "depprof")) (profile_app p.0).top =
-    c.in_ok-command.ensures.shape (local_command c.in_ok-profile_words.field-0 (profile_app p.0) p.2 refl)
+    let s = c.in_ok-session_words.ensures in
+    let first : app_of c.in_ok-subcommand.field-0 ≡ with_subcommand (new_app (codes "depprof")) (profile_app p.0).top =
+    c.in_ok-subcommand.ensures.shape (local_command c.in_ok-profile_words.field-0 (profile_app p.0) p.2 refl)
     ∙ ap₂ with_subcommand c.new.ensures.app (ap (λ (a : App). a.top) p.2) in
+    let made : app_of c.in_ok-command.command ≡ with_subcommand (with_subcommand (new_app (codes "depprof")) (profile_app p.0).top) (session_app s.0).top =
+    c.in_ok-command.ensures.shape (local_command c.in_ok-session_words.field-0 (session_app s.0) s.2 refl)
+    ∙ ap₂ with_subcommand first (ap (λ (a : App). a.top) s.2) in
     record {
-      names = p.0;
-      words = p.1;
+      profile_names = p.0;
+      session_names = s.0;
+      profile_words = p.1;
+      session_words = s.1;
       app = ap app_of_fields c.subcommand_required.ensures ∙ ap (λ (a : App). record a { top = record a.top { subcommand_required = true } }) made;
     }

@@ -1,0 +1,62 @@
+// What words ask for.
+ghost use Rattle.std.specs.Prelude.{◌≡◌, ◌<◌, [], length, slice_index_or};
+
+use rel_base::{Name, Nulls};
+use std::marker::Model;
+
+/// What the options of a command say.
+#[derive(Clone, Copy)]
+pub(crate) struct Options {
+    /// How many workers there are to be, 1 to 16.
+    pub(crate) workers: u8,
+    /// How NULL is read.
+    pub(crate) nulls: Nulls,
+}
+
+/// The names of files, in the order of the words. Contracts see their list.
+#[derive(Drop)]
+pub(crate) struct Names {
+    names: Vec<Name>,
+}
+
+impl Model for Names {
+    ghost use Rattle.std.specs.Prelude.{List, ℕ};
+
+    ghost Value = { List (List ℕ) };
+
+    ghost view = { λ n. n.names.items };
+}
+
+impl Names {
+    /// These names, which takes no memory.
+    pub(crate) fn of(names: Vec<Name>) -> Names
+        ensures { result ≡ names.items }
+    {
+        Names { names }
+    }
+
+    /// The names, the first one first.
+    pub(crate) fn as_slice(&self) -> &[Name]
+        ensures { result.now ≡ self.now }
+    {
+        self.names.as_slice()
+    }
+
+    /// The name at this place, which takes no memory.
+    pub(crate) fn into_name(self, place: usize) -> Name
+        requires { place < length self }
+        ensures { result ≡ slice_index_or self place [] }
+    {
+        let mut names = self.names;
+        names.swap_remove(place)
+    }
+}
+
+/// What words ask for.
+#[derive(Drop)]
+pub(crate) enum Request {
+    /// The reports of these files, in this order, and the inclusions among all their columns.
+    Profile { options: Options, files: Names },
+    /// The answers to the change text that the input is, for the relation of this file.
+    Session { options: Options, file: Name },
+}
