@@ -80,9 +80,8 @@ pub(crate) fn push_evidence(
 pub(crate) fn is_told(found: &[Evidence], target: Target, left: ColSet) -> bool
     requires { IsColumnTarget 128 target }
 {
-    found
-        .iter()
-        .any(|evidence| left.subset_of(evidence.agree) && !evidence.agree.has_target(target))
+    found.iter().any(|evidence| left.subset_of(evidence.agree)
+        && !evidence.agree.has_target(target))
 }
 
 // The agree sets of the witnesses.

@@ -8,6 +8,8 @@ ghost use Rattle.rel_base.specs.Shows.{holds_in};
 ghost use Rattle.cover_steps.specs.Sound.{Fits};
 ghost use Rattle.validator.specs.Verdicts.{IsFitting};
 
+mod script;
+
 use crate::{Applying, Book, Draw, Marking, Refutation, Release, Settling};
 use rel_base::{
     Batch, ColSet, Covers, Fd, Job, Limits, Nulls, Op, Relation, Row, RowNo, Steps, Target, Why,
@@ -84,7 +86,9 @@ fn columns(list: &[u8]) -> ColSet {
 }
 
 // A draw, once more where memory is wanting.
-fn draw(book: &mut Book) -> Result<Draw, AllocError> {
+fn draw(book: &mut Book) -> Result<Draw, AllocError>
+    ensures { (job : JobParts) → Fits book.old.rows job → Fits book.new.rows job }
+{
     match book.draw() {
         Ok(draw) => Ok(draw),
         Err(_) => book.draw(),
@@ -126,7 +130,8 @@ fn apply(rt: &impl Abort, book: &mut Book, batch: &Batch) -> Applying
 
 // A job that is drawn.
 fn drawn(book: &mut Book) -> Result<Option<Job>, AllocError>
-    ensures { IfOk result (λ job. IfSome job (Fits book.new.rows)) }
+    ensures drawn { IfOk result (λ job. IfSome job (Fits book.new.rows)) }
+    ensures fits { (job : JobParts) → Fits book.old.rows job → Fits book.new.rows job }
 {
     match book.draw()? {
         Draw::Job(job) => Ok(Some(job)),
@@ -239,13 +244,17 @@ fn draws(
     left: &[u8],
     from: u32,
     to: u32,
-) -> Result<bool, AllocError> {
+) -> Result<bool, AllocError>
+    ensures { (job : JobParts) → Fits book.old.rows job → Fits book.new.rows job }
+{
     let draw = draw(book)?;
     Ok(is_job(&draw, target, columns(left), from, to))
 }
 
 // Whether the next draw answers that all unfinished candidates are held, with this one first.
-fn is_all_held(book: &mut Book, target: Target, left: &[u8]) -> Result<bool, AllocError> {
+fn is_all_held(book: &mut Book, target: Target, left: &[u8]) -> Result<bool, AllocError>
+    ensures { (job : JobParts) → Fits book.old.rows job → Fits book.new.rows job }
+{
     let draw = draw(book)?;
     Ok(is_busy(&draw, target, columns(left)))
 }

@@ -10,9 +10,12 @@ pub returns-in_err-add_all-clause-witnesses : goal.returns-in_err-add_all-clause
 returns-in_err-add_all-clause-witnesses c = Extends-same _ _ (c.in_err-add_all.ensures.refused ∙ ap (λ (m : Core). m.witnesses) c.self.view_is)
 
 pub invariant_of-self-2 : goal.invariant_of-self-2
-invariant_of-self-2 c = (IsBook-all _ _ c.self.invariant.0 c.in_ok-news.news.witnesses.items c.in_ok-news.news.draft
-    (c.in_ok-news.ensures _ (subst (λ (m : Core). All (IsEvidence m.rows) c.args.found.items) (sym c.self.view_is) c.requires)) c.put_all.new.candidates (c.put_all.ensures _ c.in_ok-parts.ensures) c.add_all.new.self
-    (c.in_ok-add_all.ensures.ok ∙ ap (λ (ws : List Witness). c.self.inside.witnesses ++ ws) c.as_slice.ensures.value), c.self.invariant.1)
+invariant_of-self-2 c = (
+  IsBook-all _ _ c.self.invariant.0 c.in_ok-news.news.witnesses.items c.in_ok-news.news.draft
+      (c.in_ok-news.ensures _ (subst (λ (m : Core). All (IsEvidence m.rows) c.args.found.items) (sym c.self.view_is) c.requires)) c.put_all.new.candidates (c.put_all.ensures _ c.in_ok-parts.ensures) c.add_all.new.self
+      (c.in_ok-add_all.ensures.ok ∙ ap (λ (ws : List Witness). c.self.inside.witnesses ++ ws) c.as_slice.ensures.value),
+  c.self.invariant.1,
+)
 
 pub returns-clause-sound : goal.returns-clause-sound
 returns-clause-sound c = (IsBook-all _ _ c.self.invariant.0 c.in_ok-news.news.witnesses.items c.in_ok-news.news.draft
