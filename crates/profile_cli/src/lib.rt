@@ -15,6 +15,8 @@ mod request;
 mod session;
 mod session_run;
 #[cfg(test)]
+mod session_tests;
+#[cfg(test)]
 mod sure_tests;
 #[cfg(test)]
 mod tests;

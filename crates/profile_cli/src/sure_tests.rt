@@ -1,12 +1,13 @@
 // Runs over a source and a shelf that never fail, and a sink with more room than the text.
-ghost use Rattle.std.specs.Prelude.{◌≡◌, ◌<◌, [], Some, None, length};
+ghost use Rattle.std.specs.Prelude.{◌≡◌, ◌<◌, ℕ, List, [], Some, None, length};
 ghost use Rattle.ports.specs.Files.{Nothing};
 ghost use Rattle.ports.specs.Lists.{look_up};
 ghost use Rattle.profile_cli.specs.Command as words_of;
 ghost use Rattle.profile_cli.specs.Command.{texts};
-ghost use Rattle.profile_cli.specs.Output.{first_refusal, profile_text};
+ghost use Rattle.profile_cli.specs.Output.{output_text, refusal};
 ghost use Rattle.profile_cli.specs.Outcomes.{IsDoneOrNoMemory, OnDone};
-ghost use Rattle.profile_cli.specs.Request.{Request};
+ghost use Rattle.profile_cli.specs.declared.request.Options.{Options};
+ghost use Rattle.profile_cli.specs.declared.request.Request.TheVariants.{Profile, Session};
 
 use crate::{Outcome, run};
 use ports::{OpenGate, SureShelf, SureSink, SureSource, Text};
@@ -17,8 +18,9 @@ use std::sync::Wait;
 use std::test::Fail;
 use std::thread::Threads;
 
-// Where the words are a command, no file is refused, and an empty sink has more room than the text, the whole text is written, unless memory ran out.
-fn profiled_surely<R: Threads + Wait + Sync>(
+// Where the words are a command, no file and no input is refused, and an empty sink has more room than the text, the whole text is written, unless memory
+// ran out.
+fn run_surely<R: Threads + Wait + Sync>(
     rt: &R,
     alloc: Global,
     words: Vec<String>,
@@ -30,12 +32,18 @@ fn profiled_surely<R: Threads + Wait + Sync>(
     requires closed { shelf.old.opened ≡ Nothing }
     requires empty { out.old.store.held ≡ [] }
     requires no_fault { out.old.faults ≡ 0 }
-    ensures complete { (request : Request) → words_of.command (texts words.items) ≡ Some request
-        → first_refusal limits (look_up shelf.old.files) request.files ≡ None
-        → length (profile_text request limits (look_up shelf.old.files)) < out.old.store.room
+    ensures complete_profile { (options : Options) (files : List (List ℕ)) → words_of.command (texts words.items) ≡ Some (Profile options files)
+        → refusal (Profile options files) limits (look_up shelf.old.files) input.old ≡ None
+        → length (output_text (Profile options files) limits (look_up shelf.old.files) input.old) < out.old.store.room
         → IsDoneOrNoMemory result }
-    ensures written { (request : Request) → words_of.command (texts words.items) ≡ Some request
-        → OnDone result (out.new.store.held ≡ profile_text request limits (look_up shelf.old.files)) }
+    ensures written_profile { (options : Options) (files : List (List ℕ)) → words_of.command (texts words.items) ≡ Some (Profile options files)
+        → OnDone result (out.new.store.held ≡ output_text (Profile options files) limits (look_up shelf.old.files) input.old) }
+    ensures complete_session { (options : Options) (file : List ℕ) → words_of.command (texts words.items) ≡ Some (Session options file)
+        → refusal (Session options file) limits (look_up shelf.old.files) input.old ≡ None
+        → length (output_text (Session options file) limits (look_up shelf.old.files) input.old) < out.old.store.room
+        → IsDoneOrNoMemory result }
+    ensures written_session { (options : Options) (file : List ℕ) → words_of.command (texts words.items) ≡ Some (Session options file)
+        → OnDone result (out.new.store.held ≡ output_text (Session options file) limits (look_up shelf.old.files) input.old) }
 {
     let outcome = run(rt, alloc, words, shelf, input, out, &OpenGate, limits);
     let _held = out.bytes();
@@ -62,7 +70,7 @@ fn a_run_with_room_is_done(rt: HostRuntime) -> Result<(), Fail> {
     let mut shelf = SureShelf::of(vec![in alloc; (name, bytes)]?);
     let mut input = SureSource::of(Vec::new(alloc));
     let mut out = SureSink::with_room(alloc, text.len().saturating_add(1))?;
-    let outcome = profiled_surely(
+    let outcome = run_surely(
         &rt,
         alloc,
         words,
