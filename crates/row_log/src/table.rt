@@ -12,7 +12,7 @@ use rel_base::{Codes, ColSet, Nulls, Row};
 use std::alloc::{AllocError, Global};
 
 // How many rows are coded together: so many stay in a processor's cache while the columns take their cells.
-const BLOCK: usize = 256;
+const BLOCK: usize = 16384;
 
 /// The columns of these rows.
 ///
