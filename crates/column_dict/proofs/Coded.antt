@@ -51,6 +51,10 @@ any_at c [] i e = absurd (none-some c e)
 any_at c (x ∷ xs) zero e = ap (λ (b : Bool). b || list_any (same_cell c) xs) (true-same_cell c x (sym (same_some e)))
 any_at c (x ∷ xs) (suc i) e = or_right (same_cell c x) (list_any (same_cell c) xs) (any_at c xs i e)
 
+-- a cell that has a code, and is not given a fresh one each time, is not new
+pub known-cell : (d : Coding) (c : Cell) (k : ℕ) → is_fresh d.nulls c ≡ false → slice_get d.cells k ≡ Some c → is_new d c ≡ false
+known-cell d c k f e = ap (λ (b : Bool). b || not (list_any (same_cell c) d.cells)) f ∙ ap not (any_at c d.cells k e)
+
 fresh_agrees : (nulls : Nulls) (a c : Cell) → is_fresh nulls c ≡ true → Agrees nulls a c → ⊥
 fresh_agrees Equal a c f h = false≢true f
 fresh_agrees Distinct a c f h = h.1 (h.0 ∙ same_cell-true c [] f)

@@ -1,8 +1,9 @@
 // The dictionary.
-ghost use Rattle.std.specs.Prelude.{◌≡◌, ◌<◌, [], Some, true, IfOk, OnOk, OnErr, length, slice_get, take};
+ghost use Rattle.std.specs.Prelude.{◌≡◌, ◌<◌, [], Some, true, false, IfOk, IfSome, OnOk, OnErr, length, slice_get, take};
 ghost use Rattle.column_dict.specs.Coding.{IsCoding, IsCodeOf, coded, is_new};
 
-use crate::table::{Known, add_fresh, add_known, entries_left, is_fresh, known_code};
+use crate::recent::{Recent, mark_of};
+use crate::table::{Known, add_fresh, add_known, entries_left, is_fresh, is_known_as, known_code};
 use rel_base::{Cell, Nulls};
 use std::alloc::{AllocError, Global};
 use std::hash::BuildHasherDefault;
@@ -20,6 +21,7 @@ pub struct Dict {
     places: Vec<u32>,
     null: Cell,
     scratch: Vec<u8>,
+    recent: Recent,
     alloc: Global,
     nulls: Nulls,
 }
@@ -56,6 +58,7 @@ impl Dict {
             places: Vec::new(alloc),
             null: Cell::of(Vec::new(alloc)),
             scratch: Vec::new(alloc),
+            recent: Recent::new(alloc),
             alloc,
             nulls,
         }
@@ -82,9 +85,50 @@ impl Dict {
         add_known(&mut self.known, &mut self.places, copy)
     }
 
-    /// The code of the cell of these bytes. It does what `code` does, and makes no cell where one is known: the bytes are
-    /// looked up from a buffer that the dictionary keeps, which grows to the longest cell.
+    /// The code of the cell of these bytes. It does what `code` does, and makes no cell where one is known.
+    ///
+    /// A cell that was coded lately is found by a quick guess that is then compared. Else the bytes are looked up from a
+    /// buffer that the dictionary keeps, which grows to the longest cell.
     pub fn code_of(&mut self, bytes: &[u8]) -> Result<u32, AllocError>
+        requires { length self.old.cells < 4294967295 }
+        ensures cell { IfOk result (λ code. slice_get self.new.cells code ≡ Some bytes.now) }
+        ensures cells { OnOk result (self.new ≡ coded self.old bytes.now) }
+        ensures last { IfOk result (λ code. is_new self.old bytes.now ≡ true → code ≡ length self.old.cells) }
+        ensures agrees { IfOk result (λ code. IsCodeOf self.old bytes.now code) }
+        ensures refused { OnErr result (self.new ≡ self.old) }
+    {
+        let mark = mark_of(bytes);
+        if let Some(code) = self.guessed(mark, bytes) {
+            return Ok(code);
+        }
+        let code = self.looked_up(bytes)?;
+        self.note(mark, code);
+        Ok(code)
+    }
+
+    // The code of these bytes, where it is the one that is guessed.
+    fn guessed(&self, mark: u64, bytes: &[u8]) -> Option<u32>
+        ensures old { IfSome result (λ code. is_new self.now bytes.now ≡ false) }
+        ensures cell { IfSome result (λ code. slice_get self.now.cells code ≡ Some bytes.now) }
+        ensures agrees { IfSome result (λ code. IsCodeOf self.now bytes.now code) }
+    {
+        let code = self.recent.guess(mark)?;
+        if code < self.len() && is_known_as(self.nulls, self.cell(code), bytes) {
+            Some(code)
+        } else {
+            None
+        }
+    }
+
+    // Notes a code, to be guessed.
+    fn note(&mut self, mark: u64, code: u32)
+        ensures { self.new ≡ self.old }
+    {
+        self.recent.note(self.alloc, mark, code, self.places.len());
+    }
+
+    // The code of the cell of these bytes, looked up.
+    fn looked_up(&mut self, bytes: &[u8]) -> Result<u32, AllocError>
         requires { length self.old.cells < 4294967295 }
         ensures cell { IfOk result (λ code. slice_get self.new.cells code ≡ Some bytes.now) }
         ensures cells { OnOk result (self.new ≡ coded self.old bytes.now) }

@@ -2,6 +2,7 @@
 #![tactic(auto)]
 
 mod dict;
+mod recent;
 mod table;
 #[cfg(test)]
 mod tests;

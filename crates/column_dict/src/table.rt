@@ -1,5 +1,5 @@
 // The parts of a dictionary: the map from cells to codes, and the place in it of each code's cell.
-ghost use Rattle.std.specs.Prelude.{◌≡◌, ◌∷◌, [], ◌++◌, ◌+◌, ◌<◌, ◌≤◌, ◌==◌, not, length, None, OnOk, IfOk, OnErr, nat_eq, take};
+ghost use Rattle.std.specs.Prelude.{◌≡◌, ◌∷◌, [], ◌++◌, ◌+◌, ◌<◌, ◌≤◌, ◌==◌, true, false, not, length, None, OnOk, IfOk, OnErr, nat_eq, take};
 ghost use Rattle.std.specs.List.{find};
 ghost use Rattle.std.specs.Option.{unwrap_or};
 ghost use Rattle.std.specs.Cmp.Lexicographic.{pointwise};
@@ -26,6 +26,14 @@ pub fn is_fresh(nulls: Nulls, cell: &Cell) -> bool
         Nulls::Equal => false,
         Nulls::Distinct => cell.is_null(),
     }
+}
+
+// Whether each code of the cell is that of these bytes.
+pub fn is_known_as(nulls: Nulls, cell: &Cell, bytes: &[u8]) -> bool
+    ensures same { result ≡ true → cell.now ≡ bytes.now }
+    ensures old { result ≡ true → coding.is_fresh nulls bytes.now ≡ false }
+{
+    cell.bytes() == bytes && !is_fresh(nulls, cell)
 }
 
 // The code of a cell of the map.

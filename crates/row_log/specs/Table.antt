@@ -36,6 +36,10 @@ column_at columns j = slice_index_or columns j no_column
 abbrev pub with_cell : ColumnCells → Row → ℕ → ColumnCells
 with_cell c row j = record { nulls = c.nulls; cells = c.cells ++ cell row j ∷ [] }
 
+-- the column with its cells of more rows, where it is the column at place j
+abbrev pub with_cells : ColumnCells → List Row → ℕ → ColumnCells
+with_cells c rows j = record { nulls = c.nulls; cells = c.cells ++ map (λ row. cell row j) rows }
+
 -- each column got its cell of this row
 pub record HasRow (old : List ColumnCells) (row : Row) (new : List ColumnCells) : Type 0 where
   pub long : length new ≡ length old

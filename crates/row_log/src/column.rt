@@ -1,5 +1,5 @@
 // The cells of one column, as codes.
-ghost use Rattle.std.specs.Prelude.{◌≡◌, ◌≢◌, ◌<◌, ◌≤◌, ◌-◌, ◌∷◌, [], ◌++◌, ℕ, true, false, OnOk, OnErr, IfOk, length, map, take, slice_index, slice_index_or, vec_len, vec_capacity};
+ghost use Rattle.std.specs.Prelude.{◌≡◌, ◌≢◌, ◌<◌, ◌≤◌, ◌+◌, ◌-◌, ◌∷◌, [], ◌++◌, ℕ, true, false, OnOk, OnErr, IfOk, length, map, take, slice_index, slice_index_or, vec_len, vec_capacity};
 ghost use Rattle.std.specs.List.{All};
 ghost use Rattle.rel_base.specs.Cells.{cell};
 ghost use Rattle.row_log.specs.Column.{AreCodes};
@@ -43,22 +43,12 @@ impl Column {
         }
     }
 
-    /// The column at this place of these rows.
-    pub fn coded(
-        alloc: Global,
-        nulls: Nulls,
-        rows: &[Row],
-        place: usize,
-    ) -> Result<Column, AllocError>
-        requires wide { All (λ row. place < length row) rows.now }
-        requires few { length rows.now ≤ 1000000 }
-        ensures { IfOk result (λ c. c ≡ record { nulls = nulls; cells = map (λ row. cell row place) rows.now }) }
+    /// A column without rows, with room for the codes of so many.
+    pub fn with_room(alloc: Global, nulls: Nulls, rows: usize) -> Result<Column, AllocError>
+        ensures { IfOk result (λ c. c ≡ record { nulls = nulls; cells = [] }) }
     {
         let mut column = Column::new(alloc, nulls);
-        column.reserve(rows.len())?;
-        for row in rows {
-            column.push(row.cell(place))?;
-        }
+        column.reserve(rows)?;
         Ok(column)
     }
 
@@ -67,6 +57,18 @@ impl Column {
         ensures { self.new ≡ self.old }
     {
         self.codes.reserve(rows)
+    }
+
+    /// Codes the cells at this place of more rows. After want of memory it has those of some of them.
+    pub fn extend(&mut self, rows: &[Row], place: usize) -> Result<(), AllocError>
+        requires wide { All (λ row. place < length row) rows.now }
+        requires few { length self.old.cells + length rows.now ≤ 1000000 }
+        ensures { OnOk result (self.new ≡ record { nulls = self.old.nulls; cells = self.old.cells ++ map (λ row. cell row place) rows.now }) }
+    {
+        for row in rows {
+            self.push(row.cell(place))?;
+        }
+        Ok(())
     }
 
     /// Codes the cell of one more row.

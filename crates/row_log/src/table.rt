@@ -1,17 +1,23 @@
 // The columns and the flags of the live rows.
-ghost use Rattle.std.specs.Prelude.{◌≡◌, ◌≢◌, ◌<◌, ◌≤◌, ◌∷◌, [], ◌++◌, ℕ, true, OnOk, OnErr, IfOk, length, map, take, slice_index_or, vec_len, vec_capacity};
+ghost use Rattle.std.specs.Prelude.{◌≡◌, ◌≢◌, ◌<◌, ◌≤◌, ◌+◌, ◌∷◌, [], ◌++◌, ℕ, true, OnOk, OnErr, IfOk, length, map, take, slice_index_or, vec_len, vec_capacity};
 ghost use Rattle.std.specs.List.{All};
 ghost use Rattle.rel_base.specs.Agreement.{agree};
 ghost use Rattle.rel_base.specs.Cells.{cell};
 ghost use Rattle.row_log.specs.Column.{AreCodes};
-ghost use Rattle.row_log.specs.Table.{row_at, HasRow, column_at};
+ghost use Rattle.row_log.specs.Table.{row_at, HasRow, column_at, with_cells};
 
 use crate::column::Column;
 use agree_sets::agree_codes;
 use rel_base::{Codes, ColSet, Nulls, Row};
 use std::alloc::{AllocError, Global};
 
-/// The columns of these rows, coded one after another.
+// How many rows are coded together: so many stay in a processor's cache while the columns take their cells.
+const BLOCK: usize = 16384;
+
+/// The columns of these rows.
+///
+/// Blocks of rows are coded column by column: a column's dictionary stays in the cache for a block, and each row is
+/// fetched once.
 pub fn columns_of(
     alloc: Global,
     nulls: Nulls,
@@ -23,11 +29,44 @@ pub fn columns_of(
     ensures long { IfOk result (λ columns. length columns.items ≡ width) }
     ensures each { IfOk result (λ columns. (j : ℕ) → j < width → column_at columns.items j ≡ record { nulls = nulls; cells = map (λ row. cell row j) rows.now }) }
 {
-    let mut columns = Vec::with_capacity(alloc, width)?;
-    for place in 0..width {
-        columns.push(Column::coded(alloc, nulls, rows, place)?)?;
+    let mut columns = empty_columns(alloc, nulls, rows.len(), width)?;
+    let mut left = rows;
+    while !left.is_empty() {
+        let (block, rest) = left.split_at(left.len().min(BLOCK));
+        push_rows(&mut columns, block)?;
+        left = rest;
     }
     Ok(columns)
+}
+
+// So many columns without rows, with room for the codes of so many.
+fn empty_columns(
+    alloc: Global,
+    nulls: Nulls,
+    rows: usize,
+    width: usize,
+) -> Result<Vec<Column>, AllocError>
+    ensures long { IfOk result (λ columns. length columns.items ≡ width) }
+    ensures each { IfOk result (λ columns. (j : ℕ) → j < width → column_at columns.items j ≡ record { nulls = nulls; cells = [] }) }
+{
+    let mut columns = Vec::with_capacity(alloc, width)?;
+    for _place in 0..width {
+        columns.push(Column::with_room(alloc, nulls, rows)?)?;
+    }
+    Ok(columns)
+}
+
+// Codes the cells of more rows. After want of memory some columns have the cells of more rows than others.
+fn push_rows(columns: &mut [Column], rows: &[Row]) -> Result<(), AllocError>
+    requires wide { All (λ row. length row ≡ length columns.old) rows.now }
+    requires few { (j : ℕ) → j < length columns.old → length (column_at columns.old j).cells + length rows.now ≤ 1000000 }
+    ensures long { OnOk result (length columns.new ≡ length columns.old) }
+    ensures each { OnOk result ((j : ℕ) → j < length columns.old → column_at columns.new j ≡ with_cells (column_at columns.old j) rows.now j) }
+{
+    for place in 0..columns.len() {
+        columns[place].extend(rows, place)?;
+    }
+    Ok(())
 }
 
 /// Codes the cells of one more row. After want of memory the columns, of so many rows, are as before.
