@@ -8,6 +8,8 @@ ghost use Rattle.rel_base.specs.Shows.{holds_in};
 ghost use Rattle.cover_steps.specs.Sound.{Fits};
 ghost use Rattle.validator.specs.Verdicts.{IsFitting};
 
+mod new_rows;
+
 use crate::{Applying, Book, Draw, Marking, Refutation, Release, Settling};
 use rel_base::{
     Batch, ColSet, Covers, Fd, Job, Limits, Nulls, Op, Relation, Row, RowNo, Steps, Target, Why,
