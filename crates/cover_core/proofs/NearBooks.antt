@@ -2,6 +2,7 @@
 use Rattle.std.proofs.Common.{inl, inr, ◌≡◌, ◌⊎◌, ℕ, zero, suc, ◌+◌, ◌-◌, ◌≤◌, eqb, ltb, leb, Bool, true, false, cond, refl, sym, ap, ap₂, ◌∙◌, subst, arith, List, [], ◌∷◌, length, None}
 use Rattle.std.specs.List.{All, filter, find, count_by, range_with_len}
 use Rattle.std.proofs.lemmas.Bool.{leb-true, ltb-false}
+use Rattle.std.proofs.lemmas.List.Sums.{sum_by-cons}
 use Rattle.col_set.specs.declared.target.Target.{Target}
 use Rattle.col_set.specs.Target.{IsColumnTarget}
 use Rattle.col_set.specs.Lists.{Listed, Listed-map_which}
@@ -36,8 +37,8 @@ module _ (s : Core) (sound : Sound s) (near : AreNear s) where
   known : (t : Target) (c : Cand) → IsColumnTarget (width s.rows) t → Listed c (cands s t) → next s.rows - 1 ≤ c.upto
   known t c l h = All-listed (λ e. next s.rows - 1 ≤ e.1.upto) (t, c) (entries s) near (Listed-entries s t c l h)
 
-  held : (t : Target) (x : ℕ) (held : Bool) → IsColumnTarget (width s.rows) t → AreNear (with_cands s t (holding (cands s t) x held))
-  held t x held l = All-from (λ e. next s.rows - 1 ≤ e.1.upto) (entries m) (λ e h. let i = IsEntry-listed m e h in at e i (target_cases s.candidates t e.0 (holding (cands s t) x held)))
+  still_near : (t : Target) (x : ℕ) (held : Bool) → IsColumnTarget (width s.rows) t → AreNear (with_cands s t (holding (cands s t) x held))
+  still_near t x held l = All-from (λ e. next s.rows - 1 ≤ e.1.upto) (entries m) (λ e h. let i = IsEntry-listed m e h in at e i (target_cases s.candidates t e.0 (holding (cands s t) x held)))
     where
       m : Core
       m = with_cands s t (holding (cands s t) x held)
@@ -53,31 +54,34 @@ module _ (s : Core) (sound : Sound s) (near : AreNear s) where
       at e i (inr same) = known e.0 e.1 i.target (subst (λ (cs : List Cand). Listed e.1 cs) same i.listed)
 
   pub drawn-near : (draw : Draw) (new : Core) → steps.Drawing s (reply_of_draw draw) new → AreNear new
-  drawn-near (draws.Job job) new d = subst AreNear (sym d.after) (held job.target job.left true (drawable-entry s job.target (record { left = job.left; upto = job.from; held = false }) d.first).target)
+  drawn-near (draws.Job job) new d = subst AreNear (sym d.after) (still_near job.target job.left true (drawable-entry s job.target (record { left = job.left; upto = job.from; held = false }) d.first).target)
   drawn-near (draws.Busy t x) new d = subst AreNear (sym d.1) near
   drawn-near draws.Settled new d = subst AreNear (sym d.1) near
 
   -- ---- the rows that a job looks at
+  count-cons : (p : ℕ → Bool) (x : ℕ) (xs : List ℕ) → count_by p (x ∷ xs) ≡ cond (p x) 1 0 + count_by p xs
+  count-cons p x xs = sum_by-cons (λ y. cond (p y) 1 0) x xs
+
   count-filter : (p q : ℕ → Bool) (xs : List ℕ) → count_by p (filter q xs) ≤ count_by p xs
   count-filter p q [] = omega arith
-  count-filter p q (x ∷ xs) = by (q x) (count-filter p q xs)
+  count-filter p q (x ∷ xs) = let e = count-cons p x xs in let l = by (q x) (count-filter p q xs) in omega arith
     where
       by : (b : Bool) → count_by p (filter q xs) ≤ count_by p xs → count_by p (cond b (x ∷ filter q xs) (filter q xs)) ≤ cond (p x) 1 0 + count_by p xs
-      by true l = omega arith
-      by false l = omega arith
+      by true l = subst (λ (n : ℕ). n ≤ cond (p x) 1 0 + count_by p xs) (sym (count-cons p x (filter q xs))) (omega arith)
+      by false l = let e : count_by p (filter q xs) ≤ cond (p x) 1 0 + count_by p xs = omega arith in e
 
   last-few : (f a n : ℕ) → a + n ≤ f + 1 → count_by (λ i. leb f i) (range_with_len a n) ≤ 1
   last-few f a zero l = omega arith
-  last-few f a (suc zero) l = by (leb f a)
+  last-few f a (suc n) l = subst (λ (m : ℕ). m ≤ 1) (sym (count-cons (λ i. leb f i) a (range_with_len (a + 1) n))) (by (leb f a) refl (last-few f (a + 1) n (omega arith)))
     where
-      by : (b : Bool) → cond b 1 0 + 0 ≤ 1
-      by true = omega arith
-      by false = omega arith
-  last-few f a (suc (suc n)) l = by (leb f a) refl (last-few f (a + 1) (suc n) (omega arith))
-    where
-      by : (b : Bool) → leb f a ≡ b → count_by (λ i. leb f i) (range_with_len (a + 1) (suc n)) ≤ 1 → cond b 1 0 + count_by (λ i. leb f i) (range_with_len (a + 1) (suc n)) ≤ 1
-      by true e m = let g = leb-true f a e in absurd (omega arith)
-      by false e m = omega arith
+      -- where it is from f on, it is the last
+      none : f ≤ a → (m : ℕ) → m ≡ n → count_by (λ i. leb f i) (range_with_len (a + 1) m) ≡ 0
+      none g zero e = refl
+      none g (suc m) e = absurd (omega arith)
+
+      by : (b : Bool) → leb f a ≡ b → count_by (λ i. leb f i) (range_with_len (a + 1) n) ≤ 1 → cond b 1 0 + count_by (λ i. leb f i) (range_with_len (a + 1) n) ≤ 1
+      by true e m = let z = none (leb-true f a e) n refl in let h : 1 + count_by (λ i. leb f i) (range_with_len (a + 1) n) ≤ 1 = omega arith in h
+      by false e m = let h : 0 + count_by (λ i. leb f i) (range_with_len (a + 1) n) ≤ 1 = omega arith in h
 
   pub drawn-few : (job : JobParts) (new : Core) → steps.Draws s job new → new_rows job.snapshot job.from ≤ 1
   unfolding live_numbers

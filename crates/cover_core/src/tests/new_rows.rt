@@ -1,5 +1,5 @@
 // Jobs of a book to which one row came after each candidate was known to hold in all rows: a step a job at most.
-ghost use Rattle.std.specs.Prelude.{◌≡◌, ◌≤◌, ◌<◌, ◌+◌, true, IfOk};
+ghost use Rattle.std.specs.Prelude.{◌≡◌, ◌≤◌, ◌<◌, ◌+◌, true, IfOk, vec_len};
 ghost use Rattle.cover_core.specs.Tests.{is_far, AreNear};
 
 use super::{columns, finish, insert, is_busy, letters};
@@ -46,6 +46,8 @@ fn judge_next<L: Ledger>(
     ensures near { AreNear book.new }
     ensures steps { IfOk result (λ last. steps.new + vec_len jobs.old ≤ steps.old + vec_len jobs.new) }
 {
+    // `rows` is called for its clause that the book is sound.
+    let _rows = book.rows();
     match book.draw()? {
         Draw::Job(job) => {
             let verdict = validate(alloc, &job, steps)?;
@@ -79,7 +81,7 @@ fn judge_all<L: Ledger>(
 }
 
 // The same over a ledger's blank.
-fn judged<L: Ledger>(alloc: Global, book: &mut Book, blank: Blank) -> Result<Judged, AllocError>
+fn judge_drawn<L: Ledger>(alloc: Global, book: &mut Book, blank: Blank) -> Result<Judged, AllocError>
     requires name { blank.name ≡ L.name }
     requires parts { blank.parts ≡ L.parts }
     requires some { 0 < L.parts }
@@ -100,7 +102,7 @@ fn judged_after(
     finish(&mut book)?;
     assert!(rt; insert(rt, alloc, &mut book, k, v)?);
     assert!(rt; are_near(&book));
-    judged::<Brand>(alloc, &mut book, Blank::new(1))
+    judge_drawn::<Brand>(alloc, &mut book, Blank::new(1))
 }
 
 // Whether the answers are the jobs of the key and of the dependency for the fourth row, and that these are held.
