@@ -49,3 +49,11 @@ marked cands x to = map (λ c. if c.left == x then record { left = x; upto = max
 -- the candidate of x is held or not
 abbrev pub holding : List Cand → Columns → Bool → List Cand
 holding cands x held = map (λ c. if c.left == x then record { left = x; upto = c.upto; held = held } else c) cands
+
+-- no candidate of the list is held any more
+abbrev pub all_free : List Cand → List Cand
+all_free cands = map (λ c. record { left = c.left; upto = c.upto; held = false }) cands
+
+-- no candidate of any target is held any more
+abbrev pub freed : CandLists → CandLists
+freed c = record { rows = all_free c.rows; columns = map all_free c.columns }

@@ -45,6 +45,16 @@ impl Mark {
         Mark { upto, held: false }
     }
 
+    // No longer held.
+    pub(crate) fn free(self) -> Mark
+        ensures { result ≡ record { upto = self.upto; held = false } }
+    {
+        Mark {
+            upto: self.upto,
+            held: false,
+        }
+    }
+
     pub(crate) fn of(self, left: ColSet) -> Cand
         ensures { result ≡ record { left = left; upto = self.upto; held = self.held } }
     {

@@ -1,11 +1,11 @@
 // The candidates of all targets.
-ghost use Rattle.std.specs.Prelude.{if◌then◌else◌, ◌≡◌, ◌≤◌, ◌∷◌, [], ◌++◌, ℕ, List, Bool, true, replicate, map, None, IfOk, IfSome};
+ghost use Rattle.std.specs.Prelude.{if◌then◌else◌, ◌≡◌, ◌≤◌, ◌∷◌, [], ◌++◌, ℕ, List, Bool, true, false, replicate, map, None, IfOk, IfSome};
 ghost use Rattle.std.specs.List.{All, find};
 ghost use Rattle.col_set.specs.ColSet.{empty};
 ghost use Rattle.col_set.specs.Target.{IsColumnTarget, has_target};
 ghost use Rattle.col_set.specs.Evidence.{least};
 ghost use Rattle.candidate_cover.specs.Cands as words;
-ghost use Rattle.candidate_cover.specs.Cands.{width, cands_of, with_list, lefts, is_listed, kept_or_fresh, marked, holding, IsInOrder};
+ghost use Rattle.candidate_cover.specs.Cands.{width, cands_of, with_list, lefts, is_listed, kept_or_fresh, marked, holding, all_free, freed, IsInOrder};
 ghost use Rattle.candidate_cover.specs.Drafts.{AreLeast};
 ghost use Rattle.candidate_cover.specs.Marks.{cand, cands};
 ghost use Rattle.candidate_cover.specs.declared.cand.Cand.{Cand};
@@ -193,6 +193,16 @@ impl CandidateCover {
         }
     }
 
+    /// Lets go of all candidates. It takes a step a candidate, and no memory.
+    pub fn free(&mut self)
+        ensures { self.new ≡ freed self.old }
+    {
+        free_in(&mut self.rows);
+        for column in 0..self.columns.len() {
+            free_in(&mut self.columns[column]);
+        }
+    }
+
     /// The first candidate of a target in report order that meets the test.
     pub fn first<F: Fn(Cand) -> bool>(&self, target: Target, test: F) -> Option<Cand>
         requires target { IsColumnTarget (width self.now) target }
@@ -274,6 +284,16 @@ fn mark_in(tree: &mut SetTree<Mark>, x: ColSet, to: RowNo) -> Marking
         }
         None => Marking::Dropped,
     }
+}
+
+fn free_in(tree: &mut SetTree<Mark>)
+    ensures { cands tree.new ≡ all_free (cands tree.old) }
+{
+    tree.map_values(
+        |mark: Mark| -> Mark
+            ensures { result ≡ record { upto = mark.upto; held = false } }
+        { mark.free() },
+    );
 }
 
 fn hold_in(tree: &mut SetTree<Mark>, x: ColSet, held: bool) -> bool

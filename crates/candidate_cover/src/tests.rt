@@ -4,7 +4,7 @@ ghost use Rattle.col_set.specs.Target.{IsColumnTarget};
 ghost use Rattle.col_set.specs.Evidence.{least};
 ghost use Rattle.candidate_cover.specs.Cands.{width, cands_of, lefts, kept_or_fresh};
 
-use crate::{Cand, CandidateCover, Marking, Part};
+use crate::{Cand, CandidateCover, Draft, Marking, Part};
 use rel_base::{ColSet, RowNo, Steps, Target};
 use std::alloc::{AllocError, Global};
 use std::marker::Brand;
@@ -212,6 +212,82 @@ fn withdrawn_sets_leave_what_the_rest_makes(rt: HostRuntime) -> Result<(), Fail>
             let regained = regained(alloc, 6, target, rest.as_slice(), gone.as_slice())?;
             expect_same(&rt, alloc, &regained, &kept, target)?;
         }
+    }
+    Ok(())
+}
+
+// The draft of a new cover after these sets, one after another.
+fn draft_of(alloc: Global, columns: u8, sets: &[ColSet]) -> Result<Draft, AllocError>
+    requires { columns ≤ 128 }
+    ensures { IfOk result (λ draft. draft.width ≡ columns) }
+{
+    let cover = CandidateCover::new(alloc, columns)?;
+    let mut draft = cover.draft(alloc, Vec::new(alloc))?;
+    for z in sets {
+        draft = draft.grown(alloc, *z)?;
+    }
+    Ok(draft)
+}
+
+// A new cover into which what these sets leave of a target's candidates was put, all at once.
+fn drafted(
+    alloc: Global,
+    columns: u8,
+    target: Target,
+    sets: &[ColSet],
+) -> Result<CandidateCover, AllocError>
+    requires columns { columns ≤ 128 }
+    requires target { IsColumnTarget columns target }
+    ensures { IfOk result (λ cover. width cover ≡ columns) }
+{
+    let mut cover = CandidateCover::new(alloc, columns)?;
+    let draft = draft_of(alloc, columns, sets)?;
+    if let Some(part) = cover.drafted(alloc, &draft, target)? {
+        cover.put(target, part);
+    }
+    Ok(cover)
+}
+
+// What many sets leave at once is what they leave one after another.
+#[test]
+fn drafts_leave_what_one_set_after_another_does(rt: HostRuntime) -> Result<(), Fail> {
+    let alloc = rt.alloc();
+    for seed in 1..9 {
+        let sets = some_sets(alloc, 12, seed)?;
+        for target in [Target::RowId, Target::Col(0), Target::Col(5)] {
+            if let Target::Col(column) = target {
+                assert!(rt; column < 6);
+            }
+            let one_by_one = booked(alloc, 6, target, sets.as_slice())?;
+            let at_once = drafted(alloc, 6, target, sets.as_slice())?;
+            expect_same(&rt, alloc, &at_once, &one_by_one, target)?;
+        }
+    }
+    Ok(())
+}
+
+// The agree set of the first column is told for each target but that column.
+#[test]
+fn a_set_inside_one_that_came_in_is_news_for_other_targets(rt: HostRuntime) -> Result<(), Fail> {
+    let first = set(&[0]);
+    let draft = draft_of(rt.alloc(), 3, &[first])?;
+    assert!(rt; !draft.is_news(first));
+    assert!(rt; draft.is_news(ColSet::empty()));
+    assert!(rt; draft.is_news(set(&[1])) && draft.is_news(set(&[0, 1, 2])));
+    Ok(())
+}
+
+#[test]
+fn all_candidates_are_let_go_of(rt: HostRuntime) -> Result<(), Fail> {
+    let alloc = rt.alloc();
+    let mut cover = CandidateCover::new(alloc, 2)?;
+    for target in [Target::RowId, Target::Col(1)] {
+        if let Target::Col(column) = target {
+            assert!(rt; column < cover.columns());
+        }
+        assert!(rt; cover.hold(target, ColSet::empty(), true));
+        cover.free();
+        expect_fresh(&rt, alloc, &cover, target, &[ColSet::empty()])?;
     }
     Ok(())
 }

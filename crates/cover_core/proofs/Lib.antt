@@ -10,3 +10,5 @@ pub mod Calls
 pub mod Upto
 pub mod Whole
 pub mod Turn
+pub mod Freeing
+pub mod NearBooks

@@ -42,6 +42,9 @@ pub record IsTurned (old new : Core) : Type 0 where
 pub IsTurned-none : (s : Core) → IsTurned s s
 IsTurned-none s = record { rows = refl; witnesses = ([], sym (append-nil s.witnesses)) }
 
+pub IsTurned-same : (old new : Core) → new.rows ≡ old.rows → new.witnesses ≡ old.witnesses → IsTurned old new
+IsTurned-same old new rows same = record { rows = rows; witnesses = ([], same ∙ sym (append-nil old.witnesses)) }
+
 pub IsTurned-more : (old mid new : Core) → IsTurned old mid → new.rows ≡ mid.rows → Extends mid.witnesses new.witnesses → IsTurned old new
 IsTurned-more old mid new so rows more = record {
   rows = rows ∙ so.rows;

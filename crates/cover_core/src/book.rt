@@ -1,5 +1,5 @@
 // The book.
-ghost use Rattle.std.specs.Prelude.{◌≡◌, ◌≢◌, ◌<◌, ◌^◌, ◌↔◌, true, None, IfOk, IsTrue, OnOk, OnErr};
+ghost use Rattle.std.specs.Prelude.{◌≡◌, ◌≢◌, ◌<◌, ◌^◌, ◌↔◌, true, false, None, IfOk, IsTrue, OnOk, OnErr};
 ghost use Rattle.std.specs.Bool.{OnTrue, OnFalse};
 ghost use Rattle.std.specs.List.{All};
 ghost use Rattle.col_set.specs.Target.{IsColumnTarget};
@@ -8,7 +8,7 @@ ghost use Rattle.rel_base.specs.RowState.{opened, width};
 ghost use Rattle.rel_base.specs.Shows.{holds_in};
 ghost use Rattle.rel_base.specs.Covers.{covers};
 ghost use Rattle.rel_base.specs.Laws.{IsAsWide};
-ghost use Rattle.cover_steps.specs.Core.{opened_core, first_unfinished as first_unfinished_of};
+ghost use Rattle.cover_steps.specs.Core.{opened_core, entries, first_unfinished as first_unfinished_of};
 ghost use Rattle.cover_steps.specs.Steps as steps;
 ghost use Rattle.cover_steps.specs.Sound.{Sound, Fits, IsMarked};
 ghost use Rattle.cover_core.specs.Evidences.{IsEvidence};
@@ -250,7 +250,7 @@ impl Book {
 
     /// Finds the covers of the rows (HyFD, Papenbrock and Naumann, 2016).
     ///
-    /// A book without witnesses begins with pairs of rows that stand near each other, whose agree sets refute most of what does
+    /// It lets go of all candidates, so that none is held when it answers; jobs that are out may still come back. A book without witnesses begins with pairs of rows that stand near each other, whose agree sets refute most of what does
     /// not hold. Then the candidates of one target after another are validated; of those that fail, pairs of rows from many
     /// groups are booked at once, and what comes new is validated in the next pass, until each candidate is known to hold in all
     /// rows. So its time is mostly that of the verdicts: one for each minimal dependency, and some for those that fail.
@@ -259,14 +259,28 @@ impl Book {
     pub fn finish(&mut self) -> Result<Covers, AllocError>
         ensures covers { IfOk result (λ found. found ≡ covers self.new.rows) }
         ensures settled { OnOk result (first_unfinished_of self.new ≡ None) }
+        ensures free { OnOk result (All (λ e. e.1.held ≡ false) (entries self.new)) }
         ensures rows { self.new.rows ≡ self.old.rows }
         ensures witnesses { Extends self.old.witnesses self.new.witnesses }
         ensures fits { (job : JobParts) → Fits self.old.rows job → Fits self.new.rows job }
         ensures sound { Sound self.new }
     {
+        self.free();
         self.search()?;
         while self.advance()? {}
+        self.free();
         self.covers()
+    }
+
+    // Lets go of all candidates.
+    fn free(&mut self)
+        ensures free { All (λ e. e.1.held ≡ false) (entries self.new) }
+        ensures settled { first_unfinished_of self.old ≡ None → first_unfinished_of self.new ≡ None }
+        ensures rows { self.new.rows ≡ self.old.rows }
+        ensures witnesses { self.new.witnesses ≡ self.old.witnesses }
+        ensures sound { Sound self.new }
+    {
+        self.candidates.free();
     }
 
     // Validates candidates in passes, until a pass finds no evidence against any.
@@ -410,6 +424,15 @@ impl Book {
         ensures sound { Sound self.now }
     {
         &self.rows
+    }
+
+    // The candidates.
+    #[cfg(test)]
+    pub(crate) fn candidates(&self) -> &CandidateCover
+        ensures candidates { result.now ≡ self.now.candidates }
+        ensures sound { Sound self.now }
+    {
+        &self.candidates
     }
 
     /// The witnesses, in the order in which they were booked.

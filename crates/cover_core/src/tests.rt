@@ -8,6 +8,7 @@ ghost use Rattle.rel_base.specs.Shows.{holds_in};
 ghost use Rattle.cover_steps.specs.Sound.{Fits};
 ghost use Rattle.validator.specs.Verdicts.{IsFitting};
 
+mod new_rows;
 mod script;
 
 use crate::{Applying, Book, Draw, Marking, Refutation, Release, Settling};

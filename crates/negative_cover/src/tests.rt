@@ -38,8 +38,8 @@ fn witnesses_of_a_dead_row_are_parted_and_withdrawn(rt: HostRuntime) -> Result<(
     };
     let mut cover = NegativeCover::new(rt.alloc());
     assert!(rt; cover.is_empty());
-    cover.add(first)?;
-    cover.add(second)?;
+    cover.add_all(&[first, second])?;
+    assert!(rt; cover.get(0) == Some(first) && cover.get(1) == Some(second));
     parts_with_the_second_row(&rt, rt.alloc(), &cover, &[row(&rt, 2)])?;
     parts_with_the_second_row(&rt, rt.alloc(), &cover, &[row(&rt, 2), row(&rt, 5)])?;
     parts_with_the_second_row(&rt, rt.alloc(), &cover, &[row(&rt, 7), row(&rt, 2)])?;

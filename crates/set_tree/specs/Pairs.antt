@@ -30,6 +30,10 @@ module _ {V : Type 0} where
   abbrev pub with_value : List (Columns × V) → Columns → V → List (Columns × V)
   with_value ps x v = map (λ p. if p.0 == x then (x, v) else p) ps
 
+  -- each key has what f makes of its value
+  abbrev pub with_values : (V → V) → List (Columns × V) → List (Columns × V)
+  with_values f ps = map (λ p. (p.0, f p.1)) ps
+
   abbrev pub without_key : List (Columns × V) → Columns → List (Columns × V)
   without_key ps x = filter (λ p. not (p.0 == x)) ps
 

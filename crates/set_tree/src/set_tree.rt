@@ -3,7 +3,7 @@ ghost use Rattle.std.specs.Prelude.{◌≡◌, [], Bool, OnOk, OnErr, IfOk, IsTr
 ghost use Rattle.std.specs.List.{find, list_any};
 ghost use Rattle.col_set.specs.ColSet.{Columns, subset, report_cmp};
 ghost use Rattle.col_set.specs.Lists.{Rises};
-ghost use Rattle.set_tree.specs.Pairs.{IsInOrder, keys, is_key, value_at, inserted, with_value, without_key, inside, not_inside, added};
+ghost use Rattle.set_tree.specs.Pairs.{IsInOrder, keys, is_key, value_at, inserted, with_value, without_key, with_values, inside, not_inside, added};
 
 use crate::place::place_of;
 use col_set::ColSet;
@@ -127,6 +127,17 @@ impl<V: Copy> SetTree<V> {
                 true
             }
             Err(_) => false,
+        }
+    }
+
+    /// Gives each column set what `change` makes of its value. It takes a step a set, and no memory.
+    pub fn map_values<F: Fn(V) -> V>(&mut self, change: F)
+        requires { F.IsAlwaysCallable change }
+        ensures { (f : V → V) → ((v w : V) → F.post change v w → w ≡ f v) → self.new ≡ with_values f self.old }
+    {
+        for place in 0..self.pairs.len() {
+            let (x, v) = self.pairs[place];
+            self.pairs[place] = (x, change(v));
         }
     }
 

@@ -13,6 +13,8 @@ fn subsets_are_taken_in_report_order(rt: HostRuntime) -> Result<(), Fail> {
         tree.insert(set, value)?;
     }
     assert!(rt; tree.len() == 3);
+    assert!(rt; tree.has_keys(&[one, third, both]) && !tree.has_keys(&[one, third]));
+    assert!(rt; !tree.has_keys(&[one, both, third]));
     assert!(rt; tree.list(alloc)?.as_slice() == [(one, 7), (third, 6), (both, 5)].as_slice());
     assert!(rt; tree.first(|set, value| set.len() == 2 || value == 6) == Some((third, 6)));
     assert!(rt; tree.first(|_, value| value == 8) == None);
@@ -33,6 +35,8 @@ fn values_are_replaced_and_removed(rt: HostRuntime) -> Result<(), Fail> {
     assert!(rt; tree.len() == 1 && tree.get(third) == Some(2));
     assert!(rt; tree.set(third, 3) && !tree.set(one, 4));
     assert!(rt; tree.get(third) == Some(3) && tree.get(one) == None);
+    tree.map_values(|value| value.wrapping_add(1));
+    assert!(rt; tree.get(third) == Some(4) && tree.len() == 1);
     assert!(rt; tree.has(third) && !tree.has(one));
     assert!(rt; !tree.any_subset_of(one));
     assert!(rt; !tree.remove(one) && tree.remove(third) && tree.len() == 0);

@@ -1,0 +1,147 @@
+// Jobs of a book to which one row came after each candidate was known to hold in all rows: a step a job at most.
+ghost use Rattle.std.specs.Prelude.{◌≡◌, ◌≤◌, ◌<◌, ◌+◌, true, IfOk, vec_len};
+ghost use Rattle.cover_core.specs.Tests.{is_far, AreNear};
+
+use super::{columns, finish, insert, is_busy, letters};
+use crate::searching::first_where;
+use crate::{Book, Draw};
+use candidate_cover::Cand;
+use rel_base::{Job, RowNo, Steps, Target};
+use std::alloc::{AllocError, Global};
+use std::marker::Brand;
+use std::process::Abort;
+use std::sync::ledger::{Blank, Ledger};
+use std::test::Fail;
+use validator::{Verdict, validate};
+
+// Whether each candidate is known to hold among all rows but the last one at least.
+fn are_near(book: &Book) -> bool
+    ensures { result ≡ true → AreNear book.now }
+{
+    let next = book.rows().next().number();
+    first_where(
+        book.candidates(),
+        |cand: Cand| -> bool
+            ensures { result ≡ is_far next cand }
+        { cand.upto.number() < next - 1 },
+    )
+    .is_none()
+}
+
+// The jobs that were drawn, each with its verdict, and the first answer that was none.
+#[derive(Drop)]
+struct Judged {
+    jobs: Vec<(Job, Verdict)>,
+    last: Option<Draw>,
+}
+
+// Draws a job of a book and validates it, unless the draw answers none.
+fn judge_next<L: Ledger>(
+    alloc: Global,
+    book: &mut Book,
+    steps: &mut Steps<L>,
+    jobs: &mut Vec<(Job, Verdict)>,
+) -> Result<Option<Draw>, AllocError>
+    requires { AreNear book.old }
+    ensures near { AreNear book.new }
+    ensures steps { IfOk result (λ last. steps.new + vec_len jobs.old ≤ steps.old + vec_len jobs.new) }
+{
+    // `rows` is called for its clause that the book is sound.
+    let _rows = book.rows();
+    match book.draw()? {
+        Draw::Job(job) => {
+            let verdict = validate(alloc, &job, steps)?;
+            jobs.push((job, verdict))?;
+            Ok(None)
+        }
+        last => Ok(Some(last)),
+    }
+}
+
+// Draws jobs of a book until a draw answers none, or so many times, and validates each.
+fn judge_all<L: Ledger>(
+    alloc: Global,
+    book: &mut Book,
+    most: u32,
+    steps: &mut Steps<L>,
+) -> Result<Judged, AllocError>
+    requires { AreNear book.old }
+    ensures { IfOk result (λ judged. steps.new ≤ steps.old + vec_len judged.jobs) }
+{
+    let mut jobs = Vec::new(alloc);
+    for _ in 0..most {
+        if let Some(last) = judge_next(alloc, book, steps, &mut jobs)? {
+            return Ok(Judged {
+                jobs,
+                last: Some(last),
+            });
+        }
+    }
+    Ok(Judged { jobs, last: None })
+}
+
+// The same over a ledger's blank.
+fn judge_drawn<L: Ledger>(alloc: Global, book: &mut Book, blank: Blank) -> Result<Judged, AllocError>
+    requires name { blank.name ≡ L.name }
+    requires parts { blank.parts ≡ L.parts }
+    requires some { 0 < L.parts }
+    requires near { AreNear book.old }
+{
+    let mut steps = Steps::<L>::none(blank);
+    judge_all(alloc, book, 10, &mut steps)
+}
+
+// The book of three rows, finished, with a fourth one, and what its jobs lead to.
+fn judged_after(
+    rt: &impl Abort,
+    alloc: Global,
+    k: &[u8],
+    v: &[u8],
+) -> Result<Judged, AllocError> {
+    let mut book = letters(rt, alloc)?;
+    finish(&mut book)?;
+    assert!(rt; insert(rt, alloc, &mut book, k, v)?);
+    assert!(rt; are_near(&book));
+    judge_drawn::<Brand>(alloc, &mut book, Blank::new(1))
+}
+
+// Whether the answers are the jobs of the key and of the dependency for the fourth row, and that these are held.
+fn are_new(judged: &Judged) -> bool {
+    let right = columns(&[1]);
+    judged.jobs.len() == 2
+        && is_of(&judged.jobs[0].0, Target::RowId)
+        && is_of(&judged.jobs[1].0, Target::Col(0))
+        && judged
+            .last
+            .as_ref()
+            .is_some_and(|last| is_busy(last, Target::RowId, right))
+}
+
+// Whether it is the fourth row's job for the second column and this target.
+fn is_of(job: &Job, target: Target) -> bool {
+    job.target() == target
+        && job.left() == columns(&[1])
+        && job.from().number() == 4
+        && job.to().number() == 5
+}
+
+#[test]
+fn a_new_row_leaves_a_step_a_job(rt: HostRuntime) -> Result<(), Fail> {
+    let judged = judged_after(&rt, rt.alloc(), b"3", b"w")?;
+    let holds = Verdict::Holds { to: RowNo::of(5) };
+    assert!(rt; are_new(&judged));
+    assert!(rt; judged.jobs[0].1 == holds && judged.jobs[1].1 == holds);
+    Ok(())
+}
+
+#[test]
+fn a_new_row_breaks_a_key(rt: HostRuntime) -> Result<(), Fail> {
+    let judged = judged_after(&rt, rt.alloc(), b"3", b"y")?;
+    let broken = Verdict::Broken {
+        i: RowNo::of(2),
+        j: RowNo::of(4),
+    };
+    assert!(rt; are_new(&judged));
+    assert!(rt; judged.jobs[0].1 == broken);
+    Ok(())
+}
