@@ -12,9 +12,9 @@ ghost use Rattle.candidate_cover.specs.declared.cand.Cand.{Cand};
 ghost use Rattle.candidate_cover.specs.declared.cand.Marking.TheVariants.{Marked, Dropped};
 
 use crate::cand::{Cand, Mark, Marking};
+use crate::draft::Draft;
 use crate::explore::explored;
 use crate::growth::choices;
-use crate::draft::Draft;
 use crate::part::{Part, generalised, lefts as lefts_of, specialised, with_marks};
 use rel_base::{ColSet, RowNo, Steps, Target};
 use set_tree::SetTree;

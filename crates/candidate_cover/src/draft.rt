@@ -41,11 +41,7 @@ impl Model for Draft {
 
 impl Draft {
     // A draft of these lists, which takes no memory.
-    pub(crate) fn of(
-        rows: Vec<ColSet>,
-        columns: Vec<Vec<ColSet>>,
-        agree_sets: Vec<ColSet>,
-    ) -> Draft
+    pub(crate) fn of(rows: Vec<ColSet>, columns: Vec<Vec<ColSet>>, agree_sets: Vec<ColSet>) -> Draft
         requires lists { AreDrafted (length columns.items) agree_sets.items rows.items (lists_behind columns.items) }
         requires bound { length columns.items ≤ 128 }
         ensures { result ≡ record { width = length columns.items; agree_sets = agree_sets.items } }
@@ -209,7 +205,14 @@ fn grow_columns(
 {
     for column in 0..count {
         let sets = &mut columns[column as usize];
-        grow_unless(alloc, known.has(column), count, Target::Col(column), sets, z)?;
+        grow_unless(
+            alloc,
+            known.has(column),
+            count,
+            Target::Col(column),
+            sets,
+            z,
+        )?;
     }
     Ok(())
 }

@@ -5,10 +5,12 @@ use std::alloc::Global;
 
 // How many guesses are kept at least, once there is a code, and at most.
 const LEAST: usize = 64;
+
 const MOST: usize = 32768;
 
 // Odd numbers that spread what they multiply over all bits.
 const SPREAD: u64 = 0x9E37_79B9_7F4A_7C15;
+
 const SPREAD_AGAIN: u64 = 0xD6E8_FEB8_6659_FD93;
 
 // The code of a cell that had this tag.

@@ -49,7 +49,7 @@ module _ (s : Core) (sound : Sound s) (near : AreNear s) where
       at : (e : Target × Cand) → IsEntry m e.0 e.1 → (t ≡ e.0) ⊎ (cands m e.0 ≡ cands s e.0) → next s.rows - 1 ≤ e.1.upto
       at e i (inl same) =
           let w = Listed-map_which (λ c. cond (eqb c.left x) (record { left = x; upto = c.upto; held = held }) c) e.1 (cands s t)
-              (subst (λ (cs : List Cand). Listed e.1 cs) here (subst (λ (u : Target). Listed e.1 (cands m u)) (sym same) i.listed)) in
+          (subst (λ (cs : List Cand). Listed e.1 cs) here (subst (λ (u : Target). Listed e.1 (cands m u)) (sym same) i.listed)) in
           subst (λ (n : ℕ). next s.rows - 1 ≤ n) (sym (ap (λ (c : Cand). c.upto) w.2 ∙ upto-held x held w.0)) (known t w.0 l w.1)
       at e i (inr same) = known e.0 e.1 i.target (subst (λ (cs : List Cand). Listed e.1 cs) same i.listed)
 

@@ -81,7 +81,11 @@ fn judge_all<L: Ledger>(
 }
 
 // The same over a ledger's blank.
-fn judge_drawn<L: Ledger>(alloc: Global, book: &mut Book, blank: Blank) -> Result<Judged, AllocError>
+fn judge_drawn<L: Ledger>(
+    alloc: Global,
+    book: &mut Book,
+    blank: Blank,
+) -> Result<Judged, AllocError>
     requires name { blank.name ≡ L.name }
     requires parts { blank.parts ≡ L.parts }
     requires some { 0 < L.parts }
@@ -92,12 +96,7 @@ fn judge_drawn<L: Ledger>(alloc: Global, book: &mut Book, blank: Blank) -> Resul
 }
 
 // The book of three rows, finished, with a fourth one, and what its jobs lead to.
-fn judged_after(
-    rt: &impl Abort,
-    alloc: Global,
-    k: &[u8],
-    v: &[u8],
-) -> Result<Judged, AllocError> {
+fn judged_after(rt: &impl Abort, alloc: Global, k: &[u8], v: &[u8]) -> Result<Judged, AllocError> {
     let mut book = letters(rt, alloc)?;
     finish(&mut book)?;
     assert!(rt; insert(rt, alloc, &mut book, k, v)?);

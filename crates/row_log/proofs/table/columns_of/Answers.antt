@@ -42,7 +42,7 @@ loop-left-preserved c =
     let whole_now = settled c.loop-left.columns.len c.push_rows.new.columns _ (c.in_ok-push_rows.ensures.long ∙ same ∙ sym c.loop-left.columns.ok.0) in (
       ap length whole_now ∙ c.in_ok-push_rows.ensures.long ∙ same ∙ old.0,
       λ j l. ap (λ (cs : List ColumnCells). with_cells (column_at cs j) c.split_at.result.1.now j) whole_now
-      ∙ step c.args.nulls c.args.width c.args.rows.now c.loop-left.left.now c.split_at.result.0.now c.split_at.result.1.now c.loop-left.columns.items c.deref_mut.result.now c.push_rows.new.columns
-      c.split_at.ensures.by_index.0 old.0 c.deref_mut.ensures.value c.in_ok-push_rows.ensures.each old.1 j l,
+          ∙ step c.args.nulls c.args.width c.args.rows.now c.loop-left.left.now c.split_at.result.0.now c.split_at.result.1.now c.loop-left.columns.items c.deref_mut.result.now c.push_rows.new.columns
+          c.split_at.ensures.by_index.0 old.0 c.deref_mut.ensures.value c.in_ok-push_rows.ensures.each old.1 j l,
       subst (All (λ row. length row ≡ c.args.width)) (sym c.split_at.ensures.back) (All-drop (λ row. length row ≡ c.args.width) c.min.result c.loop-left.left.now old.2),
     )

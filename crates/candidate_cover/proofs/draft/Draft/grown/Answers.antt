@@ -15,8 +15,9 @@ invariant_of-result c =
     (subst (λ (ws : List ℕ). AreDrafted (length c.self.inside.columns.items) ws c.self.inside.rows.items (lists_behind c.self.inside.columns.items)) (sym c.as_slice.ensures.value) c.self.invariant.0) in
     let after = drafted_grown n c.as_slice.result.now c.self.inside.rows.items c.grow_unless.new.sets.items (lists_behind c.self.inside.columns.items) (lists_behind c.grow_columns.new.columns.items) c.args.z
     c.known_by-known.result.rows c.known_by-known.result.columns before (record { of_rows = c.known_by-known.ensures.rows; of_columns = c.known_by-known.ensures.columns })
-    c.in_ok-grow_unless.ensures c.in_ok-grow_columns.ensures in
-    (subst (λ (m : ℕ). AreDrafted m c.push.new.self.items c.grow_unless.new.sets.items (lists_behind c.grow_columns.new.columns.items)) (sym wide)
-    (subst (λ (ws : List ℕ). AreDrafted n ws c.grow_unless.new.sets.items (lists_behind c.grow_columns.new.columns.items))
-    (ap (λ (ws : List ℕ). ws ++ c.args.z ∷ []) c.as_slice.ensures.value ∙ sym c.in_ok-push.ensures.items) after),
-    subst (λ (m : ℕ). m ≤ 128) (sym (wide ∙ count)) c.self.invariant.1)
+    c.in_ok-grow_unless.ensures c.in_ok-grow_columns.ensures in (
+      subst (λ (m : ℕ). AreDrafted m c.push.new.self.items c.grow_unless.new.sets.items (lists_behind c.grow_columns.new.columns.items)) (sym wide)
+          (subst (λ (ws : List ℕ). AreDrafted n ws c.grow_unless.new.sets.items (lists_behind c.grow_columns.new.columns.items))
+          (ap (λ (ws : List ℕ). ws ++ c.args.z ∷ []) c.as_slice.ensures.value ∙ sym c.in_ok-push.ensures.items) after),
+      subst (λ (m : ℕ). m ≤ 128) (sym (wide ∙ count)) c.self.invariant.1,
+    )
