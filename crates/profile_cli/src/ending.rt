@@ -27,13 +27,7 @@ pub(crate) fn write_text<O: Sink>(made: Result<Vec<u8>, AllocError>, out: &mut O
 }
 
 /// Names the file that is refused. What the sink answers does not change the outcome.
-pub(crate) fn refuse<O: Sink>(
-    alloc: Global,
-    file: Name,
-    rec: u64,
-    why: Why,
-    out: &mut O,
-) -> Outcome
+pub(crate) fn refuse<O: Sink>(alloc: Global, file: Name, rec: u64, why: Why, out: &mut O) -> Outcome
     ensures ends { EndsWith result (Refused file rec why) (file_line file rec why) (O.held out.old) (O.held out.new) (O.faults out.old) (O.faults out.new) }
     ensures room { O.room out.new ≡ O.room out.old }
 {

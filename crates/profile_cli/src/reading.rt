@@ -54,7 +54,12 @@ fn understood(alloc: Global, loading: Loading, limits: &Limits) -> FileRead
 }
 
 /// Reads one file.
-pub(crate) fn read_file<H: Shelf>(alloc: Global, shelf: &mut H, name: &Name, limits: &Limits) -> FileRead
+pub(crate) fn read_file<H: Shelf>(
+    alloc: Global,
+    shelf: &mut H,
+    name: &Name,
+    limits: &Limits,
+) -> FileRead
     requires { H.opened shelf.old ≡ Nothing }
     ensures bytes { IfSome (H.content shelf.old) (λ files. Understands result limits.now (bytes_of files name.now)) }
     ensures content { H.content shelf.new ≡ H.content shelf.old }

@@ -44,7 +44,16 @@ pub(crate) fn session<R: Threads + Sync, H: Shelf, I: Source, O: Sink>(
 {
     match read_file(alloc, shelf, &file, limits) {
         FileRead::Read(relation) => {
-            answer(rt, alloc, options.nulls, &file, relation, input, out, limits)
+            answer(
+                rt,
+                alloc,
+                options.nulls,
+                &file,
+                relation,
+                input,
+                out,
+                limits,
+            )
         }
         FileRead::Refused { rec, why } => refuse(alloc, file, rec, why, out),
         FileRead::Fault => end_at_fault(alloc, file, out),

@@ -48,7 +48,10 @@ fn expect_answers<H: Threads + Wait + Sync + Abort>(
 ) -> Result<(), Fail> {
     let mut input = SureSource::of(Vec::from_slice(alloc, changes.as_bytes())?);
     let (written, ended) = run_over(rt, alloc, words, file, &mut input, limits)?;
-    assert!(rt; written.as_slice() == wanted.as_bytes(), "the answers to {changes}");
+    assert!(rt;
+        written.as_slice() == wanted.as_bytes(),
+        "the answers to {changes}"
+    );
     assert!(rt; ended == status, "the status at {changes}");
     Ok(())
 }
@@ -62,10 +65,7 @@ fn each_batch_is_answered_in_order(rt: HostRuntime) -> Result<(), Fail> {
             "+,3,w\n-,9\n!\n+,4,u\n!\n-,4\n!\n",
             "refused,1,2,9\napplied,2,1,0,4\napplied,3,0,1,3\n",
         ),
-        (
-            "+,9,q\n-,4\n!\n!\n",
-            "applied,1,1,1,3\napplied,2,0,0,3\n",
-        ),
+        ("+,9,q\n-,4\n!\n!\n", "applied,1,1,1,3\napplied,2,0,0,3\n"),
         ("+,3,w\n", "refused,1,1,10\n"),
         ("+,3,w\n?\n!\n", "refused,1,2,7\n"),
     ];
@@ -140,12 +140,7 @@ fn limits_hold_in_a_session(rt: HostRuntime) -> Result<(), Fail> {
             "applied,1,1,0,4\napplied,2,1,0,5\n",
             0,
         ),
-        (
-            "+,3,w\n!\n+,3,w\n!\n\n",
-            sixteen,
-            "refused,-,0,6\n",
-            3,
-        ),
+        ("+,3,w\n!\n+,3,w\n!\n\n", sixteen, "refused,-,0,6\n", 3),
     ];
     for case in cases {
         expect_answers(&rt, rt.alloc(), &words, K, case.0, case.1, case.2, case.3)?;
@@ -210,8 +205,14 @@ fn reports_show_the_rows_at_that_point(rt: HostRuntime) -> Result<(), Fail> {
             wanted.extend_from_slice(piece.as_bytes())?;
         }
         let mut input = SureSource::of(Vec::from_slice(alloc, case.2.as_bytes())?);
-        let (written, status) =
-            run_over(&rt, alloc, case.0, case.1, &mut input, Limits::standard())?;
+        let (written, status) = run_over(
+            &rt,
+            alloc,
+            case.0,
+            case.1,
+            &mut input,
+            Limits::standard(),
+        )?;
         assert!(rt; written.as_slice() == wanted.as_slice(), "at {}", case.2);
         assert!(rt; status == 0);
     }
@@ -225,9 +226,11 @@ fn a_failing_read_of_the_input_is_named(rt: HostRuntime) -> Result<(), Fail> {
     for number in [1u64, 3] {
         let bytes = Vec::from_slice(alloc, b"?\n")?;
         let mut input = MemSource::of(bytes, vec![in alloc; number]?, 1);
-        let (written, status) =
-            run_over(&rt, alloc, &words, K, &mut input, Limits::standard())?;
-        assert!(rt; written.as_slice() == b"fault,read,-\n".as_slice(), "read {number}");
+        let (written, status) = run_over(&rt, alloc, &words, K, &mut input, Limits::standard())?;
+        assert!(rt;
+            written.as_slice() == b"fault,read,-\n".as_slice(),
+            "read {number}"
+        );
         assert!(rt; status == 4, "read {number}");
     }
     Ok(())
