@@ -1,7 +1,8 @@
 -- A book whose candidates are known to hold among all rows but the last one: its jobs look at one row.
-use Rattle.std.proofs.Common.{inl, inr, ◌≡◌, ◌⊎◌, ℕ, zero, suc, ◌+◌, ◌-◌, ◌≤◌, eqb, ltb, leb, Bool, true, false, cond, refl, sym, ap, ap₂, ◌∙◌, subst, arith, List, [], ◌∷◌, length, None}
+use Rattle.std.proofs.Common.{inl, inr, ◌≡◌, ◌⊎◌, ℕ, zero, suc, ◌+◌, ◌-◌, ◌≤◌, eqb, ltb, leb, Bool, true, false, cond, refl, sym, ap, ap₂, ◌∙◌, subst, arith, List, [], ◌∷◌, length, not, Option, Some, None}
 use Rattle.std.specs.List.{All, filter, find, count_by, range_with_len}
-use Rattle.std.proofs.lemmas.Bool.{leb-true, ltb-false}
+use Rattle.std.specs.Option.{is_some}
+use Rattle.std.proofs.lemmas.Bool.{true≢false, leb-true, ltb-false}
 use Rattle.std.proofs.lemmas.List.Sums.{sum_by-cons}
 use Rattle.col_set.specs.declared.target.Target.{Target}
 use Rattle.col_set.specs.Target.{IsColumnTarget}
@@ -13,14 +14,14 @@ use Rattle.rel_base.specs.Shows.{live_numbers}
 use Rattle.rel_base.proofs.States.{All-listed, All-from}
 use Rattle.candidate_cover.specs.declared.cand.Cand.{Cand}
 use Rattle.candidate_cover.specs.Cands.{cands_of, holding}
-use Rattle.cover_steps.specs.Core.{Core, cands, entries_in, entries, with_cands}
+use Rattle.cover_steps.specs.Core.{Core, cands, entries_in, entries, is_unfinished, with_cands}
 use Rattle.cover_steps.specs.Steps as steps
 use Rattle.cover_steps.specs.Sound.{Sound}
 use Rattle.cover_steps.proofs.Lists.{find-None}
 use Rattle.cover_steps.proofs.Kept.{cands_of-with_list, target_cases}
 use Rattle.cover_steps.proofs.Found.{IsEntry, IsEntry-listed, Listed-entries, drawable-entry}
 use Rattle.validator.specs.Verdicts.{new_rows}
-use Rattle.cover_core.specs.Tests.{on_cand, is_far, AreNear}
+use Rattle.cover_core.specs.Tests.{AreNear}
 use Rattle.cover_core.specs.Replies.{reply_of_draw}
 use Rattle.cover_core.specs.declared.answers.Draw.{Draw}
 use Rattle.cover_core.specs.declared.answers.Draw.TheVariants as draws
@@ -95,8 +96,9 @@ module _ (s : Core) (sound : Sound s) (near : AreNear s) where
       omega arith
 
 -- where no candidate is found that is not
-pub near-from : (s : Core) → Sound s → (n : ℕ) → n ≡ next s.rows → find (on_cand (is_far n)) (entries_in (length s.candidates.columns) s.candidates) ≡ None → AreNear s
-near-from s sound n e none = All-from (λ e. next s.rows - 1 ≤ e.1.upto) (entries s) (λ p h.
-    let f = find-None (on_cand (is_far n)) (entries_in (length s.candidates.columns) s.candidates) p none (subst (λ (w : ℕ). Listed p (entries_in w s.candidates)) (sym sound.columns) h) in
-    let l = ltb-false p.1.upto (n - 1) f in
+pub near-from : (s : Core) → Sound s → (n : ℕ) (found : Option (Target × Cand)) (b : Bool) → n ≡ next s.rows - 1 → found ≡ find (λ e. is_unfinished n e.1) (entries_in (length s.candidates.columns) s.candidates) → is_some found ≡ not b → b ≡ true → AreNear s
+near-from s sound n (Some x) b e f i h = absurd (true≢false (i ∙ ap not h))
+near-from s sound n None b e f i h = All-from (λ e. next s.rows - 1 ≤ e.1.upto) (entries s) (λ p g.
+    let k = find-None (λ e. is_unfinished n e.1) (entries_in (length s.candidates.columns) s.candidates) p (sym f) (subst (λ (w : ℕ). Listed p (entries_in w s.candidates)) (sym sound.columns) g) in
+    let l = ltb-false p.1.upto n k in
     omega arith)

@@ -1,5 +1,5 @@
 -- Tests of entries.
-use Rattle.std.specs.Prelude.{◌≤◌, ◌-◌, ℕ, nat_lt, Bool}
+use Rattle.std.specs.Prelude.{◌≤◌, ◌-◌, Bool}
 use Rattle.std.specs.List.{All}
 use Rattle.col_set.specs.declared.target.Target.{Target}
 use Rattle.candidate_cover.specs.declared.cand.Cand.{Cand}
@@ -9,10 +9,6 @@ use Rattle.cover_steps.specs.Core.{Core, entries}
 -- a test of entries that looks at the candidate alone
 abbrev pub on_cand : (Cand → Bool) → (Target × Cand) → Bool
 on_cand p e = p e.1
-
--- whether more rows than the last one given, below this number, are not known to keep a candidate
-abbrev pub is_far : ℕ → Cand → Bool
-is_far n c = nat_lt c.upto (n - 1)
 
 -- each candidate is known to hold among all rows but the last one given at least
 abbrev pub AreNear : Core → Type 0

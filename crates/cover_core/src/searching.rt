@@ -12,10 +12,7 @@ use candidate_cover::{Cand, CandidateCover};
 use rel_base::{ColSet, RowNo, Target};
 
 // The first candidate that passes a test, by target and in report order. It takes a step a candidate before it.
-pub(crate) fn first_where<F: Fn(Cand) -> bool>(
-    candidates: &CandidateCover,
-    test: F,
-) -> Option<(Target, Cand)>
+fn first_where<F: Fn(Cand) -> bool>(candidates: &CandidateCover, test: F) -> Option<(Target, Cand)>
     requires { F.IsAlwaysCallable test }
     ensures { (p : Candidate → Bool) → ((c : Candidate) (b : Bool) → F.post test c b → b ≡ p c) → result ≡ find (on_cand p) (entries_in (width candidates.now) candidates.now) }
 {

@@ -1,11 +1,10 @@
 // Jobs of a book to which one row came after each candidate was known to hold in all rows: a step a job at most.
 ghost use Rattle.std.specs.Prelude.{◌≡◌, ◌≤◌, ◌<◌, ◌+◌, true, IfOk, vec_len};
-ghost use Rattle.cover_core.specs.Tests.{is_far, AreNear};
+ghost use Rattle.cover_core.specs.Tests.{AreNear};
 
 use super::{columns, finish, insert, is_busy, letters};
-use crate::searching::first_where;
+use crate::searching::first_unfinished;
 use crate::{Book, Draw};
-use candidate_cover::Cand;
 use rel_base::{Job, RowNo, Steps, Target};
 use std::alloc::{AllocError, Global};
 use std::marker::Brand;
@@ -19,13 +18,10 @@ fn are_near(book: &Book) -> bool
     ensures { result ≡ true → AreNear book.now }
 {
     let next = book.rows().next().number();
-    first_where(
-        book.candidates(),
-        |cand: Cand| -> bool
-            ensures { result ≡ is_far next cand }
-        { cand.upto.number() < next - 1 },
-    )
-    .is_none()
+    if next < 2 {
+        return false;
+    }
+    first_unfinished(book.candidates(), RowNo::of(next - 1)).is_none()
 }
 
 // The jobs that were drawn, each with its verdict, and the first answer that was none.
