@@ -20,7 +20,9 @@ struct Guess {
     code: u32,
 }
 
-/// What code a cell may have, by a quick mark of it. Cells that are made to share a mark cost their guesses and nothing else, since what is guessed is always compared.
+/// What code a cell may have, by a quick mark of it.
+///
+/// What is guessed is always compared, so cells that are made to share a mark lose their guesses and nothing else.
 #[derive(Drop)]
 pub struct Recent {
     guesses: Vec<Guess>,

@@ -57,8 +57,8 @@ impl RowLog {
 
     /// The rows of a relation, all live, with this reading of NULL.
     ///
-    /// The relation is coded column by column, which takes a step a cell, and then let go. Where it has more rows than the
-    /// limit, it is taken as it is, and no row can come.
+    /// The relation is coded in large blocks of rows, column by column, which takes a step a cell, and then let go. Where it
+    /// has more rows than the limit, it is taken as it is, and no row can come.
     pub fn open_with(
         alloc: Global,
         relation: Relation,
