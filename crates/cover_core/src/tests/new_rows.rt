@@ -120,12 +120,24 @@ fn is_of(job: &Job, target: Target) -> bool {
         && job.to().number() == 5
 }
 
+// The verdict on the job that was drawn as this one, from 0.
+fn verdict_on(judged: &Judged, place: usize) -> Option<Verdict> {
+    match judged.jobs.get(place) {
+        Some(job) => Some(job.1),
+        None => None,
+    }
+}
+
+// Whether that verdict is that the dependency holds in all four rows.
+fn holds_in_all(judged: &Judged, place: usize) -> bool {
+    verdict_on(judged, place) == Some(Verdict::Holds { to: RowNo::of(5) })
+}
+
 #[test]
 fn a_new_row_leaves_a_step_a_job(rt: HostRuntime) -> Result<(), Fail> {
     let judged = judged_after(&rt, rt.alloc(), b"3", b"w")?;
-    let holds = Verdict::Holds { to: RowNo::of(5) };
     assert!(rt; are_new(&judged));
-    assert!(rt; judged.jobs[0].1 == holds && judged.jobs[1].1 == holds);
+    assert!(rt; holds_in_all(&judged, 0) && holds_in_all(&judged, 1));
     Ok(())
 }
 
@@ -137,6 +149,6 @@ fn a_new_row_breaks_a_key(rt: HostRuntime) -> Result<(), Fail> {
         j: RowNo::of(4),
     };
     assert!(rt; are_new(&judged));
-    assert!(rt; judged.jobs[0].1 == broken);
+    assert!(rt; verdict_on(&judged, 0) == Some(broken));
     Ok(())
 }
