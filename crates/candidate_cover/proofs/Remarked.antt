@@ -1,19 +1,23 @@
 -- Candidates and the pairs of a tree: how look-ups and changes of the one read on the other.
-use Rattle.std.proofs.Common.{inl, inr, ◌≡◌, ℕ, zero, suc, ◌<◌, Bool, true, false, cond, ◌||◌, eqb, refl, sym, ap, ap₂, ◌∙◌, subst, arith, List, [], ◌∷◌, length, get_or, set, map, if◌then◌else◌, Some, None}
+use Rattle.std.proofs.Common.{inl, inr, ◌≡◌, ℕ, zero, suc, ◌<◌, Bool, true, false, cond, not, ◌||◌, eqb, refl, sym, ap, ap₂, ◌∙◌, subst, arith, List, [], ◌∷◌, length, get_or, set, map, if◌then◌else◌, Some, None, Ordering, Greater}
 use Rattle.std.specs.List.{find}
 use Rattle.std.specs.Option.{option_map}
+use Rattle.std.specs.Cmp.{nat_cmp_is}
+use Rattle.std.specs.Cmp.Lexicographic.{slice_cmp}
+use Rattle.std.specs.Ordering.{is_lt, nat_cmp, ordering_then}
 use Rattle.std.proofs.lemmas.Bool.{eq-eqb, eqb-true, or_parts}
 use Rattle.std.proofs.lemmas.Option.{same_Some, none-some}
 use Rattle.col_set.specs.declared.target.Target.{Target}
 use Rattle.col_set.specs.declared.target.Target.TheVariants.{Col}
 use Rattle.col_set.specs.Target.{IsColumnTarget}
+use Rattle.col_set.specs.ColSet.{report_cmp, columns, size}
 use Rattle.col_set.specs.Lists.{Listed}
-use Rattle.set_tree.specs.Pairs.{IsInOrder, is_key, value_at, with_value, with_values}
+use Rattle.set_tree.specs.Pairs.{IsInOrder, is_key, value_at, with_value, with_values, from as pairs_from}
 use Rattle.set_tree.proofs.Places.{apart_from_less}
 use Rattle.candidate_cover.specs.declared.cand.Cand.{Cand}
 use Rattle.candidate_cover.specs.declared.cand.Mark.{Mark}
 use Rattle.candidate_cover.specs.Lists.{CandLists}
-use Rattle.candidate_cover.specs.Cands.{width, cands_of, with_list, is_listed, all_free}
+use Rattle.candidate_cover.specs.Cands.{width, cands_of, with_list, is_listed, all_free, from}
 use Rattle.candidate_cover.specs.Marks.{cand, cands}
 
 -- ---- look-ups
@@ -28,6 +32,27 @@ find-cands p (q ∷ ps) = by (p (cand q)) (find-cands p ps)
     by : (b : Bool) → find p (cands ps) ≡ option_map cand (find (λ q. p (cand q)) ps) → cond b (Some (cand q)) (find p (cands ps)) ≡ option_map cand (cond b (Some q) (find (λ q. p (cand q)) ps))
     by true e = refl
     by false e = e
+
+pub from-cands : (x : ℕ) (ps : List (ℕ × Mark)) → cands (pairs_from x ps) ≡ from x (cands ps)
+from-cands x [] = refl
+from-cands x (p ∷ ps) = by (not (is_lt (report_cmp p.0 x))) (from-cands x ps)
+  where
+    by : (b : Bool) → cands (pairs_from x ps) ≡ from x (cands ps) → cands (cond b (p ∷ pairs_from x ps) (pairs_from x ps)) ≡ cond b (cand p ∷ from x (cands ps)) (from x (cands ps))
+    by true e = ap (λ (cs : List Cand). cand p ∷ cs) e
+    by false e = e
+
+-- no set stands before the empty one
+empty_first : (x : ℕ) → is_lt (report_cmp x 0) ≡ false
+unfolding report_cmp size columns
+empty_first x = by (columns x)
+  where
+    by : (ks : List ℕ) → is_lt (ordering_then (nat_cmp (length ks) 0) (slice_cmp nat_cmp ks [])) ≡ false
+    by [] = refl
+    by (k ∷ ks) = ap (λ (o : Ordering). is_lt (ordering_then o (slice_cmp nat_cmp (k ∷ ks) []))) (sym (nat_cmp_is (length (k ∷ ks)) 0 Greater (omega arith)))
+
+pub from_empty : (cs : List Cand) → from 0 cs ≡ cs
+from_empty [] = refl
+from_empty (c ∷ cs) = ap (λ b. cond b (c ∷ from 0 cs) (from 0 cs)) (ap not (empty_first c.left)) ∙ ap (λ (ds : List Cand). c ∷ ds) (from_empty cs)
 
 -- a key has one value
 found_pair : (ps : List (ℕ × Mark)) (p : ℕ × Mark) → IsInOrder ps → Listed p ps → find (λ q. eqb q.0 p.0) ps ≡ Some p

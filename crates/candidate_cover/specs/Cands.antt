@@ -1,7 +1,8 @@
 -- Candidates: left sides with their marks, in a list for each target.
-use Rattle.std.specs.Prelude.{if◌then◌else◌, ℕ, ◌==◌, Bool, false, List, [], map, max, length, slice_index_or, slice_set}
-use Rattle.std.specs.List.{find, list_any}
+use Rattle.std.specs.Prelude.{if◌then◌else◌, ℕ, ◌==◌, Bool, false, not, List, [], map, max, length, slice_index_or, slice_set}
+use Rattle.std.specs.List.{filter, find, list_any}
 use Rattle.std.specs.Option.{unwrap_or}
+use Rattle.std.specs.Ordering.{is_lt}
 use Rattle.col_set.specs.declared.target.Target.{Target}
 use Rattle.col_set.specs.declared.target.Target.TheVariants.{Col, RowId}
 use Rattle.col_set.specs.ColSet.{Columns, report_cmp}
@@ -29,6 +30,10 @@ lefts cands = map (λ c. c.left) cands
 -- each left side stands before each later one in report order
 abbrev pub IsInOrder : List Cand → Type 0
 IsInOrder cands = Rises report_cmp (lefts cands)
+
+-- the candidates whose left sides do not stand before x
+abbrev pub from : Columns → List Cand → List Cand
+from x cands = filter (λ c. not (is_lt (report_cmp c.left x))) cands
 
 -- whether the column set is a left side of the list
 abbrev pub is_listed : List Cand → Columns → Bool

@@ -5,7 +5,7 @@ ghost use Rattle.col_set.specs.ColSet.{empty};
 ghost use Rattle.col_set.specs.Target.{IsColumnTarget, has_target};
 ghost use Rattle.col_set.specs.Evidence.{least};
 ghost use Rattle.candidate_cover.specs.Cands as words;
-ghost use Rattle.candidate_cover.specs.Cands.{width, cands_of, with_list, lefts, is_listed, kept_or_fresh, marked, holding, all_free, freed, IsInOrder};
+ghost use Rattle.candidate_cover.specs.Cands.{width, cands_of, with_list, lefts, is_listed, kept_or_fresh, marked, holding, all_free, freed, from, IsInOrder};
 ghost use Rattle.candidate_cover.specs.Drafts.{AreLeast};
 ghost use Rattle.candidate_cover.specs.Marks.{cand, cands};
 ghost use Rattle.candidate_cover.specs.declared.cand.Cand.{Cand};
@@ -209,11 +209,28 @@ impl CandidateCover {
         requires test { F.IsAlwaysCallable test }
         ensures { (p : Cand → Bool) → ((c : Cand) (b : Bool) → F.post test c b → b ≡ p c) → result ≡ find p (cands_of self.now target) }
     {
+        self.first_from(target, ColSet::empty(), test)
+    }
+
+    /// The first candidate of a target in report order, from a left side on, that meets the test.
+    ///
+    /// It looks up where the left side stands or would stand, and takes a step a candidate from there.
+    pub fn first_from<F: Fn(Cand) -> bool>(
+        &self,
+        target: Target,
+        left: ColSet,
+        test: F,
+    ) -> Option<Cand>
+        requires target { IsColumnTarget (width self.now) target }
+        requires test { F.IsAlwaysCallable test }
+        ensures found { (p : Cand → Bool) → ((c : Cand) (b : Bool) → F.post test c b → b ≡ p c) → result ≡ find p (from left (cands_of self.now target)) }
+        ensures order { IsInOrder (cands_of self.now target) }
+    {
         let meets = |left: ColSet, mark: Mark|
             requires { F.pre test (cand (left, mark)) }
             ensures { F.post test (cand (left, mark)) result }
         { test(mark.of(left)) };
-        let found = self.tree(target).first(meets);
+        let found = self.tree(target).first_from(left, meets);
         match found {
             Some((left, mark)) => Some(mark.of(left)),
             None => None,

@@ -1,12 +1,12 @@
 -- Pairs in report order and the place of a key among them.
-use Rattle.std.proofs.Common.{inl, inr, ◌≡◌, ◌≢◌, ℕ, suc, ◌+◌, ◌<◌, ◌≤◌, Bool, true, false, not, eqb, refl, sym, ap, ap₂, ◌∙◌, subst, arith, List, ◌∷◌, ◌++◌, length, get_or, take, drop, set, if◌then◌else◌, Some, None, Result, Ok, Err, is_ok, Ordering, Less, Equal, Greater}
+use Rattle.std.proofs.Common.{inl, inr, ◌≡◌, ◌≢◌, ℕ, suc, ◌+◌, ◌-◌, ◌<◌, ◌≤◌, Bool, true, false, not, eqb, refl, sym, ap, ap₂, ◌∙◌, subst, arith, List, ◌∷◌, ◌++◌, length, get_or, take, drop, set, if◌then◌else◌, Some, None, Result, Ok, Err, is_ok, Ordering, Less, Equal, Greater}
 use Rattle.std.specs.List.{filter}
 use Rattle.std.specs.List.Sorted.{IsBinarySearchResult, IsSearchInRange, IsSortedBy}
 use Rattle.std.specs.Option.{option_map}
 use Rattle.std.specs.Ordering.{is_lt, is_eq, ordering_reverse}
 use Rattle.std.proofs.lemmas.Bool.{eqb-true, eq-eqb, true≢false, cases_eq, cases_lt}
 use Rattle.std.proofs.lemmas.Cmp.{tied_itself}
-use Rattle.std.proofs.lemmas.List.{set_split}
+use Rattle.std.proofs.lemmas.List.{set_split, take_all, length-drop}
 use Rattle.std.proofs.lemmas.List.Folds.{list_any_none}
 use Rattle.std.proofs.lemmas.List.Sorted.{searchable_from_sorted}
 use Rattle.col_set.specs.ColSet.{report_cmp}
@@ -14,8 +14,8 @@ use Rattle.col_set.specs.Columns.{report_total}
 use Rattle.col_set.specs.AllSets.{report_matches_eq}
 use Rattle.col_set.specs.Lists.{Listed, Rises-filter, Rises-append, Rises-map, Listed-filter_parts}
 use Rattle.col_set.proofs.Places.{AllPairs-rises}
-use Rattle.set_tree.specs.Pairs.{IsInOrder, is_key, value_at, inserted, with_value, without_key}
-use Rattle.set_tree.specs.Place.{Stands, Lacks, IsPlace}
+use Rattle.set_tree.specs.Pairs.{IsInOrder, is_key, value_at, inserted, with_value, without_key, from}
+use Rattle.set_tree.specs.Place.{Parts, Stands, Lacks, IsPlace}
 use Rattle.set_tree.proofs.Cuts.{kept_front, kept_back, kept_but, kept_all, set-map, map_same, found_at, found_none, any_at}
 
 -- ---- report order
@@ -131,6 +131,27 @@ module _ {V : Type 0} where
 
       pub without_key-lacks : without_key ps x ≡ ps
       without_key-lacks = kept_all (λ p. not (eqb p.0 x)) ps (λ k d l. ap not (none k d l))
+
+  -- ---- from the key on
+  module _ (ps : List (ℕ × V)) (x i : ℕ) where
+    earlier : (j : ℕ) → Parts ps x i j → (k : ℕ) (d : ℕ × V) → k < i → k < length ps → not (is_lt (report_cmp (get_or ps k d).0 x)) ≡ false
+    earlier j s k d h l = ap not (less_is _ x (s.before k d h l))
+
+    -- what `&ps[i..]` is seen as
+    rest : i ≤ length ps → take (length ps - i) (drop i ps) ≡ drop i ps
+    rest l = take_all (length ps - i) (drop i ps) (omega (arith, length-drop i ps))
+
+    pub from-stands : Stands ps x i → take (length ps - i) (drop i ps) ≡ from x ps
+    from-stands s = rest (let l = s.within in omega arith) ∙ sym (kept_back (λ p. not (is_lt (report_cmp p.0 x))) ps i (earlier (i + 1) s.parts) here_on)
+      where
+        here_on : (k : ℕ) (d : ℕ × V) → i ≤ k → k < length ps → not (is_lt (report_cmp (get_or ps k d).0 x)) ≡ true
+        here_on k d h l = elim (cases_eq k i) as (λ _. not (is_lt (report_cmp (get_or ps k d).0 x)) ≡ true) [
+          | inl e ↦ ap not (not_less_same _ x (ap (λ (j : ℕ). (get_or ps j d).0) e ∙ s.same d))
+          | inr ne ↦ ap not (not_less _ x (s.parts.after k d (omega arith) l))
+        ]
+
+    pub from-lacks : Lacks ps x i → take (length ps - i) (drop i ps) ≡ from x ps
+    from-lacks s = rest s.within ∙ sym (kept_back (λ p. not (is_lt (report_cmp p.0 x))) ps i (earlier i s.parts) (λ k d h l. ap not (not_less _ x (s.parts.after k d h l))))
 
   -- ---- what stays in order
   pub IsInOrder-inserted : (ps : List (ℕ × V)) (x : ℕ) (v : V) → IsInOrder ps → IsInOrder (inserted ps x v)

@@ -44,6 +44,10 @@ module _ {V : Type 0} where
   abbrev pub not_inside : List (Columns × V) → Columns → List (Columns × V)
   not_inside ps z = filter (λ p. not (subset p.0 z)) ps
 
+  -- the pairs whose keys do not stand before x
+  abbrev pub from : Columns → List (Columns × V) → List (Columns × V)
+  from x ps = filter (λ p. not (is_lt (report_cmp p.0 x))) ps
+
   -- the pairs, with the value v for each of these column sets that is no key
   abbrev pub added : List (Columns × V) → List Columns → V → List (Columns × V)
   added ps [] v = ps

@@ -3,7 +3,7 @@ ghost use Rattle.std.specs.Prelude.{◌≡◌, [], Bool, OnOk, OnErr, IfOk, IsTr
 ghost use Rattle.std.specs.List.{find, list_any};
 ghost use Rattle.col_set.specs.ColSet.{Columns, subset, report_cmp};
 ghost use Rattle.col_set.specs.Lists.{Rises};
-ghost use Rattle.set_tree.specs.Pairs.{IsInOrder, keys, is_key, value_at, inserted, with_value, without_key, with_values, inside, not_inside, added};
+ghost use Rattle.set_tree.specs.Pairs.{IsInOrder, keys, is_key, value_at, inserted, with_value, without_key, with_values, inside, not_inside, added, from};
 
 use crate::place::place_of;
 use col_set::ColSet;
@@ -201,13 +201,36 @@ impl<V: Copy> SetTree<V> {
         requires { F.IsAlwaysCallable test }
         ensures { (p : Columns × V → Bool) → ((x : Columns) (v : V) (b : Bool) → F.post test x v b → b ≡ p (x, v)) → result ≡ find p self.now }
     {
-        for pair in self.pairs.as_slice() {
-            if test(pair.0, pair.1) {
-                return Some(*pair);
-            }
-        }
-        None
+        first_in(self.pairs.as_slice(), test)
     }
+
+    /// The first pair in report order, from x on, that meets the test.
+    ///
+    /// It looks up where x stands or would stand, and takes a step a pair from there.
+    pub fn first_from<F: Fn(ColSet, V) -> bool>(&self, x: ColSet, test: F) -> Option<(ColSet, V)>
+        requires { F.IsAlwaysCallable test }
+        ensures found { (p : Columns × V → Bool) → ((x : Columns) (v : V) (b : Bool) → F.post test x v b → b ≡ p (x, v)) → result ≡ find p (from x self.now) }
+        ensures order { IsInOrder self.now }
+    {
+        let place = match place_of(self.pairs.as_slice(), x) {
+            Ok(place) => place,
+            Err(place) => place,
+        };
+        first_in(&self.pairs[place..], test)
+    }
+}
+
+// The first of these pairs that meets the test.
+fn first_in<V: Copy, F: Fn(ColSet, V) -> bool>(pairs: &[(ColSet, V)], test: F) -> Option<(ColSet, V)>
+    requires { F.IsAlwaysCallable test }
+    ensures { (p : Columns × V → Bool) → ((x : Columns) (v : V) (b : Bool) → F.post test x v b → b ≡ p (x, v)) → result ≡ find p pairs.now }
+{
+    for pair in pairs {
+        if test(pair.0, pair.1) {
+            return Some(*pair);
+        }
+    }
+    None
 }
 
 // These pairs and those of the column sets that are no keys among them, in report order.

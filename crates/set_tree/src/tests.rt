@@ -18,6 +18,9 @@ fn subsets_are_taken_in_report_order(rt: HostRuntime) -> Result<(), Fail> {
     assert!(rt; tree.list(alloc)?.as_slice() == [(one, 7), (third, 6), (both, 5)].as_slice());
     assert!(rt; tree.first(|set, value| set.len() == 2 || value == 6) == Some((third, 6)));
     assert!(rt; tree.first(|_, value| value == 8) == None);
+    assert!(rt; tree.first_from(third, |_, _| true) == Some((third, 6)));
+    assert!(rt; tree.first_from(third, |_, value| value != 6) == Some((both, 5)));
+    assert!(rt; tree.first_from(one.with(2), |_, _| true) == None);
     assert!(rt; tree.any_subset_of(both));
     let taken = tree.take_subsets_of(alloc, both)?;
     assert!(rt; taken.as_slice() == [(one, 7), (both, 5)].as_slice());
