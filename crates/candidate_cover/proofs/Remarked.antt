@@ -42,7 +42,7 @@ from-cands x (p ∷ ps) = by (not (is_lt (report_cmp p.0 x))) (from-cands x ps)
     by false e = e
 
 -- no set stands before the empty one
-empty_first : (x : ℕ) → is_lt (report_cmp x 0) ≡ false
+pub empty_first : (x : ℕ) → is_lt (report_cmp x 0) ≡ false
 unfolding report_cmp size columns
 empty_first x = by (columns x)
   where

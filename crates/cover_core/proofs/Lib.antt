@@ -7,6 +7,7 @@ pub mod Measure
 pub mod Booking
 pub mod Refuting
 pub mod Calls
+pub mod Cursors
 pub mod Upto
 pub mod Whole
 pub mod Turn

@@ -3,5 +3,6 @@ pub mod Evidences
 pub mod Kept
 pub mod Tests
 pub mod NewLists
+pub mod Past
 pub mod Replies
 pub mod Work

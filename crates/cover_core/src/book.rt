@@ -16,6 +16,7 @@ ghost use Rattle.cover_core.specs.Work.{Extends, work};
 ghost use Rattle.cover_core.specs.Replies.{reply_of_draw, reply_of_refutation, reply_of_mark, reply_of_release, reply_of_batch, reply_of_settle, IfJob, IfReady};
 
 use crate::answers::{Draw, Refutation, Release, Settling};
+use crate::cursor::Cursors;
 use crate::evidence::{Evidence, is_told, news_of, push_evidence};
 use crate::listed::listed;
 use crate::parts::{drafted, put_all, specialised};
@@ -48,6 +49,7 @@ pub struct Book {
     candidates: CandidateCover,
     snapshot: Arc<Snapshot>,
     store: Store,
+    cursors: Cursors,
     alloc: Global,
 }
 
@@ -55,12 +57,13 @@ impl Model for Book {
     ghost use Rattle.std.specs.Prelude.{◌≡◌};
     ghost use Rattle.cover_steps.specs.Core.{Core};
     ghost use Rattle.cover_core.specs.Kept.{IsBook};
+    ghost use Rattle.cover_core.specs.Past.{ArePast};
 
     ghost Value = { Core };
 
     ghost view = { λ b. record { rows = b.rows; witnesses = b.witnesses; candidates = b.candidates } };
 
-    ghost invariant = { λ b. IsBook (record { rows = b.rows; witnesses = b.witnesses; candidates = b.candidates }) b.snapshot.value × (b.store ≡ b.snapshot.value) };
+    ghost invariant = { λ b. IsBook (record { rows = b.rows; witnesses = b.witnesses; candidates = b.candidates }) b.snapshot.value × (b.store ≡ b.snapshot.value) × ArePast (record { rows = b.rows; witnesses = b.witnesses; candidates = b.candidates }) b.cursors };
 }
 
 impl Book {
@@ -95,14 +98,16 @@ impl Book {
             candidates,
             snapshot,
             store,
+            cursors: Cursors::start(),
             alloc,
         })
     }
 
     /// The first candidate, by target and in report order, that is unfinished and not held, as a job; it is held from then on.
     ///
-    /// It takes a step a candidate before that one. It fails only where no further owner of the snapshot can be counted, and
-    /// then nothing changed.
+    /// It goes on from where the last draw ended: candidates that are finished or held are passed over once, and again only after
+    /// a call that made new candidates, applied a batch, gave a job back or marked one that came late. It fails only where no
+    /// further owner of the snapshot can be counted, and then nothing changed.
     pub fn draw(&mut self) -> Result<Draw, AllocError>
         ensures step { IfOk result (λ draw. steps.Drawing self.old (reply_of_draw draw) self.new) }
         ensures refused { OnErr result (self.new ≡ self.old) }
@@ -112,20 +117,23 @@ impl Book {
         ensures sound { Sound self.new }
     {
         let next = self.rows.next();
-        match first_drawable(&self.candidates, next) {
+        match first_drawable(&self.candidates, &mut self.cursors.drawable, next) {
             Some((target, cand)) => {
                 let snapshot = self.snapshot.clone()?;
                 self.candidates.hold(target, cand.left, true);
                 let job = Job::of(target, cand.left, cand.upto, next, snapshot);
                 Ok(Draw::Job(job))
             }
-            None => Ok(match first_unfinished(&self.candidates, next) {
-                Some((target, cand)) => Draw::Busy {
-                    target,
-                    left: cand.left,
-                },
-                None => Draw::Settled,
-            }),
+            None => {
+                let first = first_unfinished(&self.candidates, &mut self.cursors.unfinished, next);
+                Ok(match first {
+                    Some((target, cand)) => Draw::Busy {
+                        target,
+                        left: cand.left,
+                    },
+                    None => Draw::Settled,
+                })
+            }
         }
     }
 
@@ -154,11 +162,12 @@ impl Book {
         let parts = specialised(self.alloc, &self.candidates, agree)?;
         self.witnesses.add(Witness { i, j, agree })?;
         put_all(&mut self.candidates, parts);
+        self.cursors = Cursors::start();
         Ok(Refutation::Booked)
     }
 
     /// Says that a job's dependency holds in the job's snapshot: its candidate, where it is still in the cover, is known to
-    /// hold below the job's `to`, and is not held any more. It takes no memory, and a step a candidate of the target.
+    /// hold below the job's `to`, and is not held any more. It takes no memory, and looks the candidate up.
     pub fn mark(&mut self, job: &Job) -> Marking
         requires fits { Fits self.old.rows job.now }
         requires holds { holds_in job.now.snapshot job.now.left job.now.target ≡ true }
@@ -167,11 +176,13 @@ impl Book {
         ensures fits { (other : JobParts) → Fits self.old.rows other → Fits self.new.rows other }
         ensures sound { Sound self.new }
     {
-        self.candidates.mark(job.target(), job.left(), job.to())
+        let to = job.to();
+        self.cursors = self.cursors.let_go(to < self.rows.next());
+        self.candidates.mark(job.target(), job.left(), to)
     }
 
-    /// Gives a job back: its candidate, where it is still in the cover, is not held any more. It takes no memory, and a step
-    /// a candidate of the target.
+    /// Gives a job back: its candidate, where it is still in the cover, is not held any more. It takes no memory, and looks the
+    /// candidate up.
     pub fn release(&mut self, job: &Job) -> Release
         requires target { IsColumnTarget (width self.old.rows) job.now.target }
         requires left { job.now.left < 2 ^ width self.old.rows }
@@ -180,6 +191,7 @@ impl Book {
         ensures fits { (other : JobParts) → Fits self.old.rows other → Fits self.new.rows other }
         ensures sound { Sound self.new }
     {
+        self.cursors = self.cursors.let_go(true);
         if self.candidates.hold(job.target(), job.left(), false) {
             Release::Released
         } else {
@@ -216,6 +228,7 @@ impl Book {
                 put_all(&mut self.candidates, made.parts);
                 self.snapshot = made.snapshot;
                 self.store = made.store;
+                self.cursors = Cursors::start();
                 answer
             }
             Err(_) => {
@@ -231,7 +244,7 @@ impl Book {
         ensures step { IfOk result (λ settling. steps.Settling self.now (reply_of_settle settling) self.now) }
         ensures exact { IfOk result (λ settling. IfReady settling (λ found. found ≡ covers self.now.rows)) }
     {
-        match first_unfinished(&self.candidates, self.rows.next()) {
+        match self.some_unfinished() {
             Some((target, cand)) => Ok(Settling::NotYet {
                 target,
                 left: cand.left,
@@ -245,7 +258,15 @@ impl Book {
     pub fn settled(&self) -> bool
         ensures { IsTrue result ↔ (first_unfinished_of self.now ≡ None) }
     {
-        first_unfinished(&self.candidates, self.rows.next()).is_none()
+        self.some_unfinished().is_none()
+    }
+
+    // The first unfinished candidate.
+    fn some_unfinished(&self) -> Option<(Target, Cand)>
+        ensures { result ≡ first_unfinished_of self.now }
+    {
+        let mut cursor = self.cursors.unfinished;
+        first_unfinished(&self.candidates, &mut cursor, self.rows.next())
     }
 
     /// Finds the covers of the rows (HyFD, Papenbrock and Naumann, 2016).
@@ -281,6 +302,7 @@ impl Book {
         ensures sound { Sound self.new }
     {
         self.candidates.free();
+        self.cursors = Cursors::start();
     }
 
     // Validates candidates in passes, until a pass finds no evidence against any.
@@ -383,6 +405,7 @@ impl Book {
         let parts = drafted(alloc, &self.candidates, &news.draft)?;
         self.witnesses.add_all(news.witnesses.as_slice())?;
         put_all(&mut self.candidates, parts);
+        self.cursors = Cursors::start();
         Ok(())
     }
 
@@ -395,7 +418,8 @@ impl Book {
         ensures sound { Sound self.new }
     {
         let next = self.rows.next();
-        let Some((target, cand)) = first_unfinished(&self.candidates, next) else {
+        let found = first_unfinished(&self.candidates, &mut self.cursors.unfinished, next);
+        let Some((target, cand)) = found else {
             return Ok(false);
         };
         let job = Job::of(target, cand.left, cand.upto, next, self.snapshot.clone()?);

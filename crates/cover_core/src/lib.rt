@@ -4,6 +4,7 @@
 
 mod answers;
 mod book;
+mod cursor;
 mod ended;
 mod evidence;
 mod listed;

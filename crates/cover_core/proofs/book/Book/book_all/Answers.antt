@@ -4,6 +4,7 @@ use Rattle.negative_cover.specs.declared.negative_cover.Witness.{Witness}
 use Rattle.cover_steps.specs.Core.{Core}
 use Rattle.cover_core.specs.Evidences.{IsEvidence}
 use Rattle.cover_core.proofs.Passes.{Extends-same, IsBook-all}
+use Rattle.cover_core.proofs.Cursors.{past-both}
 use Rattle.cover_core.proofs.book.Book.book_all.Goals as goal
 
 pub returns-in_err-add_all-clause-witnesses : goal.returns-in_err-add_all-clause-witnesses
@@ -15,6 +16,7 @@ invariant_of-self-2 c = (
       (c.in_ok-news.ensures _ (subst (λ (m : Core). All (IsEvidence m.rows) c.args.found.items) (sym c.self.view_is) c.requires)) c.put_all.new.candidates (c.put_all.ensures _ c.in_ok-parts.ensures) c.add_all.new.self
       (c.in_ok-add_all.ensures.ok ∙ ap (λ (ws : List Witness). c.self.inside.witnesses ++ ws) c.as_slice.ensures.value),
   c.self.invariant.1,
+  past-both _ c.start-self-inside.result c.start-self-inside.ensures.unfinished c.start-self-inside.ensures.drawable,
 )
 
 pub returns-clause-sound : goal.returns-clause-sound

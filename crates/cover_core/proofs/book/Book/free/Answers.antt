@@ -1,8 +1,9 @@
 use Rattle.cover_core.proofs.Freeing.{IsBook-free, none_held, still_settled}
+use Rattle.cover_core.proofs.Cursors.{past-both}
 use Rattle.cover_core.proofs.book.Book.free.Goals as goal
 
 pub invariant_of-self : goal.invariant_of-self
-invariant_of-self c = (IsBook-free _ _ _ c.self.invariant.0 c.self.view_is _ c.free.ensures, c.self.invariant.1)
+invariant_of-self c = (IsBook-free _ _ _ c.self.invariant.0 c.self.view_is _ c.free.ensures, c.self.invariant.1, past-both _ c.start-self-inside.result c.start-self-inside.ensures.unfinished c.start-self-inside.ensures.drawable)
 
 pub returns-clause-free : goal.returns-clause-free
 returns-clause-free c = none_held _ _ _ c.self.invariant.0 c.self.view_is _ c.free.ensures

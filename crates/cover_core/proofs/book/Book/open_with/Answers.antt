@@ -4,6 +4,7 @@ use Rattle.negative_cover.specs.declared.negative_cover.Witness.{Witness}
 use Rattle.cover_steps.specs.Core.{one_each}
 use Rattle.cover_core.specs.Kept.{IsBook}
 use Rattle.cover_core.proofs.Calls.{IsBook-opened}
+use Rattle.cover_core.proofs.Cursors.{past-both}
 use Rattle.cover_core.proofs.book.Book.open_with.Goals as goal
 
 pub invariant_of-result : goal.invariant_of-result
@@ -12,4 +13,5 @@ invariant_of-result c = (
       (IsBook-opened c.in_ok-rows.rows c.in_ok-candidates.candidates c.in_ok-snapshot.snapshot.value c.names-names.ensures.state (subst IsCodeTable c.deref.ensures c.columns.ensures.bounds) c.in_ok-snapshot.ensures
       (c.in_ok-candidates.ensures ∙ ap one_each (c.columns.ensures.value ∙ ap (λ (t : CodeTable). length t.codes) c.deref.ensures))),
   c.in_ok-store.ensures,
+  past-both _ c.start.result c.start.ensures.unfinished c.start.ensures.drawable,
 )

@@ -1,6 +1,7 @@
 use Rattle.std.proofs.Common.{◌≡◌, ◌∙◌, sym, ap, cond}
 use Rattle.cover_core.specs.declared.answers.Release.TheVariants as releases
 use Rattle.cover_core.proofs.Whole.{ReleaseAll, release-all}
+use Rattle.cover_core.proofs.Cursors.{past-released, target-of}
 use Rattle.cover_core.proofs.book.Book.release.Goals as goal
 use Rattle.cover_core.proofs.book.Book.release.Goals.{Joined-hold, then-hold, else-hold}
 
@@ -14,7 +15,9 @@ all : (c : Joined-hold) → ReleaseAll _ _ _ c.self.invariant.0 c.self.view_is c
 all c = release-all _ _ _ c.self.invariant.0 c.self.view_is c.args.job.now c.target.result c.left.result c.hold.result c.if-hold.result c.hold.new.self c.target.ensures c.left.ensures c.requires.target c.hold.ensures.answer (told c) c.hold.ensures.list
 
 pub invariant_of-self : goal.invariant_of-self
-invariant_of-self c = ((all c).kept, c.self.invariant.1)
+invariant_of-self c = ((all c).kept, c.self.invariant.1,
+    past-released (record { rows = c.self.inside.rows; witnesses = c.self.inside.witnesses; candidates = c.self.inside.candidates }) c.target.result c.left.result c.hold.new.self (target-of _ _ _ c.self.invariant.0 c.self.view_is c.target.result _ c.target.ensures c.requires.target) c.self.inside.cursors c.let_go-self-inside.result
+        c.let_go-self-inside.ensures.unfinished c.let_go-self-inside.ensures.drawable c.hold.ensures.list c.self.invariant.2)
 
 pub returns-clause-step : goal.returns-clause-step
 returns-clause-step c = (all c).step
