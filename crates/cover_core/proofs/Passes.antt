@@ -20,6 +20,8 @@ use Rattle.cover_steps.proofs.Fitting.{Fits-shown}
 use Rattle.cover_steps.proofs.Keeping.{Sound-renewed, Follows-itself, cand-least, cand-marked}
 use Rattle.validator.specs.Verdicts.{IsFitting}
 use Rattle.cover_core.specs.Evidences.{IsNews}
+use Rattle.cover_core.specs.Waiting.{IsWaiting}
+use Rattle.cover_core.specs.declared.waiting.Waiting.{Waiting}
 use Rattle.cover_core.specs.Kept.{IsBook}
 use Rattle.cover_core.specs.Work.{Extends}
 use Rattle.cover_core.proofs.Booking.{job_of, IsFitting-fits}
@@ -70,16 +72,22 @@ module _ (s now : Core) (table : CodeTable) (book : IsBook s table) (view : s �
   pub judged-fitting : IsFitting job
   judged-fitting = IsFitting-fits s.rows job judged-fits
 
--- ---- the candidates of a target
-module _ (s now : Core) (table : CodeTable) (book : IsBook s table) (view : s ≡ now) (t : Target) (target : IsColumnTarget (width now.rows) t) (list : List Cand) (is : list ≡ cands s t) (k : ℕ) (c : Cand) (l : k < length list) (at : c ≡ get_or list k c) where
-  listed : Listed c (cands s t)
-  listed = subst (λ (cs : List Cand). Listed c cs) is (subst (λ (d : Cand). Listed d list) (sym at) (Listed-get_or list k c l))
+-- ---- the candidates of a pass
+module _ (s now : Core) (table : CodeTable) (book : IsBook s table) (view : s ≡ now) (list : List Waiting) (all : All (IsWaiting s.candidates) list) (k : ℕ) (w : Waiting) (l : k < length list) (at : w ≡ get_or list k w) (r : RowState) (e : r ≡ now.rows) where
+  waits : IsWaiting s.candidates w
+  waits = subst (IsWaiting s.candidates) (sym at) (all k w l)
 
-  own : IsColumnTarget (width s.rows) t
-  own = subst (λ (m : Core). IsColumnTarget (width m.rows) t) (sym view) target
+  own : IsColumnTarget (width s.rows) w.target
+  own = subst (λ (n : ℕ). IsColumnTarget n w.target) book.sound.columns waits.target
 
-  pub cand_left : (r : RowState) → r ≡ now.rows → c.left < 2 ^ width r
-  cand_left r e = subst (λ (r : RowState). c.left < 2 ^ width r) (ap (λ (m : Core). m.rows) view ∙ sym e) (cand-least s t c book.sound own listed).below
+  rows : s.rows ≡ r
+  rows = ap (λ (m : Core). m.rows) view ∙ sym e
 
-  pub cand_marked : (r : RowState) → r ≡ now.rows → IsMarked r t c
-  cand_marked r e = subst (λ (r : RowState). IsMarked r t c) (ap (λ (m : Core). m.rows) view ∙ sym e) (cand-marked s t c book.sound own listed)
+  pub waiting-target : IsColumnTarget (width r) w.target
+  waiting-target = subst (λ (r : RowState). IsColumnTarget (width r) w.target) rows own
+
+  pub waiting-left : w.cand.left < 2 ^ width r
+  waiting-left = subst (λ (r : RowState). w.cand.left < 2 ^ width r) rows (cand-least s w.target w.cand book.sound own waits.listed).below
+
+  pub waiting-marked : IsMarked r w.target w.cand
+  waiting-marked = subst (λ (r : RowState). IsMarked r w.target w.cand) rows (cand-marked s w.target w.cand book.sound own waits.listed)

@@ -6,3 +6,4 @@ pub mod NewLists
 pub mod Past
 pub mod Replies
 pub mod Work
+pub mod Waiting

@@ -17,13 +17,15 @@ ghost use Rattle.cover_core.specs.Replies.{reply_of_draw, reply_of_refutation, r
 
 use crate::answers::{Draw, Refutation, Release, Settling};
 use crate::cursor::Cursors;
-use crate::evidence::{Evidence, is_told, news_of, push_evidence};
+use crate::evidence::{Evidence, is_told, news_of, push_evidence, recent};
 use crate::listed::listed;
+use crate::order::Order;
 use crate::parts::{drafted, put_all, specialised};
 use crate::renewal::renewed_after;
 use crate::sampling::sampled;
 use crate::searching::{first_drawable, first_unfinished, refutes_some};
 use crate::verdict::{breaches_on, store_of, verdict_on};
+use crate::waiting::of_size;
 use candidate_cover::{Cand, CandidateCover, Marking};
 use negative_cover::{NegativeCover, Witness};
 use rel_base::{Batch, Covers, Job, Limits, Nulls, Relation, RowNo, Snapshot, Target};
@@ -33,10 +35,6 @@ use std::marker::{Brand, Model};
 use std::sync::Arc;
 use std::sync::ledger::Blank;
 use validator::{Store, Verdict};
-
-// After so many passes one candidate after another is validated. Each pass refutes sets of one column more at least, so that
-// there are hardly more passes than columns.
-const MOST_PASSES: u32 = 1000;
 
 /// The rows of a relation, the witnesses that refute dependencies, and for each target the candidates that they leave.
 ///
@@ -271,10 +269,12 @@ impl Book {
 
     /// Finds the covers of the rows (HyFD, Papenbrock and Naumann, 2016).
     ///
-    /// It lets go of all candidates, so that none is held when it answers; jobs that are out may still come back. A book without witnesses begins with pairs of rows that stand near each other, whose agree sets refute most of what does
-    /// not hold. Then the candidates of one target after another are validated; of those that fail, pairs of rows from many
-    /// groups are booked at once, and what comes new is validated in the next pass, until each candidate is known to hold in all
-    /// rows. So its time is mostly that of the verdicts: one for each minimal dependency, and some for those that fail.
+    /// It lets go of all candidates, so that none is held when it answers; jobs that are out may still come back. A book without
+    /// witnesses begins with pairs of rows that stand near each other, whose agree sets refute most of what does not hold. Then the
+    /// candidates of all targets are validated, those with fewer columns first, and left sides that begin with the same columns one
+    /// after another, so that their verdicts share the groups of rows. Of those that fail, pairs of rows from many groups are booked
+    /// at once after each size. So its time is mostly that of the verdicts: one for each minimal dependency, and some for those that
+    /// fail.
     ///
     /// After want of memory the rows are the same, and the book is sound, with all witnesses that were booked so far.
     pub fn finish(&mut self) -> Result<Covers, AllocError>
@@ -305,7 +305,8 @@ impl Book {
         self.cursors = Cursors::start();
     }
 
-    // Validates candidates in passes, until a pass finds no evidence against any.
+    // Validates the unfinished candidates, those with fewer columns first. What evidence leaves of those that fail has one column
+    // more, so that it comes with the next pass.
     fn search(&mut self) -> Result<(), AllocError>
         ensures rows { self.new.rows ≡ self.old.rows }
         ensures witnesses { Extends self.old.witnesses self.new.witnesses }
@@ -314,10 +315,13 @@ impl Book {
         if self.witnesses.is_empty() {
             self.sample()?;
         }
-        for _ in 0..MOST_PASSES {
-            if !self.pass()? {
-                return Ok(());
-            }
+        if self.settled() {
+            return Ok(());
+        }
+        let weights = self.store.weights(self.alloc)?;
+        let order = Order::of(&weights);
+        for size in 0..=self.candidates.columns() {
+            self.pass(&order, size as u32)?;
         }
         Ok(())
     }
@@ -332,33 +336,18 @@ impl Book {
         self.book_all(found)
     }
 
-    // Validates the unfinished candidates of each target, and tells whether evidence against some was booked.
-    fn pass(&mut self) -> Result<bool, AllocError>
-        ensures rows { self.new.rows ≡ self.old.rows }
-        ensures witnesses { Extends self.old.witnesses self.new.witnesses }
-        ensures sound { Sound self.new }
-    {
-        let before = self.witnesses.len();
-        self.pass_over(Target::RowId)?;
-        for column in 0..self.candidates.columns() {
-            self.pass_over(Target::Col(column))?;
-        }
-        Ok(self.witnesses.len() > before)
-    }
-
-    // Validates the unfinished candidates of a target that no evidence against an earlier one refutes, and books the evidence.
-    fn pass_over(&mut self, target: Target) -> Result<(), AllocError>
-        requires { IsColumnTarget (width self.old.rows) target }
+    // Validates the unfinished candidates with so many columns that no evidence just found refutes, and books the evidence.
+    fn pass(&mut self, order: &Order, size: u32) -> Result<(), AllocError>
         ensures rows { self.new.rows ≡ self.old.rows }
         ensures witnesses { Extends self.old.witnesses self.new.witnesses }
         ensures sound { Sound self.new }
     {
         let next = self.rows.next();
-        let list = self.candidates.list(self.alloc, target)?;
+        let list = of_size(self.alloc, &self.candidates, order, size, next)?;
         let mut found = Vec::new(self.alloc);
-        for cand in list.as_slice() {
-            if cand.upto < next && !is_told(found.as_slice(), target, cand.left) {
-                self.judge(target, *cand, &mut found)?;
+        for waiting in list.as_slice() {
+            if !is_told(recent(found.as_slice()), waiting.target, waiting.cand.left) {
+                self.judge(waiting.target, waiting.cand, &mut found)?;
             }
         }
         self.book_all(found)

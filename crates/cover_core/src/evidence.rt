@@ -84,6 +84,14 @@ pub(crate) fn is_told(found: &[Evidence], target: Target, left: ColSet) -> bool
         && !evidence.agree.has_target(target))
 }
 
+// How much of the evidence that was found last is looked at before a verdict.
+const RECENT: usize = 512;
+
+// The evidence that was found last.
+pub(crate) fn recent(found: &[Evidence]) -> &[Evidence] {
+    &found[found.len().saturating_sub(RECENT)..]
+}
+
 // The agree sets of the witnesses.
 fn sets_of(alloc: Global, witnesses: &NegativeCover) -> Result<Vec<ColSet>, AllocError>
     ensures { IfOk result (λ found. found.items ≡ sets.sets_of witnesses.now) }

@@ -8,6 +8,7 @@ mod cursor;
 mod ended;
 mod evidence;
 mod listed;
+mod order;
 mod parts;
 mod renewal;
 mod sampling;
@@ -15,6 +16,7 @@ mod searching;
 #[cfg(test)]
 mod tests;
 mod verdict;
+mod waiting;
 
 pub use answers::{Draw, Refutation, Release, Settling};
 pub use book::Book;

@@ -1,7 +1,9 @@
 // Verdicts that start from kept partitions.
-ghost use Rattle.std.specs.Prelude.{◌≡◌, ◌<◌, ◌≤◌, ◌+◌, ◌↔◌, [], true, vec_len, IfOk};
+ghost use Rattle.std.specs.Prelude.{◌≡◌, ◌<◌, ◌≤◌, ◌+◌, ◌↔◌, ℕ, [], true, length, slice_index, vec_len, IfOk};
 ghost use Rattle.std.specs.List.{All};
+ghost use Rattle.col_set.specs.ColSet.{empty, with};
 ghost use Rattle.rel_base.specs.Shows.{holds_in};
+ghost use Rattle.stripped_partition.specs.Stripped.{stripped, error_of};
 ghost use Rattle.validator.specs.Verdicts.{AreApart, AreFound, IsFitting, IsVerdict, new_rows};
 ghost use Rattle.validator.specs.declared.verdict.Verdict.TheVariants.{Holds, Broken};
 
@@ -12,6 +14,7 @@ use std::alloc::{AllocError, Global};
 use std::marker::Model;
 use std::sync::Arc;
 use std::sync::ledger::Ledger;
+use stripped_partition::Partition;
 
 /// Stripped partitions of one snapshot by small column sets, which verdicts start from. One worker owns it.
 ///
@@ -100,6 +103,19 @@ impl Store {
         ensures store { self.new ≡ self.old }
     {
         self.search(alloc, job, most, steps)
+    }
+
+    /// For each column how many rows it does not tell from an earlier one.
+    pub fn weights(&mut self, alloc: Global) -> Result<[u32; 128], AllocError>
+        ensures weights { IfOk result (λ weights. (c : ℕ) → c < length self.old.codes → slice_index weights c ≡ error_of (stripped self.old (with empty c))) }
+        ensures store { self.new ≡ self.old }
+    {
+        let mut weights = [0; 128];
+        for column in 0..self.snapshot.columns() {
+            weights[column as usize] =
+                Partition::of_column(alloc, &self.snapshot, column)?.error_count();
+        }
+        Ok(weights)
     }
 
     // Searches for pairs that break a job's dependency, and keeps the small ones of the partitions that are made for it.

@@ -3,6 +3,7 @@ ghost use Rattle.std.specs.Prelude.{◌≡◌, ◌≤◌, ◌<◌, ◌+◌, true
 ghost use Rattle.cover_core.specs.Tests.{AreNear};
 
 use super::{columns, finish, insert, is_busy, letters};
+use crate::cursor::Cursor;
 use crate::searching::first_unfinished;
 use crate::{Book, Draw};
 use rel_base::{Job, RowNo, Steps, Target};
@@ -21,7 +22,8 @@ fn are_near(book: &Book) -> bool
     if next < 2 {
         return false;
     }
-    first_unfinished(book.candidates(), RowNo::of(next - 1)).is_none()
+    let mut cursor = Cursor::start();
+    first_unfinished(book.candidates(), &mut cursor, RowNo::of(next - 1)).is_none()
 }
 
 // The jobs that were drawn, each with its verdict, and the first answer that was none.

@@ -1,0 +1,42 @@
+// The order in which candidates are validated.
+
+use rel_base::ColSet;
+
+// Columns in the order of how many rows they tell apart, those that tell the most first.
+//
+// A verdict groups the rows by the columns of the left side in this order, and keeps the groups for the next one. So left sides
+// are validated next to each other that have the same columns at their beginning.
+#[derive(Clone, Copy)]
+pub(crate) struct Order {
+    // For each column its place, as the set that has the place alone.
+    places: [ColSet; 128],
+}
+
+impl Order {
+    // The order by these weights of the columns, the lightest first.
+    pub(crate) fn of(weights: &[u32; 128]) -> Order {
+        let mut columns = [(0u32, 0u8); 128];
+        for (column, weight) in weights.iter().enumerate() {
+            columns[column] = (*weight, column as u8);
+        }
+        columns.sort_unstable();
+        let mut places = [ColSet::empty(); 128];
+        for (place, column) in columns.iter().enumerate() {
+            if let Some(own) = places.get_mut(column.1 as usize) {
+                *own = ColSet::empty().with(place as u8);
+            }
+        }
+        Order { places }
+    }
+
+    // The places of the columns of a set. In report order, sets of as many columns stand by the first place in which they differ.
+    pub(crate) fn places_of(&self, set: ColSet) -> ColSet {
+        let mut found = ColSet::empty();
+        let mut left = set;
+        while let Some(column) = left.first() {
+            found = found.union(self.places[column as usize]);
+            left = left.without(column);
+        }
+        found
+    }
+}
