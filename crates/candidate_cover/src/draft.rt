@@ -10,7 +10,7 @@ ghost use Rattle.candidate_cover.specs.Growth.{ListsLeast};
 ghost use Rattle.candidate_cover.specs.Drafts as drafts;
 ghost use Rattle.candidate_cover.specs.Drafts.{Drafted, AreDrafted, AreGrown, lists_behind};
 
-use crate::growth::{choices, grown, inside, near};
+use crate::growth::{choices, grown};
 use crate::part::sorted;
 use rel_base::{ColSet, Target};
 use std::alloc::{AllocError, Global};
@@ -143,6 +143,39 @@ fn known_by(agree_sets: &[ColSet], columns: u8, z: ColSet) -> Known
     }
 }
 
+// Takes the sets inside z out of the list, and copies those with exactly one column outside z. The rest keep their order.
+fn split_off(
+    sets: &mut Vec<ColSet>,
+    z: ColSet,
+    inner: &mut Vec<ColSet>,
+    nearby: &mut Vec<ColSet>,
+) -> Result<(), AllocError>
+    ensures inner { OnOk result (inner.new.items ≡ words.inside z sets.old.items) }
+    ensures nearby { OnOk result (nearby.new.items ≡ words.near z (words.outside z sets.old.items)) }
+    ensures rest { OnOk result (sets.new.items ≡ words.outside z sets.old.items) }
+{
+    inner.clear();
+    nearby.clear();
+    let mut kept = 0;
+    for place in 0..sets.len() {
+        let x = sets[place];
+        let out = x.minus(z);
+        if out == ColSet::empty() {
+            inner.push(x)?;
+        } else {
+            if out.len() == 1 {
+                nearby.push(x)?;
+            }
+            if kept < place {
+                sets[kept] = x;
+            }
+            kept += 1;
+        }
+    }
+    sets.truncate(kept);
+    Ok(())
+}
+
 // The least sets among the choices after a further agree set z that lacks the target.
 fn grow_past(
     alloc: Global,
@@ -156,9 +189,9 @@ fn grow_past(
     requires apart { has_target z target ≡ false }
     ensures { OnOk result ((ws : List ℕ) → ListsLeast (words.choices columns target) ws target sets.old.items → ListsLeast (words.choices columns target) (ws ++ z ∷ []) target sets.new.items) }
 {
-    let inner = inside(alloc, z, sets.as_slice())?;
-    sets.retain(|x| !x.subset_of(z));
-    let nearby = near(alloc, z, sets.as_slice())?;
+    let mut inner = Vec::new(alloc);
+    let mut nearby = Vec::new(alloc);
+    split_off(sets, z, &mut inner, &mut nearby)?;
     let choices = choices(columns, target);
     let more = grown(
         alloc,

@@ -27,19 +27,6 @@ pub(crate) fn has_subset(sets: &[ColSet], x: ColSet) -> bool
     sets.iter().any(|y| y.subset_of(x))
 }
 
-// The sets inside z.
-pub(crate) fn inside(alloc: Global, z: ColSet, sets: &[ColSet]) -> Result<Vec<ColSet>, AllocError>
-    ensures { IfOk result (λ found. found.items ≡ words.inside z sets.now) }
-{
-    let mut found = Vec::new(alloc);
-    for x in sets {
-        if x.subset_of(z) {
-            found.push(*x)?;
-        }
-    }
-    Ok(found)
-}
-
 // The sets with exactly one column outside z.
 pub(crate) fn near(alloc: Global, z: ColSet, sets: &[ColSet]) -> Result<Vec<ColSet>, AllocError>
     ensures { IfOk result (λ found. found.items ≡ words.near z sets.now) }
