@@ -275,8 +275,11 @@ grown_more n u z ins nears =
     ap (flat_map (λ k. if has u k && not (has z k) then grown_by ins nears k else [])) (upto_more n 0 ∙ ap (λ (i : ℕ). upto n ++ i ∷ []) (zero-add n))
     ∙ flat_map-append (λ k. if has u k && not (has z k) then grown_by ins nears k else []) (upto n) (n ∷ []) ∙ ap (λ ys. grown n u z ins nears ++ ys) (append-nil _)
 
-pub grown_push : (n u z : ℕ) (ins nears made new : List ℕ) → (has u n && not (has z n)) ≡ true → made ≡ grown n u z ins nears → new ≡ made ++ grown_by ins nears n → new ≡ grown (n + 1) u z ins nears
-grown_push n u z ins nears made new b e f = f ∙ ap (λ xs. xs ++ grown_by ins nears n) e ∙ sym (grown_more n u z ins nears ∙ ap (λ c. grown n u z ins nears ++ (if c then grown_by ins nears n else [])) b)
+pub grown_push : (n u z : ℕ) (ins nears old made new : List ℕ) → (has u n && not (has z n)) ≡ true → made ≡ old ++ grown n u z ins nears → new ≡ made ++ grown_by ins nears n → new ≡ old ++ grown (n + 1) u z ins nears
+grown_push n u z ins nears old made new b e f =
+    f ∙ ap (λ xs. xs ++ grown_by ins nears n) e ∙ append_assoc old (grown n u z ins nears) (grown_by ins nears n)
+    ∙ ap (λ xs. old ++ xs) (sym (grown_more n u z ins nears ∙ ap (λ c. grown n u z ins nears ++ (if c then grown_by ins nears n else [])) b))
 
-pub grown_skip : (n u z : ℕ) (ins nears made : List ℕ) → (has u n && not (has z n)) ≡ false → made ≡ grown n u z ins nears → made ≡ grown (n + 1) u z ins nears
-grown_skip n u z ins nears made b e = e ∙ sym (grown_more n u z ins nears ∙ ap (λ c. grown n u z ins nears ++ (if c then grown_by ins nears n else [])) b ∙ append-nil _)
+pub grown_skip : (n u z : ℕ) (ins nears old made : List ℕ) → (has u n && not (has z n)) ≡ false → made ≡ old ++ grown n u z ins nears → made ≡ old ++ grown (n + 1) u z ins nears
+grown_skip n u z ins nears old made b e =
+    e ∙ ap (λ xs. old ++ xs) (sym (grown_more n u z ins nears ∙ ap (λ c. grown n u z ins nears ++ (if c then grown_by ins nears n else [])) b ∙ append-nil _))

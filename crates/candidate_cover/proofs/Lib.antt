@@ -6,4 +6,5 @@ pub mod Exploring
 pub mod Parts
 pub mod Remarked
 pub mod Sorting
+pub mod Splitting
 pub mod Targets

@@ -10,7 +10,7 @@ ghost use Rattle.candidate_cover.specs.Growth.{ListsLeast};
 ghost use Rattle.candidate_cover.specs.Drafts as drafts;
 ghost use Rattle.candidate_cover.specs.Drafts.{Drafted, AreDrafted, AreGrown, lists_behind};
 
-use crate::growth::{choices, grown, inside, near};
+use crate::growth::{choices, push_all_grown};
 use crate::part::sorted;
 use rel_base::{ColSet, Target};
 use std::alloc::{AllocError, Global};
@@ -104,8 +104,9 @@ impl Draft {
         } = self;
         let count = columns.len() as u8;
         let known = known_by(agree_sets.as_slice(), count, z);
-        grow_unless(alloc, known.rows, count, Target::RowId, &mut rows, z)?;
-        grow_columns(alloc, known.columns, count, &mut columns, z)?;
+        let mut scratch = Scratch::new(alloc);
+        grow_unless(known.rows, count, Target::RowId, &mut rows, z, &mut scratch)?;
+        grow_columns(known.columns, count, &mut columns, z, &mut scratch)?;
         agree_sets.push(z)?;
         Ok(Draft {
             rows,
@@ -143,43 +144,91 @@ fn known_by(agree_sets: &[ColSet], columns: u8, z: ColSet) -> Known
     }
 }
 
+// Lists that are made anew for each target, in the same memory.
+#[derive(Drop)]
+struct Scratch {
+    inner: Vec<ColSet>,
+    nearby: Vec<ColSet>,
+    blockers: Vec<ColSet>,
+}
+
+impl Scratch {
+    fn new(alloc: Global) -> Scratch {
+        Scratch {
+            inner: Vec::new(alloc),
+            nearby: Vec::new(alloc),
+            blockers: Vec::new(alloc),
+        }
+    }
+}
+
+// Takes the sets inside z out of the list, and copies those with exactly one column outside z. The rest keep their order.
+fn split_off(
+    sets: &mut Vec<ColSet>,
+    z: ColSet,
+    inner: &mut Vec<ColSet>,
+    nearby: &mut Vec<ColSet>,
+) -> Result<(), AllocError>
+    ensures inner { OnOk result (inner.new.items ≡ words.inside z sets.old.items) }
+    ensures nearby { OnOk result (nearby.new.items ≡ words.near z (words.outside z sets.old.items)) }
+    ensures rest { OnOk result (sets.new.items ≡ words.outside z sets.old.items) }
+{
+    inner.clear();
+    nearby.clear();
+    let mut kept = 0;
+    for place in 0..sets.len() {
+        let x = sets[place];
+        let out = x.minus(z);
+        if out == ColSet::empty() {
+            inner.push(x)?;
+        } else {
+            if out.len() == 1 {
+                nearby.push(x)?;
+            }
+            if kept < place {
+                sets[kept] = x;
+            }
+            kept += 1;
+        }
+    }
+    sets.truncate(kept);
+    Ok(())
+}
+
 // The least sets among the choices after a further agree set z that lacks the target.
 fn grow_past(
-    alloc: Global,
     columns: u8,
     target: Target,
     sets: &mut Vec<ColSet>,
     z: ColSet,
+    scratch: &mut Scratch,
 ) -> Result<(), AllocError>
     requires columns { columns ≤ 128 }
     requires target { IsColumnTarget columns target }
     requires apart { has_target z target ≡ false }
     ensures { OnOk result ((ws : List ℕ) → ListsLeast (words.choices columns target) ws target sets.old.items → ListsLeast (words.choices columns target) (ws ++ z ∷ []) target sets.new.items) }
 {
-    let inner = inside(alloc, z, sets.as_slice())?;
-    sets.retain(|x| !x.subset_of(z));
-    let nearby = near(alloc, z, sets.as_slice())?;
+    split_off(sets, z, &mut scratch.inner, &mut scratch.nearby)?;
     let choices = choices(columns, target);
-    let more = grown(
-        alloc,
+    push_all_grown(
+        sets,
+        &mut scratch.blockers,
         columns,
         choices,
         z,
-        inner.as_slice(),
-        nearby.as_slice(),
-    )?;
-    sets.extend_from_slice(more.as_slice())?;
-    Ok(())
+        scratch.inner.as_slice(),
+        scratch.nearby.as_slice(),
+    )
 }
 
 // The same, where an agree set that lacks the target may be known to contain z, or z may have the target.
 fn grow_unless(
-    alloc: Global,
     known: bool,
     columns: u8,
     target: Target,
     sets: &mut Vec<ColSet>,
     z: ColSet,
+    scratch: &mut Scratch,
 ) -> Result<(), AllocError>
     requires columns { columns ≤ 128 }
     requires target { IsColumnTarget columns target }
@@ -188,16 +237,16 @@ fn grow_unless(
     if known || z.has_target(target) {
         return Ok(());
     }
-    grow_past(alloc, columns, target, sets, z)
+    grow_past(columns, target, sets, z, scratch)
 }
 
 // The same for the lists of all columns.
 fn grow_columns(
-    alloc: Global,
     known: ColSet,
     count: u8,
     columns: &mut Vec<Vec<ColSet>>,
     z: ColSet,
+    scratch: &mut Scratch,
 ) -> Result<(), AllocError>
     requires bound { count ≤ 128 }
     requires count { length columns.old.items ≡ count }
@@ -206,12 +255,12 @@ fn grow_columns(
     for column in 0..count {
         let sets = &mut columns[column as usize];
         grow_unless(
-            alloc,
             known.has(column),
             count,
             Target::Col(column),
             sets,
             z,
+            scratch,
         )?;
     }
     Ok(())

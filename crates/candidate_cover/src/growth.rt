@@ -27,19 +27,6 @@ pub(crate) fn has_subset(sets: &[ColSet], x: ColSet) -> bool
     sets.iter().any(|y| y.subset_of(x))
 }
 
-// The sets inside z.
-pub(crate) fn inside(alloc: Global, z: ColSet, sets: &[ColSet]) -> Result<Vec<ColSet>, AllocError>
-    ensures { IfOk result (λ found. found.items ≡ words.inside z sets.now) }
-{
-    let mut found = Vec::new(alloc);
-    for x in sets {
-        if x.subset_of(z) {
-            found.push(*x)?;
-        }
-    }
-    Ok(found)
-}
-
 // The sets with exactly one column outside z.
 pub(crate) fn near(alloc: Global, z: ColSet, sets: &[ColSet]) -> Result<Vec<ColSet>, AllocError>
     ensures { IfOk result (λ found. found.items ≡ words.near z sets.now) }
@@ -53,18 +40,18 @@ pub(crate) fn near(alloc: Global, z: ColSet, sets: &[ColSet]) -> Result<Vec<ColS
     Ok(found)
 }
 
-// The sets that have the column.
-fn having(alloc: Global, column: u8, sets: &[ColSet]) -> Result<Vec<ColSet>, AllocError>
+// Makes the list that of the sets that have the column.
+fn fill_having(found: &mut Vec<ColSet>, column: u8, sets: &[ColSet]) -> Result<(), AllocError>
     requires { column < 128 }
-    ensures { IfOk result (λ found. found.items ≡ words.having column sets.now) }
+    ensures { OnOk result (found.new.items ≡ words.having column sets.now) }
 {
-    let mut found = Vec::new(alloc);
+    found.clear();
     for x in sets {
         if x.has(column) {
             found.push(*x)?;
         }
     }
-    Ok(found)
+    Ok(())
 }
 
 // Adds each set with the column more, unless a blocker lies inside it.
@@ -86,10 +73,10 @@ fn push_grown(
     Ok(())
 }
 
-// Adds each set with the column more, where no set near by lies inside it.
+// Adds each set with the column more, where no set near by lies inside it. The blockers are made anew.
 fn push_grown_by(
-    alloc: Global,
     grown: &mut Vec<ColSet>,
+    blockers: &mut Vec<ColSet>,
     near: &[ColSet],
     column: u8,
     inside: &[ColSet],
@@ -97,7 +84,7 @@ fn push_grown_by(
     requires { column < 128 }
     ensures { OnOk result (grown.new.items ≡ grown.old.items ++ words.grown_by inside.now near.now column) }
 {
-    let blockers = having(alloc, column, near)?;
+    fill_having(blockers, column, near)?;
     push_grown(grown, blockers.as_slice(), column, inside)
 }
 
@@ -109,9 +96,30 @@ fn is_choice(choices: ColSet, z: ColSet, column: u8) -> bool
     choices.has(column) && !z.has(column)
 }
 
-// The sets that lie inside z, each with one column more that is outside z and among the choices. Of the candidates that
+// Adds the sets that lie inside z, each with one column more that is outside z and among the choices. Of the candidates that
 // do not lie inside z, only those with one column outside it can lie inside such a set: where one does, the set is none of
-// the least. So the time grows with the number of sets inside z times that of those near by.
+// the least. So the time grows with the number of sets inside z times that of those near by. The blockers are made anew.
+pub(crate) fn push_all_grown(
+    sets: &mut Vec<ColSet>,
+    blockers: &mut Vec<ColSet>,
+    columns: u8,
+    choices: ColSet,
+    z: ColSet,
+    inside: &[ColSet],
+    near: &[ColSet],
+) -> Result<(), AllocError>
+    requires { columns ≤ 128 }
+    ensures { OnOk result (sets.new.items ≡ sets.old.items ++ words.grown columns choices z inside.now near.now) }
+{
+    for column in 0..columns {
+        if is_choice(choices, z, column) {
+            push_grown_by(sets, blockers, near, column, inside)?;
+        }
+    }
+    Ok(())
+}
+
+// The same in a list of their own.
 pub(crate) fn grown(
     alloc: Global,
     columns: u8,
@@ -124,10 +132,7 @@ pub(crate) fn grown(
     ensures { IfOk result (λ sets. sets.items ≡ words.grown columns choices z inside.now near.now) }
 {
     let mut sets = Vec::new(alloc);
-    for column in 0..columns {
-        if is_choice(choices, z, column) {
-            push_grown_by(alloc, &mut sets, near, column, inside)?;
-        }
-    }
+    let mut blockers = Vec::new(alloc);
+    push_all_grown(&mut sets, &mut blockers, columns, choices, z, inside, near)?;
     Ok(sets)
 }

@@ -1,0 +1,67 @@
+-- A list of column sets, split in place by how they lie to a set.
+use Rattle.std.proofs.Common.{◌≡◌, ℕ, ◌+◌, ◌<◌, ◌≤◌, Bool, true, false, cond, not, eqb, sym, ap, ◌∙◌, subst, arith, List, [], ◌∷◌, ◌++◌, length, get_or, set, take}
+use Rattle.std.specs.List.{filter}
+use Rattle.std.proofs.lemmas.Bool.{true≢false, and_parts, and_from, not-true, not_from_false, false_from_ne_true, true_from_ne_false, eqb-true, eq-eqb, ne_eqb}
+use Rattle.std.proofs.lemmas.List.{append-nil, drop_more}
+use Rattle.std.proofs.lemmas.List.Elements.{filter_more, filter-append}
+use Rattle.std.proofs.lemmas.List.Filters.{FiltersInPlace, FiltersInPlace-more_no, FiltersInPlace-more_set, FiltersInPlace-more_here}
+use Rattle.col_set.specs.ColSet.{has, subset, minus, size}
+use Rattle.col_set.specs.Members.{has-minus, has-empty, same_set}
+use Rattle.col_set.specs.Subsets.{subset-true, true-subset, same_test}
+use Rattle.candidate_cover.specs.Growth.{inside, outside, near, one_outside}
+
+-- the sets before the place i are split, and those that stay stand first
+pub record SplitSoFar (z : ℕ) (old now inner nearby : List ℕ) (kept i : ℕ) : Type 0 where
+  pub rest : FiltersInPlace (λ x. not (subset x z)) old now kept i
+  pub taken : inner ≡ inside z (take i old)
+  pub copied : nearby ≡ near z (outside z (take i old))
+
+-- a set lies inside z where no column of it is left outside z
+pub subset_minus : (x z : ℕ) → eqb (minus x z) 0 ≡ subset x z
+subset_minus x z = same_test _ _
+    (λ e. true-subset (record { each = λ k h. true_from_ne_false _ (λ f. true≢false (sym (and_from _ _ h (not_from_false _ f)) ∙ sym (has-minus x z k) ∙ ap (λ (v : ℕ). has v k) (eqb-true _ 0 e) ∙ has-empty k)) }))
+    (λ e. eq-eqb _ 0 (same_set _ _ (λ k. has-minus x z k ∙ false_from_ne_true _ (λ g. let q = and_parts (has x k) _ g in true≢false (sym ((subset-true e).each k q.0) ∙ not-true _ q.1)) ∙ sym (has-empty k))))
+
+module _ (z : ℕ) (old now inner nearby : List ℕ) (kept i x r : ℕ) (s : SplitSoFar z old now inner nearby kept i) (l : i < length now) (is : x ≡ get_or now i x) (left : r ≡ minus x z) where
+  within : i < length old
+  within = omega (arith, s.rest.long)
+
+  read : get_or old i x ≡ x
+  read = let a = drop_more now i x l in let b = drop_more old i x within in let e = s.rest.rest in cc
+
+  next : (p : ℕ → Bool) → filter p (take (i + 1) old) ≡ filter p (take i old) ++ cond (p x) (x ∷ []) []
+  next p = filter_more p old i x within ∙ ap (λ (y : ℕ). filter p (take i old) ++ cond (p y) (y ∷ []) []) read
+
+  side : (b : Bool) → eqb r 0 ≡ b → subset x z ≡ b
+  side b e = sym (subset_minus x z) ∙ ap (λ (v : ℕ). eqb v 0) (sym left) ∙ e
+
+  pub split_inside : eqb r 0 ≡ true → SplitSoFar z old now (inner ++ x ∷ []) nearby kept (i + 1)
+  split_inside e = record {
+    rest = FiltersInPlace-more_no s.rest l (ap not (side true e)) is;
+    taken = ap (λ xs. xs ++ x ∷ []) s.taken ∙ sym (next (λ x. subset x z) ∙ ap (λ b. inside z (take i old) ++ cond b (x ∷ []) []) (side true e));
+    copied = s.copied ∙ ap (near z) (sym (next (λ x. not (subset x z)) ∙ ap (λ b. outside z (take i old) ++ cond (not b) (x ∷ []) []) (side true e) ∙ append-nil _));
+  }
+
+  -- one that stays, wherever it stands now, and is copied where just one column of it is left
+  module _ (e : eqb r 0 ≡ false) (new more : List ℕ) (copy : more ≡ nearby ++ cond (eqb (size r) 1) (x ∷ []) []) where
+    stays : FiltersInPlace (λ x. not (subset x z)) old new (kept + 1) (i + 1) → SplitSoFar z old new inner more (kept + 1) (i + 1)
+    stays f = record {
+      rest = f;
+      taken = s.taken ∙ sym (next (λ x. subset x z) ∙ ap (λ b. inside z (take i old) ++ cond b (x ∷ []) []) (side false e) ∙ append-nil _);
+      copied = copy ∙ ap (λ xs. xs ++ cond (eqb (size r) 1) (x ∷ []) []) s.copied ∙ ap (λ (v : ℕ). near z (outside z (take i old)) ++ cond (eqb (size v) 1) (x ∷ []) []) left
+          ∙ sym (ap (near z) (next (λ x. not (subset x z)) ∙ ap (λ b. outside z (take i old) ++ cond (not b) (x ∷ []) []) (side false e)) ∙ filter-append (one_outside z) (outside z (take i old)) (x ∷ []));
+    }
+
+    pub split_moved : new ≡ set now kept x → SplitSoFar z old new inner more (kept + 1) (i + 1)
+    split_moved m = stays (subst (λ xs. FiltersInPlace (λ x. not (subset x z)) old xs (kept + 1) (i + 1)) (sym m) (FiltersInPlace-more_set s.rest l (ap not (side false e)) is))
+
+    pub split_here : new ≡ now → i ≤ kept → SplitSoFar z old new inner more (kept + 1) (i + 1)
+    split_here m g = stays (subst (λ xs. FiltersInPlace (λ x. not (subset x z)) old xs (kept + 1) (i + 1)) (sym m) (FiltersInPlace-more_here s.rest l (ap not (side false e)) is (let b = s.rest.behind in omega arith)))
+
+-- what is copied, by how many columns of the set are left
+module _ (nearby more : List ℕ) (x r n : ℕ) (size_is : n ≡ size r) where
+  pub copy_one : n ≡ 1 → more ≡ nearby ++ x ∷ [] → more ≡ nearby ++ cond (eqb (size r) 1) (x ∷ []) []
+  copy_one e m = m ∙ sym (ap (λ b. nearby ++ cond b (x ∷ []) []) (eq-eqb (size r) 1 (sym size_is ∙ e)))
+
+  pub copy_none : (n ≡ 1 → ⊥) → more ≡ nearby → more ≡ nearby ++ cond (eqb (size r) 1) (x ∷ []) []
+  copy_none e m = m ∙ sym (ap (λ b. nearby ++ cond b (x ∷ []) []) (ne_eqb (size r) 1 (λ i. e (size_is ∙ i))) ∙ append-nil nearby)

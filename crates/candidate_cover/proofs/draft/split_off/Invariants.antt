@@ -1,0 +1,5 @@
+use Rattle.candidate_cover.proofs.Splitting.{SplitSoFar}
+use Rattle.candidate_cover.proofs.draft.split_off.Given as goal
+
+abbrev pub invariant-loop-place : goal.invariant-loop-place
+invariant-loop-place l = SplitSoFar l.z l.fn.sets.items l.sets.items l.inner.items l.nearby.items l.kept l.place
