@@ -37,13 +37,17 @@ pub(crate) struct Kept {
 type Places = IndexMap<ColSet, usize, BuildHasherDefault<DefaultHasher>>;
 
 // The partitions that are kept, the places where they are found, and the weight of each column: how many rows it does not tell
-// from an earlier one. All that is kept has `rows` rows in its groups, of the `room` that there is, and a partition is large
-// with more than `large` rows.
+// from an earlier one.
+//
+// The first `settled` partitions stay for good. They have `rows` rows in their groups, of the `room` that there is, and a partition
+// is large with more than `large` rows. Those behind them are the path: what the last search made on its way and may not stay.
+// The next search begins from there if that spares it more.
 #[derive(Drop)]
 pub(crate) struct Shelf {
     pub(crate) kept: Vec<Kept>,
     places: Places,
     weights: [u32; 128],
+    settled: usize,
     rows: usize,
     room: usize,
     large: usize,
@@ -118,29 +122,6 @@ fn push_refined(
     Ok(())
 }
 
-// Makes and keeps the partition by each of these columns that has none yet, and its weight.
-fn keep_columns(
-    alloc: Global,
-    snapshot: &Snapshot,
-    kept: &mut Vec<Kept>,
-    weights: &mut [u32; 128],
-    columns: ColSet,
-) -> Result<(), AllocError>
-    requires kept { AreKept snapshot.now kept.old.items }
-    requires columns { columns < 2 ^ length snapshot.now.codes }
-    ensures { AreKept snapshot.now kept.new.items }
-{
-    let mut left = columns;
-    while let Some(column) = left.first() {
-        if weights[column as usize] == UNKNOWN {
-            let weight = push_column(alloc, snapshot, kept, column)?;
-            weights[column as usize] = weight;
-        }
-        left = left.without(column);
-    }
-    Ok(())
-}
-
 // Keeps the partition by a column, and answers its weight.
 fn push_column(
     alloc: Global,
@@ -206,8 +187,35 @@ fn lightest_kept(
     best
 }
 
-// Refines a kept partition by all but one of the columns that are left, and keeps what it makes. It answers the place of the last
-// one, and the column that is left to the comparisons.
+// The place of a partition by the most of these columns: of the path, which begins at a place, or the first one.
+fn largest(kept: &[Kept], settled: usize, columns: ColSet, first: Option<usize>) -> Option<usize>
+    requires place { IfSome first (λ k. k < length kept.now) }
+    requires within { (k : ℕ) (d : Kept) → first ≡ Some k → subset (slice_index_or kept.now k d).columns columns ≡ true }
+    ensures place { IfSome result (λ k. k < length kept.now) }
+    ensures within { (k : ℕ) (d : Kept) → result ≡ Some k → subset (slice_index_or kept.now k d).columns columns ≡ true }
+{
+    let mut best = first;
+    for k in settled..kept.len() {
+        if kept[k].columns.subset_of(columns) && is_larger(kept, k, best) {
+            best = Some(k);
+        }
+    }
+    best
+}
+
+// Whether the partition at a place is by more columns than the one at another, if there is one.
+fn is_larger(kept: &[Kept], k: usize, other: Option<usize>) -> bool
+    requires place { k < length kept.now }
+    requires other { IfSome other (λ k. k < length kept.now) }
+{
+    match other {
+        Some(other) => kept[k].columns.len() > kept[other].columns.len(),
+        None => true,
+    }
+}
+
+// Refines a kept partition by all but one of the columns that are left, the lightest first, and keeps what it makes. It answers
+// the place of the last one, and the column that is left to the comparisons, which is the heaviest.
 fn refine_kept(
     alloc: Global,
     snapshot: &Snapshot,
@@ -256,6 +264,7 @@ impl Shelf {
             kept: Vec::new(alloc),
             places: Places::with_hasher(alloc, BuildHasherDefault::new()),
             weights: [UNKNOWN; 128],
+            settled: 0,
             rows: 0,
             room,
             large: rows / 2,
@@ -281,23 +290,70 @@ impl Shelf {
         ensures few { IfOk result (λ pairs. vec_len pairs ≤ most) }
         ensures steps { steps.new ≤ steps.old + new_rows job.now.snapshot job.now.from }
     {
-        let first = self.kept.len();
-        let made = keep_columns(
-            alloc,
-            job.snapshot(),
-            &mut self.kept,
-            &mut self.weights,
-            job.left(),
-        );
-        self.settle(first);
-        made?;
-        let first = self.kept.len();
+        let left = job.left();
+        self.weigh(alloc, job.snapshot(), left)?;
+        self.leave_path(left);
         let found = self.search_kept(alloc, job, most, slots, steps);
-        self.settle(first);
+        self.settle();
         found
     }
 
-    // The same from the partitions that are kept, where the weights are known. It keeps all that it makes.
+    // Learns the weights of these columns that are not known yet, and keeps the partitions by them that may stay.
+    fn weigh(
+        &mut self,
+        alloc: Global,
+        snapshot: &Snapshot,
+        columns: ColSet,
+    ) -> Result<(), AllocError>
+        requires kept { AreKept snapshot.now self.old.kept.items }
+        requires columns { columns < 2 ^ length snapshot.now.codes }
+        ensures { AreKept snapshot.now self.new.kept.items }
+    {
+        let mut left = columns;
+        while let Some(column) = left.first() {
+            if self.weights[column as usize] == UNKNOWN {
+                self.weigh_column(alloc, snapshot, column)?;
+            }
+            left = left.without(column);
+        }
+        Ok(())
+    }
+
+    // The same for a column. It lets go of the path, so that the column's partition does too where it may not stay.
+    fn weigh_column(
+        &mut self,
+        alloc: Global,
+        snapshot: &Snapshot,
+        column: u8,
+    ) -> Result<(), AllocError>
+        requires kept { AreKept snapshot.now self.old.kept.items }
+        requires column { column < length snapshot.now.codes }
+        requires bound { column < 128 }
+        ensures { AreKept snapshot.now self.new.kept.items }
+    {
+        self.kept.truncate(self.settled);
+        let weight = push_column(alloc, snapshot, &mut self.kept, column)?;
+        self.weights[column as usize] = weight;
+        self.settle();
+        self.kept.truncate(self.settled);
+        Ok(())
+    }
+
+    // Drops those of the path that are not by these columns alone.
+    fn leave_path(&mut self, columns: ColSet)
+        ensures { (s : CodeTable) → AreKept s self.old.kept.items → AreKept s self.new.kept.items }
+    {
+        let mut k = self.settled;
+        while k < self.kept.len() {
+            if self.kept[k].columns.subset_of(columns) {
+                k += 1;
+            } else {
+                drop(self.kept.remove(k));
+            }
+        }
+    }
+
+    // The same from the partitions that are there, where the weights are known. What it makes is added to the path.
     fn search_kept<L: Ledger>(
         &mut self,
         alloc: Global,
@@ -339,7 +395,7 @@ impl Shelf {
         walk::pairs_in_groups(alloc, partition, snapshot, &question, slots, steps)
     }
 
-    // Where a verdict on these columns begins: the place of a kept partition by some of them.
+    // Where a verdict on these columns begins: the place of a partition by some of them.
     fn base(
         &mut self,
         alloc: Global,
@@ -351,7 +407,8 @@ impl Shelf {
         ensures place { IfOk result (λ k. k < vec_len self.new.kept) }
         ensures within { IfOk result (λ k. (d : Kept) → subset (slice_index_or self.new.kept.items k d).columns columns ≡ true) }
     {
-        if let Some(k) = lightest_kept(&self.kept, &self.places, &self.weights, columns) {
+        let found = lightest_kept(&self.kept, &self.places, &self.weights, columns);
+        if let Some(k) = largest(&self.kept, self.settled, columns, found) {
             return Ok(k);
         }
         let k = self.kept.len();
@@ -359,31 +416,30 @@ impl Shelf {
         Ok(k)
     }
 
-    // Drops those of the partitions from a place on that may not stay.
-    fn settle(&mut self, first: usize)
+    // Lets those of the path stay for good that may.
+    fn settle(&mut self)
         ensures { (s : CodeTable) → AreKept s self.old.kept.items → AreKept s self.new.kept.items }
     {
-        let mut k = first;
-        while k < self.kept.len() {
+        for k in self.settled..self.kept.len() {
             if self.accepts(k) {
-                k += 1;
-            } else {
-                drop(self.kept.remove(k));
+                self.kept.swap(self.settled, k);
+                self.settled += 1;
             }
         }
     }
 
-    // Whether the partition at a place may stay, beside those before it. If so it is found there from now on.
+    // Whether the partition at a place may stay for good, beside those that do. If so it is looked for behind these from now on.
     fn accepts(&mut self, k: usize) -> bool
         requires { k < vec_len self.old.kept }
-        ensures { self.new.kept ≡ self.old.kept }
+        ensures kept { self.new.kept ≡ self.old.kept }
+        ensures settled { self.new.settled ≡ self.old.settled }
     {
         let columns = self.kept[k].columns;
         let rows = self.rows.saturating_add(self.kept[k].rows);
-        if columns.len() > MOST_COLUMNS || k >= MOST_KEPT || rows > self.room_for(k) {
+        if columns.len() > MOST_COLUMNS || self.settled >= MOST_KEPT || rows > self.room_for(k) {
             return false;
         }
-        if !note(&mut self.places, columns, k) {
+        if !note(&mut self.places, columns, self.settled) {
             return false;
         }
         self.rows = rows;

@@ -16,11 +16,19 @@ use std::sync::Arc;
 use std::sync::ledger::Ledger;
 use stripped_partition::Partition;
 
-/// Stripped partitions of one snapshot by small column sets, which verdicts start from. One worker owns it.
+/// Stripped partitions of one snapshot, which verdicts start from. One worker owns it.
 ///
 /// It keeps the partition by each single column that a verdict asked for, and those by two to four columns that it made on its
 /// way, 4,096 of them at most, as long as the rows of all that is kept fit its room. A partition with more than half of the
-/// snapshot's rows is kept only as long as they fit half of it. Contracts see the codes of its snapshot.
+/// snapshot's rows is kept only as long as they fit half of it.
+///
+/// What the last verdict made on its way and may not stay, as by more than four columns or for want of room, is its path. The
+/// next verdict goes on from there, and lets go of what is by columns that are not in its left side. So verdicts are cheap in an
+/// order in which left sides that share their lightest columns follow each other, and all targets of a left side: each refines
+/// behind what it shares with the one before, and nothing where the left side is the same.
+///
+/// The path comes on top of the room. It has at most one partition for each number of columns up to that of the left side, and
+/// most of them have few rows. Contracts see the codes of the store's snapshot.
 #[derive(Drop)]
 pub struct Store {
     snapshot: Arc<Snapshot>,
@@ -56,10 +64,11 @@ impl Store {
 
     /// Validates a job on the store's snapshot, as `validate` does, with the same answer to whether the dependency holds.
     ///
-    /// It takes the columns of the left side in the order of how many rows they tell apart, starts from the kept partition by the
-    /// most of the first of them, up to four, refines it by the others but the last, and compares the rows of each group by the
-    /// last one's codes, up to the first difference. So a verdict takes time by the rows of that partition, not by how many are
-    /// kept. After want of memory the store is as useful as before.
+    /// It takes the columns of the left side in the order of how many rows they tell apart, the lightest first. It starts from the
+    /// kept partition by the most of the first of them, up to four, or from one of the path if that is by more columns, refines it
+    /// by the others but the last, and compares the rows of each group by the last one's codes, up to the first difference. So a
+    /// verdict takes time by the rows of that partition, not by how many are kept. After want of memory the store is as useful as
+    /// before.
     pub fn validate<L: Ledger>(
         &mut self,
         alloc: Global,
@@ -118,7 +127,7 @@ impl Store {
         Ok(weights)
     }
 
-    // Searches for pairs that break a job's dependency, and keeps the small ones of the partitions that are made for it.
+    // Searches for pairs that break a job's dependency, and keeps the partitions that are made for it, for good or as the path.
     fn search<L: Ledger>(
         &mut self,
         alloc: Global,

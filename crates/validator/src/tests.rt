@@ -1,5 +1,6 @@
 ghost use Rattle.std.specs.Prelude.{◌≡◌, ◌<◌};
 
+mod orders;
 mod plain;
 mod shapes;
 

@@ -60,9 +60,9 @@ fn pairs_by<L: Ledger>(
     store.breaches(alloc, job, 2, &mut steps)
 }
 
-fn is_holding(verdict: Verdict) -> bool {
+fn is_holding(job: &Job, verdict: Verdict) -> bool {
     match verdict {
-        Verdict::Holds { to } => to.number() == 7,
+        Verdict::Holds { to } => to == job.to(),
         Verdict::Broken { .. } => false,
     }
 }
@@ -81,7 +81,12 @@ fn all_break(rt: &impl Abort, job: &Job, pairs: &[(RowNo, RowNo)]) -> bool {
 }
 
 // Compares the answers with the plain definition, if the job fits, and answers whether it does.
-fn compare(alloc: Global, rt: &impl Abort, store: &mut Store, job: &Job) -> Result<bool, AllocError>
+pub fn compare(
+    alloc: Global,
+    rt: &impl Abort,
+    store: &mut Store,
+    job: &Job,
+) -> Result<bool, AllocError>
     requires { store.old ≡ job.now.snapshot }
     ensures { store.new ≡ store.old }
 {
@@ -91,11 +96,11 @@ fn compare(alloc: Global, rt: &impl Abort, store: &mut Store, job: &Job) -> Resu
     let snapshot = job.snapshot();
     let holds = holds_below(snapshot, job.left(), job.target(), snapshot.to());
     let plain = verdict_on::<Brand>(alloc, rt, Blank::new(1), job)?;
-    assert!(rt; is_holding(plain) == holds);
+    assert!(rt; is_holding(job, plain) == holds);
     let pairs = pairs_by::<Brand>(alloc, rt, Blank::new(1), store, job)?;
     assert!(rt; pairs.is_empty() == holds && pairs.len() <= 2 && all_break(rt, job, &pairs));
     let kept = verdict_by::<Brand>(alloc, rt, Blank::new(1), store, job)?;
-    assert!(rt; is_holding(kept) == holds);
+    assert!(rt; is_holding(job, kept) == holds);
     Ok(true)
 }
 

@@ -1,9 +1,10 @@
-use Rattle.std.proofs.Common.{◌-◌, vec_len}
+use Rattle.std.proofs.Common.{◌≡◌, ◌≤◌, vec_len}
 use Rattle.validator.proofs.KeptLists.{Settled}
 use Rattle.validator.proofs.shelf.Shelf.settle.Given as goal
 
 abbrev pub invariant-loop-k : goal.invariant-loop-k
-invariant-loop-k l = Settled l.fn.self.kept.items l.self.kept.items
-
-abbrev pub decreases-loop-k : goal.decreases-loop-k
-decreases-loop-k l = vec_len l.self.kept - l.k
+invariant-loop-k l = record {
+  are : Settled l.fn.self.kept.items l.self.kept.items;
+  len : vec_len l.self.kept ≡ vec_len l.fn.self.kept;
+  settled : l.self.settled ≤ l.k;
+}

@@ -1,8 +1,8 @@
 use Rattle.validator.proofs.KeptLists.{Keeping}
-use Rattle.validator.proofs.shelf.keep_columns.Given as goal
+use Rattle.validator.proofs.shelf.Shelf.weigh.Given as goal
 
 abbrev pub invariant-loop-column : goal.invariant-loop-column
-invariant-loop-column l = Keeping l.snapshot l.kept.items l.left
+invariant-loop-column l = Keeping l.snapshot l.self.kept.items l.left
 
 abbrev pub decreases-loop-column : goal.decreases-loop-column
 decreases-loop-column l = l.left
