@@ -4,4 +4,5 @@ pub mod Soundness
 pub mod Refinements
 pub mod Exactly
 pub mod KeptLists
+pub mod Weights
 pub mod PlainTests

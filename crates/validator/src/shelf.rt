@@ -1,9 +1,9 @@
 // Partitions that are kept for later verdicts.
-ghost use Rattle.std.specs.Prelude.{◌≡◌, ◌<◌, ◌≤◌, ◌+◌, ◌^◌, ℕ, Some, [], length, vec_len, true, IfOk, OnOk, IfSome, IsTrue, slice_index_or};
+ghost use Rattle.std.specs.Prelude.{◌≡◌, ◌<◌, ◌≤◌, ◌+◌, ◌^◌, ℕ, Some, [], length, vec_len, true, IfOk, OnOk, IfSome, slice_index, slice_index_or, slice_set};
 ghost use Rattle.std.specs.Option.{ForSome};
 ghost use Rattle.col_set.specs.ColSet.{has, subset, union, with, empty};
 ghost use Rattle.rel_base.specs.CodeTable.{CodeTable};
-ghost use Rattle.validator.specs.Kept.{AreKept};
+ghost use Rattle.validator.specs.Kept.{AreKept, AreWeights, AreKnown, weight_of};
 ghost use Rattle.validator.specs.Verdicts.{AreFound, IsFitting, new_rows};
 ghost use Rattle.validator.specs.Walk.{IsClear, plus};
 ghost use Rattle.validator.specs.declared.shelf.Kept.{Kept};
@@ -36,17 +36,17 @@ pub(crate) struct Kept {
 // By columns, a place. The hash is SipHash with a fixed key.
 type Places = IndexMap<ColSet, usize, BuildHasherDefault<DefaultHasher>>;
 
-// The partitions that are kept, the places where they are found, and the weight of each column: how many rows it does not tell
-// from an earlier one.
+// The partitions that are kept, the weight of each column, which is how many rows it does not tell from an earlier one, and the
+// places where partitions are found.
 //
 // The first `settled` partitions stay for good. They have `rows` rows in their groups, of the `room` that there is, and a partition
-// is large with more than `large` rows. Those behind them are the path: what the last search made on its way and may not stay.
-// The next search begins from there if that spares it more.
+// is large with more than `large` rows. Those behind them are the path: what the last search made on its way and may not stay. No
+// two of the path are by equally many columns.
 #[derive(Drop)]
 pub(crate) struct Shelf {
     pub(crate) kept: Vec<Kept>,
+    pub(crate) weights: [u32; 128],
     places: Places,
-    weights: [u32; 128],
     settled: usize,
     rows: usize,
     room: usize,
@@ -132,7 +132,8 @@ fn push_column(
     requires kept { AreKept snapshot.now kept.old.items }
     requires column { column < length snapshot.now.codes }
     requires bound { column < 128 }
-    ensures { AreKept snapshot.now kept.new.items }
+    ensures kept { AreKept snapshot.now kept.new.items }
+    ensures weight { IfOk result (λ weight. weight ≡ weight_of snapshot.now column) }
 {
     let partition = Partition::of_column(alloc, snapshot, column)?;
     let rows = rows_of(&partition);
@@ -187,14 +188,14 @@ fn lightest_kept(
     best
 }
 
-// The place of a partition by the most of these columns: of the path, which begins at a place, or the first one.
-fn largest(kept: &[Kept], settled: usize, columns: ColSet, first: Option<usize>) -> Option<usize>
-    requires place { IfSome first (λ k. k < length kept.now) }
-    requires within { (k : ℕ) (d : Kept) → first ≡ Some k → subset (slice_index_or kept.now k d).columns columns ≡ true }
+// Of a partition by some of these columns, if there is one, and those of the path, the place of the one by the most of them.
+fn largest(kept: &[Kept], settled: usize, columns: ColSet, found: Option<usize>) -> Option<usize>
+    requires place { IfSome found (λ k. k < length kept.now) }
+    requires within { (k : ℕ) (d : Kept) → found ≡ Some k → subset (slice_index_or kept.now k d).columns columns ≡ true }
     ensures place { IfSome result (λ k. k < length kept.now) }
     ensures within { (k : ℕ) (d : Kept) → result ≡ Some k → subset (slice_index_or kept.now k d).columns columns ≡ true }
 {
-    let mut best = first;
+    let mut best = found;
     for k in settled..kept.len() {
         if kept[k].columns.subset_of(columns) && is_larger(kept, k, best) {
             best = Some(k);
@@ -255,15 +256,23 @@ fn note(places: &mut Places, columns: ColSet, k: usize) -> bool {
     places.insert(columns, k).is_ok()
 }
 
+// No column's weight is known.
+fn no_weights() -> [u32; 128]
+    ensures { (s : CodeTable) → AreWeights s result }
+{
+    [UNKNOWN; 128]
+}
+
 impl Shelf {
     // An empty shelf with room for this many rows, for a snapshot with this many.
     pub(crate) fn of(alloc: Global, rows: usize, room: usize) -> Shelf
-        ensures { result.kept.items ≡ [] }
+        ensures kept { result.kept.items ≡ [] }
+        ensures weights { (s : CodeTable) → AreWeights s result.weights }
     {
         Shelf {
             kept: Vec::new(alloc),
+            weights: no_weights(),
             places: Places::with_hasher(alloc, BuildHasherDefault::new()),
-            weights: [UNKNOWN; 128],
             settled: 0,
             rows: 0,
             room,
@@ -283,8 +292,10 @@ impl Shelf {
         requires some { 0 < most }
         requires fitting { IsFitting job.now }
         requires kept { AreKept job.now.snapshot self.old.kept.items }
+        requires weights { AreWeights job.now.snapshot self.old.weights }
         requires clear { IsClear slots.old.items }
         ensures kept { AreKept job.now.snapshot self.new.kept.items }
+        ensures weights { AreWeights job.now.snapshot self.new.weights }
         ensures clear { OnOk result (IsClear slots.new.items) }
         ensures pairs { IfOk result (λ pairs. AreFound job.now.snapshot job.now.left job.now.target pairs.items) }
         ensures few { IfOk result (λ pairs. vec_len pairs ≤ most) }
@@ -292,10 +303,26 @@ impl Shelf {
     {
         let left = job.left();
         self.weigh(alloc, job.snapshot(), left)?;
-        self.leave_path(left);
+        self.shorten_path(left);
         let found = self.search_kept(alloc, job, most, slots, steps);
         self.settle();
         found
+    }
+
+    // The weight of each column of the snapshot.
+    pub(crate) fn weights(
+        &mut self,
+        alloc: Global,
+        snapshot: &Snapshot,
+    ) -> Result<[u32; 128], AllocError>
+        requires kept { AreKept snapshot.now self.old.kept.items }
+        requires weights { AreWeights snapshot.now self.old.weights }
+        ensures kept { AreKept snapshot.now self.new.kept.items }
+        ensures weights { AreWeights snapshot.now self.new.weights }
+        ensures known { IfOk result (λ weights. (column : ℕ) → column < length snapshot.now.codes → slice_index weights column ≡ weight_of snapshot.now column) }
+    {
+        self.weigh(alloc, snapshot, ColSet::all(snapshot.columns()))?;
+        Ok(self.weights)
     }
 
     // Learns the weights of these columns that are not known yet, and keeps the partitions by them that may stay.
@@ -306,8 +333,11 @@ impl Shelf {
         columns: ColSet,
     ) -> Result<(), AllocError>
         requires kept { AreKept snapshot.now self.old.kept.items }
+        requires weights { AreWeights snapshot.now self.old.weights }
         requires columns { columns < 2 ^ length snapshot.now.codes }
-        ensures { AreKept snapshot.now self.new.kept.items }
+        ensures kept { AreKept snapshot.now self.new.kept.items }
+        ensures weights { AreWeights snapshot.now self.new.weights }
+        ensures known { OnOk result (AreKnown snapshot.now columns self.new.weights) }
     {
         let mut left = columns;
         while let Some(column) = left.first() {
@@ -319,7 +349,7 @@ impl Shelf {
         Ok(())
     }
 
-    // The same for a column. It lets go of the path, so that the column's partition does too where it may not stay.
+    // The same for a column. It lets go of the path, so that behind what stays for good nothing stands but the column's partition.
     fn weigh_column(
         &mut self,
         alloc: Global,
@@ -327,9 +357,12 @@ impl Shelf {
         column: u8,
     ) -> Result<(), AllocError>
         requires kept { AreKept snapshot.now self.old.kept.items }
+        requires weights { AreWeights snapshot.now self.old.weights }
         requires column { column < length snapshot.now.codes }
         requires bound { column < 128 }
-        ensures { AreKept snapshot.now self.new.kept.items }
+        ensures kept { AreKept snapshot.now self.new.kept.items }
+        ensures weights { AreWeights snapshot.now self.new.weights }
+        ensures known { OnOk result (self.new.weights ≡ slice_set self.old.weights column (weight_of snapshot.now column)) }
     {
         self.kept.truncate(self.settled);
         let weight = push_column(alloc, snapshot, &mut self.kept, column)?;
@@ -339,9 +372,10 @@ impl Shelf {
         Ok(())
     }
 
-    // Drops those of the path that are not by these columns alone.
-    fn leave_path(&mut self, columns: ColSet)
-        ensures { (s : CodeTable) → AreKept s self.old.kept.items → AreKept s self.new.kept.items }
+    // Drops those of the path that are by a column which is not one of these.
+    fn shorten_path(&mut self, columns: ColSet)
+        ensures kept { (s : CodeTable) → AreKept s self.old.kept.items → AreKept s self.new.kept.items }
+        ensures weights { self.new.weights ≡ self.old.weights }
     {
         let mut k = self.settled;
         while k < self.kept.len() {
@@ -353,7 +387,7 @@ impl Shelf {
         }
     }
 
-    // The same from the partitions that are there, where the weights are known. What it makes is added to the path.
+    // The same where the weights are known and the path is by columns of the left side. What it makes is added to the path.
     fn search_kept<L: Ledger>(
         &mut self,
         alloc: Global,
@@ -367,6 +401,7 @@ impl Shelf {
         requires kept { AreKept job.now.snapshot self.old.kept.items }
         requires clear { IsClear slots.old.items }
         ensures kept { AreKept job.now.snapshot self.new.kept.items }
+        ensures weights { self.new.weights ≡ self.old.weights }
         ensures clear { OnOk result (IsClear slots.new.items) }
         ensures pairs { IfOk result (λ pairs. AreFound job.now.snapshot job.now.left job.now.target pairs.items) }
         ensures few { IfOk result (λ pairs. vec_len pairs ≤ most) }
@@ -395,7 +430,7 @@ impl Shelf {
         walk::pairs_in_groups(alloc, partition, snapshot, &question, slots, steps)
     }
 
-    // Where a verdict on these columns begins: the place of a partition by some of them.
+    // Where a search by these columns begins: the place of a partition by some of them.
     fn base(
         &mut self,
         alloc: Global,
@@ -404,6 +439,7 @@ impl Shelf {
     ) -> Result<usize, AllocError>
         requires { AreKept snapshot.now self.old.kept.items }
         ensures kept { AreKept snapshot.now self.new.kept.items }
+        ensures weights { self.new.weights ≡ self.old.weights }
         ensures place { IfOk result (λ k. k < vec_len self.new.kept) }
         ensures within { IfOk result (λ k. (d : Kept) → subset (slice_index_or self.new.kept.items k d).columns columns ≡ true) }
     {
@@ -416,9 +452,10 @@ impl Shelf {
         Ok(k)
     }
 
-    // Lets those of the path stay for good that may.
+    // Those of the path that may stay for good do so from now on.
     fn settle(&mut self)
-        ensures { (s : CodeTable) → AreKept s self.old.kept.items → AreKept s self.new.kept.items }
+        ensures kept { (s : CodeTable) → AreKept s self.old.kept.items → AreKept s self.new.kept.items }
+        ensures weights { self.new.weights ≡ self.old.weights }
     {
         for k in self.settled..self.kept.len() {
             if self.accepts(k) {
@@ -428,10 +465,11 @@ impl Shelf {
         }
     }
 
-    // Whether the partition at a place may stay for good, beside those that do. If so it is looked for behind these from now on.
+    // Whether the partition at a place may stay for good, beside those that do. If so it is counted, and looked for behind these.
     fn accepts(&mut self, k: usize) -> bool
         requires { k < vec_len self.old.kept }
         ensures kept { self.new.kept ≡ self.old.kept }
+        ensures weights { self.new.weights ≡ self.old.weights }
         ensures settled { self.new.settled ≡ self.old.settled }
     {
         let columns = self.kept[k].columns;

@@ -1,7 +1,7 @@
 // Verdicts that start from kept partitions.
 ghost use Rattle.std.specs.Prelude.{◌≡◌, ◌<◌, ◌≤◌, ◌+◌, ◌↔◌, ℕ, [], true, length, slice_index, vec_len, IfOk};
 ghost use Rattle.std.specs.List.{All};
-ghost use Rattle.col_set.specs.ColSet.{empty, with};
+ghost use Rattle.col_set.specs.ColSet.{with, empty};
 ghost use Rattle.rel_base.specs.Shows.{holds_in};
 ghost use Rattle.stripped_partition.specs.Stripped.{stripped, error_of};
 ghost use Rattle.validator.specs.Verdicts.{AreApart, AreFound, IsFitting, IsVerdict, new_rows};
@@ -14,18 +14,17 @@ use std::alloc::{AllocError, Global};
 use std::marker::Model;
 use std::sync::Arc;
 use std::sync::ledger::Ledger;
-use stripped_partition::Partition;
 
 /// Stripped partitions of one snapshot, which verdicts start from. One worker owns it.
 ///
-/// It keeps the partition by each single column that a verdict asked for, and those by two to four columns that it made on its
-/// way, 4,096 of them at most, as long as the rows of all that is kept fit its room. A partition with more than half of the
-/// snapshot's rows is kept only as long as they fit half of it.
+/// It keeps the partition by each single column that a verdict or `weights` asked for, and those by two to four columns that it
+/// made on its way, 4,096 of them at most, as long as the rows of all that is kept fit its room. A partition with more than half
+/// of the snapshot's rows is kept only as long as they fit half of it.
 ///
-/// What the last verdict made on its way and may not stay, as by more than four columns or for want of room, is its path. The
-/// next verdict goes on from there, and lets go of what is by columns that are not in its left side. So verdicts are cheap in an
-/// order in which left sides that share their lightest columns follow each other, and all targets of a left side: each refines
-/// behind what it shares with the one before, and nothing where the left side is the same.
+/// What the last verdict made on its way and may not stay, being by more than four columns or without room, is the path. The next
+/// verdict lets go of what is by columns that are not in its left side, and goes on from the rest. So verdicts are cheap in an
+/// order in which left sides that share their lightest columns follow each other (`weights`), with all targets of a left side in
+/// a row: each refines behind the columns that it shares with the one before, and nothing where the left side is the same.
 ///
 /// The path comes on top of the room. It has at most one partition for each number of columns up to that of the left side, and
 /// most of them have few rows. Contracts see the codes of the store's snapshot.
@@ -41,12 +40,12 @@ impl Model for Store {
 
     ghost Value = { CodeTable };
 
-    ghost use Rattle.validator.specs.Kept.{AreKept};
+    ghost use Rattle.validator.specs.Kept.{AreKept, AreWeights};
     ghost use Rattle.validator.specs.Walk.{IsClear};
 
     ghost view = { λ s. s.snapshot.value };
 
-    ghost invariant = { λ s. AreKept s.snapshot.value s.shelf.kept.items × IsClear s.slots.items };
+    ghost invariant = { λ s. AreKept s.snapshot.value s.shelf.kept.items × AreWeights s.snapshot.value s.shelf.weights × IsClear s.slots.items };
 }
 
 impl Store {
@@ -114,17 +113,20 @@ impl Store {
         self.search(alloc, job, most, steps)
     }
 
-    /// For each column how many rows it does not tell from an earlier one.
+    /// The weight of each column of the store's snapshot, at the column's place: how many rows it does not tell from an earlier one.
+    /// Places beyond the columns tell nothing.
+    ///
+    /// A caller puts its left sides in order by it: the columns of each by weight, ties by number, and the left sides by their
+    /// lightest column, then by the second lightest, and so on. In this order verdicts share the groups that they are made from.
+    ///
+    /// It makes the partition by each column that no verdict asked for yet, by a pass over all live rows, and keeps those that may
+    /// stay; a second call makes none. It lets go of the path if it makes any. After want of memory the store is as useful as
+    /// before.
     pub fn weights(&mut self, alloc: Global) -> Result<[u32; 128], AllocError>
-        ensures weights { IfOk result (λ weights. (c : ℕ) → c < length self.old.codes → slice_index weights c ≡ error_of (stripped self.old (with empty c))) }
+        ensures weights { IfOk result (λ weights. (column : ℕ) → column < length self.old.codes → slice_index weights column ≡ error_of (stripped self.old (with empty column))) }
         ensures store { self.new ≡ self.old }
     {
-        let mut weights = [0; 128];
-        for column in 0..self.snapshot.columns() {
-            weights[column as usize] =
-                Partition::of_column(alloc, &self.snapshot, column)?.error_count();
-        }
-        Ok(weights)
+        self.shelf.weights(alloc, &self.snapshot)
     }
 
     // Searches for pairs that break a job's dependency, and keeps the partitions that are made for it, for good or as the path.

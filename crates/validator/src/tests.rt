@@ -129,6 +129,31 @@ fn a_store_answers_as_none_does(rt: HostRuntime) -> Result<(), Fail> {
     Ok(())
 }
 
+// The weights of the three columns.
+fn weights_of(alloc: Global, store: &mut Store) -> Result<(u32, u32, u32), AllocError>
+    ensures { store.new ≡ store.old }
+{
+    let weights = store.weights(alloc)?;
+    Ok((weights[0], weights[1], weights[2]))
+}
+
+#[test]
+fn weights_of_columns(rt: HostRuntime) -> Result<(), Fail> {
+    let alloc = rt.alloc();
+    let live = vec![in alloc; true; 5]?;
+    let snapshot = Arc::new(alloc, five_rows(alloc, &rt, live)?)?;
+    let mut store = Store::of(alloc, snapshot.clone()?, 4);
+    assert!(rt; weights_of(alloc, &mut store)? == (3, 2, 0));
+    assert!(rt; weights_of(alloc, &mut store)? == (3, 2, 0));
+    let live = vec![in alloc; true, false, true, true, true]?;
+    let snapshot = Arc::new(alloc, five_rows(alloc, &rt, live)?)?;
+    let mut store = Store::of(alloc, snapshot.clone()?, 4);
+    let left = ColSet::empty().with(1);
+    assert!(rt; agrees(alloc, &rt, &mut store, &snapshot, left, Target::Col(0))?);
+    assert!(rt; weights_of(alloc, &mut store)? == (2, 2, 0));
+    Ok(())
+}
+
 #[test]
 fn verdicts_on_live_rows(rt: HostRuntime) -> Result<(), Fail> {
     let alloc = rt.alloc();

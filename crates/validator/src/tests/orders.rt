@@ -10,27 +10,28 @@ use std::process::Abort;
 use std::sync::Arc;
 use std::test::Fail;
 
-// Twelve codes below a bound, but for some that are 9. Three rows each have the same one.
-fn codes_by_threes(alloc: Global, mut seed: u32, bound: u32) -> Result<Codes, AllocError>
-    requires { 0 < bound }
+// The codes of twelve rows in a column: by threes they have one of the first codes, but for some that are alone with theirs. The
+// further on the column, the more there are of both.
+fn codes_by_threes(alloc: Global, mut seed: u32, column: u32) -> Result<Codes, AllocError>
+    requires { column < 6 }
 {
     let mut codes = Vec::new(alloc);
     let mut code = 0;
     for row in 0..12u32 {
         seed = seed.wrapping_mul(1664525).wrapping_add(1013904223);
         if row % 3 == 0 {
-            code = (seed >> 8) % bound;
+            code = (seed >> 8) % (column + 1);
         }
-        codes.push(if seed >> 29 == 0 { 9 } else { code })?;
+        codes.push(if seed >> 28 < column { row + 10 } else { code })?;
     }
     Ok(Codes::of(codes))
 }
 
-// Twelve rows of six columns, of which the last tells the most rows apart.
+// Twelve rows of six columns, of which each tells more rows apart than the one before.
 fn twelve_rows(alloc: Global, rt: &impl Abort, seed: u32) -> Result<Snapshot, AllocError> {
     let mut codes = Vec::new(alloc);
     for column in 0..6u32 {
-        codes.push(codes_by_threes(alloc, seed.wrapping_add(column * 100), column + 1)?)?;
+        codes.push(codes_by_threes(alloc, seed.wrapping_add(column * 100), column)?)?;
     }
     let mut live = vec![in alloc; true; 12]?;
     assert!(rt; codes.len() == 6 && live.len() == 12);
@@ -65,8 +66,8 @@ fn compare_targets(
     Ok(())
 }
 
-// The same for all left sides, from the one with all columns on, so that those with the same last columns follow each other,
-// then the other way round, and then so that those with the same first columns do.
+// The same for all left sides: first so that those follow each other which share their last columns, which are the lightest, then
+// the other way round, and then so that those do which share their first columns.
 fn compare_orders(
     alloc: Global,
     rt: &impl Abort,
@@ -86,8 +87,15 @@ fn compare_orders(
     Ok(())
 }
 
+// Whether each of the six columns is lighter than the one before.
+fn are_falling(weights: &[u32; 128]) -> bool {
+    (1..6usize).all(|column| weights[column] < weights[column - 1])
+}
+
 fn compare_rooms(alloc: Global, rt: &impl Abort, seed: u32) -> Result<(), AllocError> {
     let snapshot = Arc::new(alloc, twelve_rows(alloc, rt, seed)?)?;
+    let weights = Store::of(alloc, snapshot.clone()?, 0).weights(alloc)?;
+    assert!(rt; are_falling(&weights));
     for room in [0, 40, 1000] {
         compare_orders(alloc, rt, &snapshot, room)?;
     }
@@ -96,12 +104,12 @@ fn compare_rooms(alloc: Global, rt: &impl Abort, seed: u32) -> Result<(), AllocE
 
 #[test]
 fn left_sides_in_order(rt: HostRuntime) -> Result<(), Fail> {
-    compare_rooms(rt.alloc(), &rt, 1)?;
+    compare_rooms(rt.alloc(), &rt, 150)?;
     Ok(())
 }
 
 #[test]
 fn left_sides_of_other_rows_in_order(rt: HostRuntime) -> Result<(), Fail> {
-    compare_rooms(rt.alloc(), &rt, 2)?;
+    compare_rooms(rt.alloc(), &rt, 986)?;
     Ok(())
 }
