@@ -84,10 +84,13 @@ module _ (p : Cand → Bool) where
     pub none_up_to : (t : Target) → ((u : Target) → rank u < rank t → find p (cands_of c u) ≡ None) → find p (cands_of c t) ≡ None
         → (find p (cands_of c RowId) ≡ None) × ((j : ℕ) → j < rank t → find p (cands_of c (Col j)) ≡ None)
     none_up_to RowId f e = (e, λ j l. absurd (omega (arith, l)))
-    none_up_to (Col a) f e = (f RowId (omega arith), λ j l. elim (cases_eq j a) as (λ _. find p (cands_of c (Col j)) ≡ None) [
-      | inl i ↦ subst (λ (a : ℕ). find p (cands_of c (Col a)) ≡ None) (sym i) e
-      | inr ne ↦ f (Col j) (omega (arith, l, ne))
-    ])
+    none_up_to (Col a) f e = (
+      f RowId (omega arith),
+      λ j l. elim (cases_eq j a) as (λ _. find p (cands_of c (Col j)) ≡ None) [
+        | inl i ↦ subst (λ (a : ℕ). find p (cands_of c (Col a)) ≡ None) (sym i) e
+        | inr ne ↦ f (Col j) (omega (arith, l, ne))
+      ],
+    )
 
     -- the first of a target, where no earlier target has one
     pub first_of : (t : Target) (k : Cand) → IsColumnTarget (width c) t → ((u : Target) → rank u < rank t → find p (cands_of c u) ≡ None) → find p (cands_of c t) ≡ Some k

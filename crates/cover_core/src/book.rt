@@ -159,8 +159,8 @@ impl Book {
         }
         let parts = specialised(self.alloc, &self.candidates, agree)?;
         self.witnesses.add(Witness { i, j, agree })?;
-        put_all(&mut self.candidates, parts);
         self.cursors = Cursors::start();
+        put_all(&mut self.candidates, parts);
         Ok(Refutation::Booked)
     }
 

@@ -29,7 +29,15 @@ pub(crate) fn of_size(
     ensures { IfOk result (λ list. All (IsWaiting candidates.now) list.items) }
 {
     let mut list = Vec::new(alloc);
-    push_waiting(alloc, candidates, Target::RowId, order, size, next, &mut list)?;
+    push_waiting(
+        alloc,
+        candidates,
+        Target::RowId,
+        order,
+        size,
+        next,
+        &mut list,
+    )?;
     for column in 0..candidates.columns() {
         let target = Target::Col(column);
         push_waiting(alloc, candidates, target, order, size, next, &mut list)?;

@@ -221,7 +221,10 @@ impl<V: Copy> SetTree<V> {
 }
 
 // The first of these pairs that meets the test.
-fn first_in<V: Copy, F: Fn(ColSet, V) -> bool>(pairs: &[(ColSet, V)], test: F) -> Option<(ColSet, V)>
+fn first_in<V: Copy, F: Fn(ColSet, V) -> bool>(
+    pairs: &[(ColSet, V)],
+    test: F,
+) -> Option<(ColSet, V)>
     requires { F.IsAlwaysCallable test }
     ensures { (p : Columns × V → Bool) → ((x : Columns) (v : V) (b : Bool) → F.post test x v b → b ≡ p (x, v)) → result ≡ find p pairs.now }
 {

@@ -13,8 +13,11 @@ pub loop-cand-preserved : goal.loop-cand-preserved
 loop-cand-preserved c = elim c.if-lt.branch [
   | then-lt+then-len-size+in_ok-push w ↦
       subst (λ (ws : List Waiting). All (IsWaiting c.args.candidates.now) ws) (sym (ap (λ v. v.items) w.list-is ∙ w.in_ok-push.ensures.items))
-          (All-push (IsWaiting c.args.candidates.now) c.loop-cand.list.items (record { places = w.places_of-places.result; target = c.args.target; cand = c.cand-item.result }) c.loop-cand.invariant
-          (record { target = c.requires.target; listed = subst (λ (cs : List Cand). Listed c.cand-item.result cs) (c.as_slice-cand-items.ensures.value ∙ c.in_ok-own.ensures.list)
-              (subst (λ (d : Cand). Listed d c.as_slice-cand-items.result.now) (sym c.cand-item.is) (Listed-get_or c.as_slice-cand-items.result.now c.loop-cand.cand-index c.cand-item.result c.loop-cand-test.true)) }))
+      (All-push (IsWaiting c.args.candidates.now) c.loop-cand.list.items (record { places = w.places_of-places.result; target = c.args.target; cand = c.cand-item.result }) c.loop-cand.invariant
+      (record {
+        target = c.requires.target;
+        listed = subst (λ (cs : List Cand). Listed c.cand-item.result cs) (c.as_slice-cand-items.ensures.value ∙ c.in_ok-own.ensures.list)
+            (subst (λ (d : Cand). Listed d c.as_slice-cand-items.result.now) (sym c.cand-item.is) (Listed-get_or c.as_slice-cand-items.result.now c.loop-cand.cand-index c.cand-item.result c.loop-cand-test.true));
+      }))
   | else-lt w ↦ subst (λ (ws : List Waiting). All (IsWaiting c.args.candidates.now) ws) (sym (ap (λ v. v.items) w.list-is)) c.loop-cand.invariant
 ]

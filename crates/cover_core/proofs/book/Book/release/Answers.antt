@@ -15,9 +15,12 @@ all : (c : Joined-hold) → ReleaseAll _ _ _ c.self.invariant.0 c.self.view_is c
 all c = release-all _ _ _ c.self.invariant.0 c.self.view_is c.args.job.now c.target.result c.left.result c.hold.result c.if-hold.result c.hold.new.self c.target.ensures c.left.ensures c.requires.target c.hold.ensures.answer (told c) c.hold.ensures.list
 
 pub invariant_of-self : goal.invariant_of-self
-invariant_of-self c = ((all c).kept, c.self.invariant.1,
-    past-released (record { rows = c.self.inside.rows; witnesses = c.self.inside.witnesses; candidates = c.self.inside.candidates }) c.target.result c.left.result c.hold.new.self (target-of _ _ _ c.self.invariant.0 c.self.view_is c.target.result _ c.target.ensures c.requires.target) c.self.inside.cursors c.let_go-self-inside.result
-        c.let_go-self-inside.ensures.unfinished c.let_go-self-inside.ensures.drawable c.hold.ensures.list c.self.invariant.2)
+invariant_of-self c = (
+  (all c).kept,
+  c.self.invariant.1,
+  past-released (record { rows = c.self.inside.rows; witnesses = c.self.inside.witnesses; candidates = c.self.inside.candidates }) c.target.result c.left.result c.hold.new.self (target-of _ _ _ c.self.invariant.0 c.self.view_is c.target.result _ c.target.ensures c.requires.target) c.self.inside.cursors c.let_go-self-inside.result
+      c.let_go-self-inside.ensures.unfinished c.let_go-self-inside.ensures.drawable c.hold.ensures.list c.self.invariant.2,
+)
 
 pub returns-clause-step : goal.returns-clause-step
 returns-clause-step c = (all c).step
