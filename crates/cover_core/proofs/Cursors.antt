@@ -1,25 +1,25 @@
 -- Searches that begin at a cursor, and what leaves a cursor where it is.
-use Rattle.std.proofs.Common.{inl, inr, ◌≡◌, ◌⊎◌, ℕ, ◌+◌, ◌-◌, ◌<◌, ◌≤◌, Bool, true, false, cond, eqb, ltb, ◌&&◌, max, if◌then◌else◌, not, refl, sym, ap, ◌∙◌, subst, arith, List, [], ◌∷◌, length, map, Some, None, Less}
+use Rattle.std.proofs.Common.{inl, inr, ◌≡◌, ℕ, ◌+◌, ◌<◌, ◌≤◌, Bool, true, false, cond, eqb, ltb, ◌&&◌, max, if◌then◌else◌, not, refl, sym, ap, ◌∙◌, subst, arith, List, [], ◌∷◌, map, Some, None, Less}
 use Rattle.std.specs.List.{find}
 use Rattle.std.specs.Ordering.{is_lt, nat_cmp, ordering_reverse}
 use Rattle.std.proofs.lemmas.Bool.{true≢false, eqb-true, cases_eq, cases_lt, le-ltb, ltb-false}
 use Rattle.std.proofs.lemmas.Cmp.{tied_itself}
-use Rattle.std.proofs.lemmas.Option.{same_Some, none-some}
+use Rattle.std.proofs.lemmas.Option.{same_Some}
 use Rattle.col_set.specs.declared.target.Target.{Target}
 use Rattle.col_set.specs.declared.target.Target.TheVariants.{Col, RowId}
 use Rattle.col_set.specs.ColSet.{report_cmp}
 use Rattle.col_set.specs.Columns.{report_total, nat_cmp-lt}
 use Rattle.col_set.specs.Target.{IsColumnTarget}
-use Rattle.col_set.specs.Lists.{Listed, Rises, Listed-map, Listed-map_which}
+use Rattle.col_set.specs.Lists.{Listed, Listed-map, Listed-map_which}
 use Rattle.candidate_cover.specs.declared.cand.Cand.{Cand}
 use Rattle.candidate_cover.specs.Lists.{CandLists}
-use Rattle.candidate_cover.specs.Cands.{width, cands_of, with_list, lefts, from, holding, marked, IsInOrder}
+use Rattle.candidate_cover.specs.Cands.{width, cands_of, with_list, from, holding, marked, IsInOrder}
 use Rattle.candidate_cover.proofs.Remarked.{empty_first}
 use Rattle.candidate_cover.proofs.Targets.{width-with_list}
 use Rattle.rel_base.specs.CodeTable.{CodeTable}
 use Rattle.rel_base.specs.RowState.{next, width as columns_of}
 use Rattle.cover_steps.specs.Core.{Core, entries_in, is_unfinished, is_drawable}
-use Rattle.cover_steps.proofs.Lists.{find-Some, find-None}
+use Rattle.cover_steps.proofs.Lists.{find-None}
 use Rattle.cover_steps.proofs.Kept.{cands_of-with_list, target_cases}
 use Rattle.cover_core.specs.declared.cursor.Cursor.{Cursor}
 use Rattle.cover_core.specs.declared.cursor.Cursors.{Cursors}

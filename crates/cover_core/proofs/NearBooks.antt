@@ -1,6 +1,6 @@
 -- A book whose candidates are known to hold among all rows but the last one: its jobs look at one row.
-use Rattle.std.proofs.Common.{inl, inr, ◌≡◌, ◌⊎◌, ℕ, zero, suc, ◌+◌, ◌-◌, ◌≤◌, eqb, ltb, leb, Bool, true, false, cond, refl, sym, ap, ap₂, ◌∙◌, subst, arith, List, [], ◌∷◌, length, not, Option, Some, None}
-use Rattle.std.specs.List.{All, filter, find, count_by, range_with_len}
+use Rattle.std.proofs.Common.{inl, inr, ◌≡◌, ◌⊎◌, ℕ, zero, suc, ◌+◌, ◌-◌, ◌≤◌, eqb, leb, Bool, true, false, cond, refl, sym, ap, ◌∙◌, subst, arith, List, [], ◌∷◌, length, not, Option, Some, None}
+use Rattle.std.specs.List.{filter, find, count_by, range_with_len}
 use Rattle.std.specs.Option.{is_some}
 use Rattle.std.proofs.lemmas.Bool.{true≢false, leb-true, ltb-false}
 use Rattle.std.proofs.lemmas.List.Sums.{sum_by-cons}
@@ -13,7 +13,7 @@ use Rattle.rel_base.specs.RowState.{width, next}
 use Rattle.rel_base.specs.Shows.{live_numbers}
 use Rattle.rel_base.proofs.States.{All-listed, All-from}
 use Rattle.candidate_cover.specs.declared.cand.Cand.{Cand}
-use Rattle.candidate_cover.specs.Cands.{cands_of, holding}
+use Rattle.candidate_cover.specs.Cands.{holding}
 use Rattle.cover_steps.specs.Core.{Core, cands, entries_in, entries, is_unfinished, with_cands}
 use Rattle.cover_steps.specs.Steps as steps
 use Rattle.cover_steps.specs.Sound.{Sound}

@@ -4,7 +4,6 @@ use Rattle.std.specs.List.{All}
 use Rattle.col_set.specs.declared.target.Target.{Target}
 use Rattle.col_set.specs.Target.{IsColumnTarget}
 use Rattle.col_set.specs.Lists.{Listed, Listed-append_cases}
-use Rattle.col_set.proofs.Places.{Listed-get_or}
 use Rattle.rel_base.specs.CodeTable.{CodeTable}
 use Rattle.rel_base.specs.JobParts.{JobParts}
 use Rattle.rel_base.specs.RowState.{RowState, width, next}
@@ -14,7 +13,7 @@ use Rattle.negative_cover.specs.Witnesses.{sets_of}
 use Rattle.candidate_cover.specs.declared.cand.Cand.{Cand}
 use Rattle.candidate_cover.specs.Lists.{CandLists}
 use Rattle.candidate_cover.specs.Drafts.{Drafted}
-use Rattle.cover_steps.specs.Core.{Core, cands, renewed}
+use Rattle.cover_steps.specs.Core.{Core, renewed}
 use Rattle.cover_steps.specs.Sound.{IsWitness, IsMarked, Sound, Fits}
 use Rattle.cover_steps.proofs.Fitting.{Fits-shown}
 use Rattle.cover_steps.proofs.Keeping.{Sound-renewed, Follows-itself, cand-least, cand-marked}

@@ -113,8 +113,8 @@ impl Store {
         self.search(alloc, job, most, steps)
     }
 
-    /// The weight of each column of the store's snapshot, at the column's place: how many rows it does not tell from an earlier one.
-    /// Places beyond the columns tell nothing.
+    /// The weight of each column of the store's snapshot, at the column's place: how many live rows it does not tell from an
+    /// earlier one. Places beyond the columns tell nothing.
     ///
     /// A caller puts its left sides in order by it: the columns of each by weight, ties by number, and the left sides by their
     /// lightest column, then by the second lightest, and so on. In this order verdicts share the groups that they are made from.

@@ -1,10 +1,7 @@
-use Rattle.std.proofs.Common.{◌≡◌, ◌<◌, ◌∙◌, ◌-◌, ℕ, Bool, List, Option, Some, None, refl, sym, ap, subst, arith, length, below_more}
+use Rattle.std.proofs.Common.{◌≡◌, ◌<◌, ◌∙◌, ◌-◌, ℕ, Bool, List, Option, refl, sym, ap, subst, arith, below_more}
 use Rattle.std.specs.List.{find}
-use Rattle.col_set.specs.declared.target.Target.{Target}
-use Rattle.col_set.specs.declared.target.Target.TheVariants.{Col, RowId}
 use Rattle.candidate_cover.specs.declared.cand.Cand.{Cand}
-use Rattle.candidate_cover.specs.Lists.{CandLists}
-use Rattle.candidate_cover.specs.Cands.{width, cands_of, from}
+use Rattle.candidate_cover.specs.Cands.{width, from}
 use Rattle.candidate_cover.proofs.Remarked.{from_empty}
 use Rattle.cover_core.specs.Past.{IsPast}
 use Rattle.cover_core.proofs.FirstFound.{find-none, find-column}

@@ -1,5 +1,4 @@
-use Rattle.std.proofs.Common.{◌∙◌, sym, ap, refl, true, false}
-use Rattle.std.specs.List.{find}
+use Rattle.std.proofs.Common.{sym, refl, true, false}
 use Rattle.set_tree.proofs.Cuts.{not_found_more, found_next, found_nowhere}
 use Rattle.set_tree.proofs.set_tree.first_in.Goals as goal
 

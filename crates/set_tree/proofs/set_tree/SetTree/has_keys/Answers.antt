@@ -1,4 +1,4 @@
-use Rattle.std.proofs.Common.{◌≡◌, ◌+◌, ◌<◌, ℕ, List, length, sym, subst, take, rules}
+use Rattle.std.proofs.Common.{◌≡◌, ◌+◌, ◌<◌, length, sym, subst, take, rules}
 use Rattle.set_tree.specs.Pairs.{keys}
 use Rattle.set_tree.proofs.Added.{same_more}
 use Rattle.set_tree.proofs.set_tree.SetTree.has_keys.Goals as goal

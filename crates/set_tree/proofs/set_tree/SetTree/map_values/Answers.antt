@@ -1,4 +1,4 @@
-use Rattle.std.proofs.Common.{◌≡◌, ◌<◌, ◌≤◌, ◌∙◌, sym, ap, subst, arith, length, set}
+use Rattle.std.proofs.Common.{◌≡◌, ◌<◌, ◌≤◌, ◌∙◌, ap, subst, arith, length, set}
 use Rattle.std.proofs.lemmas.List.Edits.{map_over_more}
 use Rattle.set_tree.specs.Pairs.{keys, IsInOrder}
 use Rattle.set_tree.proofs.Mapped.{keys-set, IsInOrder-same_keys, all_changed}

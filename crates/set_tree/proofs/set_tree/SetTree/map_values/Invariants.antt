@@ -1,4 +1,4 @@
-use Rattle.std.proofs.Common.{◌≡◌, ℕ, ◌++◌, take, drop}
+use Rattle.std.proofs.Common.{◌≡◌, ◌++◌, take, drop}
 use Rattle.set_tree.specs.Pairs.{keys, with_values}
 use Rattle.set_tree.proofs.set_tree.SetTree.map_values.Given as goal
 

@@ -1,1 +1,0 @@
-use Rattle.cover_core.proofs.book.Book.search.Goals as goal
