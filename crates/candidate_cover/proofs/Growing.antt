@@ -1,22 +1,21 @@
 -- One more agree set: the sets that lie inside it give way to those that grow out of them.
-use Rattle.std.proofs.Common.{inl, inr, ◌≡◌, ◌⊎◌, ℕ, ◌+◌, ◌^◌, ◌<◌, Bool, true, false, cond, not, ◌&&◌, ◌||◌, eqb, refl, sym, ap, ap₂, ◌∙◌, subst, arith, List, [], ◌∷◌, ◌++◌, map, length, get_or, take, zero, suc, append_assoc, append-nil, add-zero, zero-add}
-use Rattle.std.specs.List.{filter, list_any, range_with_len}
+use Rattle.std.proofs.Common.{inl, inr, ◌≡◌, ◌⊎◌, ℕ, ◌+◌, ◌^◌, ◌<◌, Bool, true, false, cond, not, ◌&&◌, eqb, refl, sym, ap, ◌∙◌, subst, arith, List, [], ◌∷◌, ◌++◌, map, length, get_or, take, zero, suc, append_assoc, append-nil, add-zero, zero-add, if◌then◌else◌}
+use Rattle.std.specs.List.{list_any, flat_map, range_with_len}
 use Rattle.std.proofs.lemmas.List.{take_more, map-append}
 use Rattle.std.proofs.lemmas.List.Concat.{flat_map-append}
-use Rattle.std.proofs.lemmas.List.Elements.{filter-append, filter_agree}
-use Rattle.std.proofs.lemmas.List.Folds.{list_any_more}
+use Rattle.std.proofs.lemmas.List.Elements.{filter-append}
 use Rattle.std.proofs.Math.Nat.{suc-add}
-use Rattle.std.proofs.lemmas.Bool.{and_parts, and_from, true≢false, false≢true, not-true, not_from_false, or_cases, or_left, or_right, ne_eqb, false_from_ne_true, eqb-true, eq-eqb, cases_Bool}
+use Rattle.std.proofs.lemmas.Bool.{and_parts, and_from, true≢false, false≢true, not-true, not_from_false, or_cases, or_right, false_from_ne_true, eqb-true, eq-eqb, cases_Bool}
 use Rattle.col_set.specs.declared.target.Target.{Target}
-use Rattle.col_set.specs.ColSet.{IsSubset, has, with, minus, union, size, columns, set_of, subset, upto}
+use Rattle.col_set.specs.ColSet.{IsSubset, has, with, minus, size, set_of, subset, upto}
 use Rattle.col_set.specs.Target.{has_target}
 use Rattle.col_set.specs.Evidence.{refuted}
-use Rattle.col_set.specs.Members.{has-with, has-minus, has-union, has-empty, same_set}
-use Rattle.col_set.specs.Subsets.{IsSubset-refl, IsSubset-trans, IsSubset-antisymm, IsSubset-with, with_subset, has-with_itself, has_within, subset-true, true-subset, subset_below, same_test}
-use Rattle.col_set.specs.AllSets.{Listed-upto, columns-set_of, set_of-columns, set_of-has}
+use Rattle.col_set.specs.Members.{has-with, has-minus, has-empty, same_set}
+use Rattle.col_set.specs.Subsets.{IsSubset-trans, IsSubset-antisymm, IsSubset-with, with_subset, has-with_itself, has_within, subset-true, true-subset, subset_below, same_test}
+use Rattle.col_set.specs.AllSets.{Listed-upto, columns-set_of}
 use Rattle.col_set.specs.Lists.{Listed, Listed-filter, Listed-filter_parts, Listed-map, Listed-map_which, Listed-flat_map, Listed-flat_map_which, Listed-append_left, Listed-append_right, Listed-append_cases, list_any_at, list_any_which}
 use Rattle.col_set.proofs.Least.{stands_above}
-use Rattle.candidate_cover.specs.Growth.{IsLeastAmong, ListsLeast, one_outside, inside, outside, near, completes, growing, grown}
+use Rattle.candidate_cover.specs.Growth.{IsLeastAmong, ListsLeast, one_outside, inside, outside, near, having, unblocked, grown_by, grown}
 use Rattle.candidate_cover.proofs.Evidence.{stands_before, stands_after, HasLeast, least_under}
 
 -- ---- columns outside a set
@@ -47,53 +46,21 @@ size-one : (k : ℕ) → size (with 0 k) ≡ 1
 unfolding size set_of
 size-one k = ap length (columns-set_of (k ∷ []) (k + 1) (omega arith, omega arith, tt))
 
-one_is : (r k : ℕ) → size r ≡ 1 → has r k ≡ true → r ≡ with 0 k
-unfolding size set_of
-one_is r k e h = sym (set_of-columns r) ∙ by (columns r) e (set_of-has k (columns r) (ap (λ (v : ℕ). has v k) (set_of-columns r) ∙ h))
+-- within a set and one column outside z: exactly one column outside z
+near_by : (m c z k : ℕ) → IsSubset m (with c k) → IsSubset c z → has m k ≡ true → has z k ≡ false → one_outside z m ≡ true
+near_by m c z k s i h e = eq-eqb _ 1 (ap size only ∙ size-one k)
   where
-    by : (cs : List ℕ) → length cs ≡ 1 → Listed k cs → set_of cs ≡ with 0 k
-    by [] i g = absurd g
-    by (c ∷ []) i (inl g) = ap (with 0) (sym g)
-    by (c ∷ []) i (inr g) = absurd g
-    by (c ∷ d ∷ cs) i g = absurd (omega (arith, i))
-
-pub has-one : (r : ℕ) → size r ≡ 1 → (k : ℕ) → has r k ≡ eqb r (with 0 k)
-has-one r e k = same_test (has r k) (eqb r (with 0 k)) (λ h. eq-eqb r (with 0 k) (one_is r k e h)) (λ h. ap (λ (v : ℕ). has v k) (eqb-true r (with 0 k) h) ∙ has-with_itself 0 k)
-
-or_none : (b c : Bool) → c ≡ false → (b || c) ≡ b
-or_none true c e = refl
-or_none false c e = e
-
--- within a set and one column outside z: this column is all that is outside z
-pub only_outside : (m c z k : ℕ) → IsSubset m (with c k) → IsSubset c z → has m k ≡ true → has z k ≡ false → minus m z ≡ with 0 k
-only_outside m c z k s i h e = same_set _ _ (λ j. has-minus m z j ∙ same_test (has m j && not (has z j)) (has (with 0 k) j)
-    (λ g. let q = and_parts (has m j) _ g in has-with 0 k j ∙ or_right (has 0 j) (eqb j k) (it_is j q.0 (not-true _ q.1)))
-    (λ g. at j (or_cases (has 0 j) (eqb j k) (sym (has-with 0 k j) ∙ g))))
-  where
-    it_is : (j : ℕ) → has m j ≡ true → has z j ≡ false → eqb j k ≡ true
-    it_is j g f = elim (or_cases (has c j) (eqb j k) (sym (has-with c k j) ∙ s.each j g)) as (λ _. eqb j k ≡ true) [ inl d ↦ absurd (true≢false (sym (i.each j d) ∙ f)) | inr d ↦ d ]
-
-    at : (j : ℕ) → (has 0 j ≡ true) ⊎ (eqb j k ≡ true) → (has m j && not (has z j)) ≡ true
-    at j (inl d) = absurd (false≢true (sym (has-empty j) ∙ d))
-    at j (inr d) = let same = eqb-true j k d in and_from _ _ (ap (has m) same ∙ h) (ap not (ap (has z) same ∙ e))
-
-pub near_by : (m c z k : ℕ) → IsSubset m (with c k) → IsSubset c z → has m k ≡ true → has z k ≡ false → one_outside z m ≡ true
-near_by m c z k s i h e = eq-eqb _ 1 (ap size (only_outside m c z k s i h e) ∙ size-one k)
-
--- a set whose one column outside c is k
-pub completes_parts : (c k y : ℕ) → completes c k y ≡ true → (has y k ≡ true) × IsSubset y (with c k)
-completes_parts c k y e = ((and_parts (has y k) _ (sym (has-minus y c k) ∙ ap (λ (v : ℕ). has v k) only ∙ has-with_itself 0 k)).0, record { each = λ j h. by j h (has c j) refl })
-  where
-    only : minus y c ≡ with 0 k
-    only = eqb-true (minus y c) (with 0 k) e
-
-    by : (j : ℕ) → has y j ≡ true → (b : Bool) → has c j ≡ b → has (with c k) j ≡ true
-    by j h true i = has-with c k j ∙ or_left (has c j) (eqb j k) i
-    by j h false i = has-with c k j ∙ or_right (has c j) (eqb j k) (at (or_cases (has 0 j) (eqb j k) (sym (has-with 0 k j) ∙ ap (λ (v : ℕ). has v j) (sym only) ∙ has-minus y c j ∙ and_from _ _ h (not_from_false _ i))))
+    only : minus m z ≡ with 0 k
+    only = same_set _ _ (λ j. has-minus m z j ∙ same_test (has m j && not (has z j)) (has (with 0 k) j)
+        (λ g. let q = and_parts (has m j) _ g in has-with 0 k j ∙ or_right (has 0 j) (eqb j k) (it_is j q.0 (not-true _ q.1)))
+        (λ g. at j (or_cases (has 0 j) (eqb j k) (sym (has-with 0 k j) ∙ g))))
       where
-        at : (has 0 j ≡ true) ⊎ (eqb j k ≡ true) → eqb j k ≡ true
-        at (inl d) = absurd (false≢true (sym (has-empty j) ∙ d))
-        at (inr d) = d
+        it_is : (j : ℕ) → has m j ≡ true → has z j ≡ false → eqb j k ≡ true
+        it_is j g f = elim (or_cases (has c j) (eqb j k) (sym (has-with c k j) ∙ s.each j g)) as (λ _. eqb j k ≡ true) [ inl d ↦ absurd (true≢false (sym (i.each j d) ∙ f)) | inr d ↦ d ]
+
+        at : (j : ℕ) → (has 0 j ≡ true) ⊎ (eqb j k ≡ true) → (has m j && not (has z j)) ≡ true
+        at j (inl d) = absurd (false≢true (sym (has-empty j) ∙ d))
+        at j (inr d) = let same = eqb-true j k d in and_from _ _ (ap (has m) same ∙ h) (ap not (ap (has z) same ∙ e))
 
 -- ---- what `grown` lists
 pub record Grows (n u z : ℕ) (ins nears : List ℕ) (x : ℕ) : Type 0 where
@@ -103,28 +70,40 @@ pub record Grows (n u z : ℕ) (ins nears : List ℕ) (x : ℕ) : Type 0 where
   pub choice : has u column ≡ true
   pub out : has z column ≡ false
   pub same : x ≡ with from column
-  pub free : list_any (completes from column) nears ≡ false
+  pub free : (y : ℕ) → Listed y nears → has y column ≡ true → IsSubset y x → ⊥
 
 module _ (n u z : ℕ) (ins nears : List ℕ) where
-  abbrev grows_by : ℕ → ℕ → Bool
-  grows_by c k = (has u k && not (has z k)) && not (list_any (completes c k) nears)
-
   pub grown_parts : (x : ℕ) → Listed x (grown n u z ins nears) → Grows n u z ins nears x
   grown_parts x h =
-      let w = Listed-flat_map_which (λ c. map (λ k. with c k) (growing n u z nears c)) x ins h in
-      let v = Listed-map_which (λ k. with w.0 k) x (growing n u z nears w.0) w.2 in
-      let q = Listed-filter_parts (grows_by w.0) v.0 (upto n) v.1 in
-      let p = and_parts (has u v.0 && not (has z v.0)) _ q.1 in
-      let r = and_parts (has u v.0) _ p.0 in
-      record { from = w.0; column = v.0; listed = w.1; choice = r.0; out = not-true _ r.1; same = v.2; free = not-true _ p.1 }
+      let w = Listed-flat_map_which (λ k. if has u k && not (has z k) then grown_by ins nears k else []) x (upto n) h in
+      by w.0 (has u w.0 && not (has z w.0)) refl w.2
+    where
+      by : (k : ℕ) (b : Bool) → (has u k && not (has z k)) ≡ b → Listed x (if b then grown_by ins nears k else []) → Grows n u z ins nears x
+      by k true e g =
+          let q = Listed-filter_parts (λ x. not (list_any (λ y. subset y x) (having k nears))) x (map (λ c. with c k) ins) g in
+          let v = Listed-map_which (λ c. with c k) x ins q.0 in
+          let r = and_parts (has u k) (not (has z k)) e in
+          record {
+            from = v.0;
+            column = k;
+            listed = v.1;
+            choice = r.0;
+            out = not-true _ r.1;
+            same = v.2;
+            free = λ y l a s. true≢false (sym (list_any_at (λ y. subset y x) y (having k nears) (Listed-filter (λ x. has x k) y nears l a) (true-subset s)) ∙ not-true _ q.1);
+          }
+      by k false e g = absurd g
 
   pub grown_from : (x : ℕ) (g : Grows n u z ins nears x) → g.column < n → Listed x (grown n u z ins nears)
   grown_from x g l =
-      Listed-flat_map (λ c. map (λ k. with c k) (growing n u z nears c)) g.from x ins g.listed
-      (subst (λ (y : ℕ). Listed y (map (λ k. with g.from k) (growing n u z nears g.from))) (sym g.same)
-      (Listed-map (λ k. with g.from k) g.column (growing n u z nears g.from)
-      (Listed-filter (grows_by g.from) g.column (upto n) (Listed-upto n g.column l)
-      (and_from _ _ (and_from _ _ g.choice (not_from_false _ g.out)) (not_from_false _ g.free)))))
+      Listed-flat_map (λ k. if has u k && not (has z k) then grown_by ins nears k else []) g.column x (upto n) (Listed-upto n g.column l)
+      (subst (λ b. Listed x (if b then grown_by ins nears g.column else [])) (sym (and_from _ _ g.choice (not_from_false _ g.out)))
+      (Listed-filter (λ x. not (list_any (λ y. subset y x) (having g.column nears))) x (map (λ c. with c g.column) ins)
+      (subst (λ (y : ℕ). Listed y (map (λ c. with c g.column) ins)) (sym g.same) (Listed-map (λ c. with c g.column) g.from ins g.listed))
+      (not_from_false _ (false_from_ne_true _ (λ e.
+      let w = list_any_which (λ y. subset y x) (having g.column nears) e in
+      let q = Listed-filter_parts (λ x. has x g.column) w.0 nears w.1 in
+      g.free w.0 q.0 q.1 (subset-true w.2))))))
 
 -- ---- the least sets after one more agree set
 module _ (n u : ℕ) (ws : List ℕ) (t : Target) (z : ℕ) (few : u < 2 ^ n) (apart : has_target z t ≡ false) (old : List ℕ) (l : ListsLeast u ws t old) where
@@ -164,11 +143,9 @@ module _ (n u : ℕ) (ws : List ℕ) (t : Target) (z : ℕ) (few : u < 2 ^ n) (a
       m = least_under u ws t y low b.0
 
       by : (has m.set g.column ≡ true) ⊎ (has m.set g.column ≡ false) → y ≡ with g.from g.column
-      by (inl h) = absurd (true≢false (sym (list_any_at (completes g.from g.column) m.set (near z (outside z old))
+      by (inl h) = absurd (g.free m.set
           (Listed-filter (one_outside z) m.set (outside z old) (Listed-filter (λ x. not (subset x z)) m.set old (l.every m.set m.least) (ap not (not_inside m.set z g.column h g.out)))
-          (near_by m.set g.from z g.column (IsSubset-trans m.inside r) s h g.out))
-          (eq-eqb (minus m.set g.from) (with 0 g.column) (only_outside m.set g.from g.from g.column (IsSubset-trans m.inside r) (IsSubset-refl g.from) h
-          (false_from_ne_true _ (λ d. true≢false (sym (s.each g.column d) ∙ g.out)))))) ∙ g.free))
+          (near_by m.set g.from z g.column (IsSubset-trans m.inside r) s h g.out)) h (subst (IsSubset m.set) (sym g.same) (IsSubset-trans m.inside r)))
       by (inr h) = IsSubset-antisymm r (with_subset g.column above at)
         where
           inner : (k : ℕ) → has m.set k ≡ true → has g.from k ≡ true
@@ -225,8 +202,8 @@ module _ (n u : ℕ) (ws : List ℕ) (t : Target) (z : ℕ) (few : u < 2 ^ n) (a
           same = i.smallest (with m.set o.column) (with_subset o.column m.inside o.inside)
               (stands_after ws t z apart (with m.set o.column) (stands_above ws t (IsSubset-with m.set o.column) m.least.stands) (not_inside (with m.set o.column) z o.column (has-with_itself m.set o.column) o.out))
 
-          closed : (y : ℕ) → Listed y (near z (outside z old)) → IsSubset y x → ⊥
-          closed y h s =
+          free : (y : ℕ) → Listed y (near z (outside z old)) → has y o.column ≡ true → IsSubset y x → ⊥
+          free y h a s =
               let p = Listed-filter_parts (one_outside z) y (outside z old) h in
               let q = Listed-filter_parts (λ x. not (subset x z)) y old p.0 in
               let j = l.each y q.0 in
@@ -243,9 +220,7 @@ module _ (n u : ℕ) (ws : List ℕ) (t : Target) (z : ℕ) (few : u < 2 ^ n) (a
             choice = i.within.each o.column o.inside;
             out = o.out;
             same = sym same;
-            free = false_from_ne_true _ (λ d.
-                let w = list_any_which (completes m.set o.column) (near z (outside z old)) d in
-                closed w.0 w.1 (subst (IsSubset w.0) same (completes_parts m.set o.column w.0 w.2).1));
+            free = free;
           }
 
   -- the sets that do not lie inside z, and those that grow out of the others
@@ -274,44 +249,37 @@ lists_untouched u ws t z apart xs none l = record {
     out x h = false_from_ne_true _ (λ e. true≢false (sym (list_any_at (λ x. subset x z) x xs h e) ∙ none))
 
 -- ---- the loops
+pub unblocked_more : (blockers : List ℕ) (k : ℕ) (ins : List ℕ) (i c x : ℕ) → i < length ins → c ≡ get_or ins i c → x ≡ with c k → list_any (λ y. subset y x) blockers ≡ false
+    → (old new : List ℕ) → new ≡ old ++ unblocked blockers (map (λ c. with c k) (take i ins)) → new ++ x ∷ [] ≡ old ++ unblocked blockers (map (λ c. with c k) (take (i + 1) ins))
+unblocked_more blockers k ins i c x l is made free old new e =
+    ap (λ xs. xs ++ x ∷ []) e ∙ append_assoc old (unblocked blockers (map (λ c. with c k) (take i ins))) (x ∷ [])
+    ∙ ap (λ xs. old ++ xs) (sym (ap (λ cs. unblocked blockers (map (λ c. with c k) cs)) (take_more ins i c l ∙ ap (λ (d : ℕ). take i ins ++ d ∷ []) (sym is))
+    ∙ ap (unblocked blockers) (map-append (λ c. with c k) (take i ins) (c ∷ []) ∙ ap (λ (y : ℕ). map (λ c. with c k) (take i ins) ++ y ∷ []) (sym made))
+    ∙ filter-append (λ x. not (list_any (λ y. subset y x) blockers)) (map (λ c. with c k) (take i ins)) (x ∷ [])
+    ∙ ap (λ b. unblocked blockers (map (λ c. with c k) (take i ins)) ++ cond (not b) (x ∷ []) []) free))
+
+pub unblocked_same : (blockers : List ℕ) (k : ℕ) (ins : List ℕ) (i c x : ℕ) → i < length ins → c ≡ get_or ins i c → x ≡ with c k → list_any (λ y. subset y x) blockers ≡ true
+    → (old new : List ℕ) → new ≡ old ++ unblocked blockers (map (λ c. with c k) (take i ins)) → new ≡ old ++ unblocked blockers (map (λ c. with c k) (take (i + 1) ins))
+unblocked_same blockers k ins i c x l is made free old new e =
+    e ∙ ap (λ xs. old ++ xs) (sym (ap (λ cs. unblocked blockers (map (λ c. with c k) cs)) (take_more ins i c l ∙ ap (λ (d : ℕ). take i ins ++ d ∷ []) (sym is))
+    ∙ ap (unblocked blockers) (map-append (λ c. with c k) (take i ins) (c ∷ []) ∙ ap (λ (y : ℕ). map (λ c. with c k) (take i ins) ++ y ∷ []) (sym made))
+    ∙ filter-append (λ x. not (list_any (λ y. subset y x) blockers)) (map (λ c. with c k) (take i ins)) (x ∷ [])
+    ∙ ap (λ b. unblocked blockers (map (λ c. with c k) (take i ins)) ++ cond (not b) (x ∷ []) []) free ∙ append-nil _))
+
 pub upto_more : (n a : ℕ) → range_with_len a (n + 1) ≡ range_with_len a n ++ (a + n) ∷ []
 upto_more zero a = ap (λ (i : ℕ). i ∷ []) (sym (add-zero a))
 upto_more (suc n) a = ap (range_with_len a) (suc-add n 1) ∙ ap (λ is. a ∷ is) (upto_more n (a + 1)) ∙ ap (λ (i : ℕ). (a ∷ range_with_len (a + 1) n) ++ i ∷ []) (let e : a + 1 + n ≡ a + suc n = omega arith in e)
 
--- the columns that complete one of the first sets
-module _ (x : ℕ) (sets : List ℕ) (i y r : ℕ) (l : i < length sets) (is : y ≡ get_or sets i y) (left : r ≡ minus y x) where
-  completing_next : (k : ℕ) → list_any (completes x k) (take (i + 1) sets) ≡ (list_any (completes x k) (take i sets) || eqb r (with 0 k))
-  completing_next k = list_any_more (completes x k) sets i y l ∙ ap (λ (v : ℕ). list_any (completes x k) (take i sets) || eqb v (with 0 k)) (ap (λ (v : ℕ). minus v x) (sym is) ∙ sym left)
+pub grown_more : (n u z : ℕ) (ins nears : List ℕ) → grown (n + 1) u z ins nears ≡ grown n u z ins nears ++ (if has u n && not (has z n) then grown_by ins nears n else [])
+grown_more n u z ins nears =
+    ap (flat_map (λ k. if has u k && not (has z k) then grown_by ins nears k else [])) (upto_more n 0 ∙ ap (λ (i : ℕ). upto n ++ i ∷ []) (zero-add n))
+    ∙ flat_map-append (λ k. if has u k && not (has z k) then grown_by ins nears k else []) (upto n) (n ∷ []) ∙ ap (λ ys. grown n u z ins nears ++ ys) (append-nil _)
 
-  pub completing_more : (found new : ℕ) → size r ≡ 1 → new ≡ union found r → ((k : ℕ) → has found k ≡ list_any (completes x k) (take i sets)) → (k : ℕ) → has new k ≡ list_any (completes x k) (take (i + 1) sets)
-  completing_more found new e made f k = ap (λ (v : ℕ). has v k) made ∙ has-union found r k ∙ ap₂ (λ b c. b || c) (f k) (has-one r e k) ∙ sym (completing_next k)
+pub grown_push : (n u z : ℕ) (ins nears old made new : List ℕ) → (has u n && not (has z n)) ≡ true → made ≡ old ++ grown n u z ins nears → new ≡ made ++ grown_by ins nears n → new ≡ old ++ grown (n + 1) u z ins nears
+grown_push n u z ins nears old made new b e f =
+    f ∙ ap (λ xs. xs ++ grown_by ins nears n) e ∙ append_assoc old (grown n u z ins nears) (grown_by ins nears n)
+    ∙ ap (λ xs. old ++ xs) (sym (grown_more n u z ins nears ∙ ap (λ c. grown n u z ins nears ++ (if c then grown_by ins nears n else [])) b))
 
-  pub completing_same : (found : ℕ) → (size r ≡ 1 → ⊥) → ((k : ℕ) → has found k ≡ list_any (completes x k) (take i sets)) → (k : ℕ) → has found k ≡ list_any (completes x k) (take (i + 1) sets)
-  completing_same found e f k = f k ∙ sym (or_none _ _ (ne_eqb r (with 0 k) (λ d. e (ap size d ∙ size-one k)))) ∙ sym (completing_next k)
-
--- a set with each one of the first columns of another
-module _ (x more n : ℕ) where
-  extended_next : map (λ k. with x k) (filter (has more) (upto (n + 1))) ≡ map (λ k. with x k) (filter (has more) (upto n)) ++ map (λ k. with x k) (cond (has more n) (n ∷ []) [])
-  extended_next =
-      ap (λ ks. map (λ k. with x k) (filter (has more) ks)) (upto_more n 0 ∙ ap (λ (i : ℕ). upto n ++ i ∷ []) (zero-add n))
-      ∙ ap (map (λ k. with x k)) (filter-append (has more) (upto n) (n ∷ [])) ∙ map-append (λ k. with x k) (filter (has more) (upto n)) (cond (has more n) (n ∷ []) [])
-
-  pub extended_more : (old made new : List ℕ) (y : ℕ) → has more n ≡ true → y ≡ with x n → made ≡ old ++ map (λ k. with x k) (filter (has more) (upto n)) → new ≡ made ++ y ∷ [] → new ≡ old ++ map (λ k. with x k) (filter (has more) (upto (n + 1)))
-  extended_more old made new y e is m f =
-      f ∙ ap₂ (λ (xs : List ℕ) (v : ℕ). xs ++ v ∷ []) m is ∙ append_assoc old (map (λ k. with x k) (filter (has more) (upto n))) (with x n ∷ [])
-      ∙ ap (λ xs. old ++ xs) (sym (extended_next ∙ ap (λ b. map (λ k. with x k) (filter (has more) (upto n)) ++ map (λ k. with x k) (cond b (n ∷ []) [])) e))
-
-  pub extended_same : (old made : List ℕ) → has more n ≡ false → made ≡ old ++ map (λ k. with x k) (filter (has more) (upto n)) → made ≡ old ++ map (λ k. with x k) (filter (has more) (upto (n + 1)))
-  extended_same old made e m =
-      m ∙ ap (λ xs. old ++ xs) (sym (extended_next ∙ ap (λ b. map (λ k. with x k) (filter (has more) (upto n)) ++ map (λ k. with x k) (cond b (n ∷ []) [])) e ∙ append-nil _))
-
--- the first sets, grown
-pub grown_more : (n u z : ℕ) (ins nears : List ℕ) (i c out done more : ℕ) → i < length ins → c ≡ get_or ins i c → out ≡ minus u z → ((k : ℕ) → has done k ≡ list_any (completes c k) nears) → more ≡ minus out done
-    → (old made new : List ℕ) → made ≡ old ++ grown n u z (take i ins) nears → new ≡ made ++ map (λ k. with c k) (filter (has more) (upto n)) → new ≡ old ++ grown n u z (take (i + 1) ins) nears
-grown_more n u z ins nears i c out done more l is o d m old made new e f =
-    f ∙ ap₂ (λ (xs ys : List ℕ). xs ++ ys) e (ap (map (λ k. with c k)) (filter_agree (has more) _ same (upto n))) ∙ append_assoc old (grown n u z (take i ins) nears) (map (λ k. with c k) (growing n u z nears c))
-    ∙ ap (λ xs. old ++ xs) (sym (ap (λ cs. grown n u z cs nears) (take_more ins i c l ∙ ap (λ (v : ℕ). take i ins ++ v ∷ []) (sym is))
-    ∙ flat_map-append (λ c. map (λ k. with c k) (growing n u z nears c)) (take i ins) (c ∷ []) ∙ ap (λ ys. grown n u z (take i ins) nears ++ ys) (append-nil _)))
-  where
-    same : (k : ℕ) → has more k ≡ ((has u k && not (has z k)) && not (list_any (completes c k) nears))
-    same k = ap (λ (v : ℕ). has v k) m ∙ has-minus out done k ∙ ap₂ (λ b g. b && not g) (ap (λ (v : ℕ). has v k) o ∙ has-minus u z k) (d k)
+pub grown_skip : (n u z : ℕ) (ins nears old made : List ℕ) → (has u n && not (has z n)) ≡ false → made ≡ old ++ grown n u z ins nears → made ≡ old ++ grown (n + 1) u z ins nears
+grown_skip n u z ins nears old made b e =
+    e ∙ ap (λ xs. old ++ xs) (sym (grown_more n u z ins nears ∙ ap (λ c. grown n u z ins nears ++ (if c then grown_by ins nears n else [])) b ∙ append-nil _))

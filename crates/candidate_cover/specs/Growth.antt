@@ -1,9 +1,9 @@
 -- How candidates grow past one more agree set, over lists of column sets.
-use Rattle.std.specs.Prelude.{◌≡◌, ℕ, ◌==◌, Bool, true, false, not, ◌&&◌, List, map}
+use Rattle.std.specs.Prelude.{if◌then◌else◌, ◌≡◌, ℕ, ◌==◌, Bool, true, false, not, ◌&&◌, List, [], map}
 use Rattle.std.specs.List.{filter, list_any, flat_map}
 use Rattle.col_set.specs.declared.target.Target.{Target}
 use Rattle.col_set.specs.declared.target.Target.TheVariants.{Col, RowId}
-use Rattle.col_set.specs.ColSet.{Columns, IsSubset, empty, has, with, without, minus, size, subset, upto, all}
+use Rattle.col_set.specs.ColSet.{Columns, IsSubset, has, with, without, minus, size, subset, upto, all}
 use Rattle.col_set.specs.Evidence.{refuted}
 use Rattle.col_set.specs.Lists.{Listed}
 
@@ -37,17 +37,21 @@ outside z xs = filter (λ x. not (subset x z)) xs
 abbrev pub near : Columns → List Columns → List Columns
 near z xs = filter (one_outside z) xs
 
--- whether k is the one column of y that c lacks, so that c and this column contain y
-abbrev pub completes : Columns → ℕ → Columns → Bool
-completes c k y = minus y c == with empty k
+-- the sets that have the column
+abbrev pub having : ℕ → List Columns → List Columns
+having k xs = filter (λ x. has x k) xs
 
--- the columns by which c grows: those that are outside z and among these, and complete no set near by
-abbrev pub growing : ℕ → Columns → Columns → List Columns → Columns → List ℕ
-growing n columns z nears c = filter (λ k. (has columns k && not (has z k)) && not (list_any (completes c k) nears)) (upto n)
+-- those of the sets that contain none of the blockers
+abbrev pub unblocked : List Columns → List Columns → List Columns
+unblocked blockers xs = filter (λ x. not (list_any (λ y. subset y x) blockers)) xs
 
--- each set with each one of the columns by which it grows
+-- each set with this column more, where no set near by lies inside it
+abbrev pub grown_by : List Columns → List Columns → ℕ → List Columns
+grown_by ins nears k = unblocked (having k nears) (map (λ c. with c k) ins)
+
+-- each set with one column more, outside z and among the columns, where no set near by lies inside it
 abbrev pub grown : ℕ → Columns → Columns → List Columns → List Columns → List Columns
-grown n columns z ins nears = flat_map (λ c. map (λ k. with c k) (growing n columns z nears c)) ins
+grown n columns z ins nears = flat_map (λ k. if has columns k && not (has z k) then grown_by ins nears k else []) (upto n)
 
 -- The sets are the least ones against the rest that lie inside a withdrawn agree set which lacks the target.
 pub record IsExplored (columns : Columns) (rest gone : List Columns) (t : Target) (xs : List Columns) : Type 0 where

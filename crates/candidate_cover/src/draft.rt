@@ -10,7 +10,7 @@ ghost use Rattle.candidate_cover.specs.Growth.{ListsLeast};
 ghost use Rattle.candidate_cover.specs.Drafts as drafts;
 ghost use Rattle.candidate_cover.specs.Drafts.{Drafted, AreDrafted, AreGrown, lists_behind};
 
-use crate::growth::{choices, push_grown};
+use crate::growth::{choices, push_all_grown};
 use crate::part::sorted;
 use rel_base::{ColSet, Target};
 use std::alloc::{AllocError, Global};
@@ -149,6 +149,7 @@ fn known_by(agree_sets: &[ColSet], columns: u8, z: ColSet) -> Known
 struct Scratch {
     inner: Vec<ColSet>,
     nearby: Vec<ColSet>,
+    blockers: Vec<ColSet>,
 }
 
 impl Scratch {
@@ -156,6 +157,7 @@ impl Scratch {
         Scratch {
             inner: Vec::new(alloc),
             nearby: Vec::new(alloc),
+            blockers: Vec::new(alloc),
         }
     }
 }
@@ -208,8 +210,9 @@ fn grow_past(
 {
     split_off(sets, z, &mut scratch.inner, &mut scratch.nearby)?;
     let choices = choices(columns, target);
-    push_grown(
+    push_all_grown(
         sets,
+        &mut scratch.blockers,
         columns,
         choices,
         z,

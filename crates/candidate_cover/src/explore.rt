@@ -7,7 +7,7 @@ ghost use Rattle.col_set.specs.Evidence.{refuted};
 ghost use Rattle.candidate_cover.specs.Growth as words;
 ghost use Rattle.candidate_cover.specs.Growth.{ListsLeast, IsExplored};
 
-use crate::growth::{near, push_grown};
+use crate::growth::{grown, near};
 use rel_base::{ColSet, Steps, Target};
 use std::alloc::{AllocError, Global};
 use std::sync::ledger::Ledger;
@@ -100,19 +100,18 @@ fn advanced<L: Ledger>(
     if !any_inside(found.as_slice(), z, steps) {
         return Ok(found);
     }
-    let Sides {
-        inside,
-        outside: mut sets,
-    } = by_side(alloc, found.as_slice(), z, steps)?;
-    let near = near(alloc, z, sets.as_slice())?;
-    push_grown(
-        &mut sets,
+    let sides = by_side(alloc, found.as_slice(), z, steps)?;
+    let near = near(alloc, z, sides.outside.as_slice())?;
+    let grown = grown(
+        alloc,
         columns,
         choices,
         z,
-        inside.as_slice(),
+        sides.inside.as_slice(),
         near.as_slice(),
     )?;
+    let mut sets = sides.outside;
+    sets.extend_from_slice(grown.as_slice())?;
     Ok(sets)
 }
 

@@ -1,7 +1,7 @@
 // How candidates grow past one more agree set, over lists of column sets.
-ghost use Rattle.std.specs.Prelude.{◌≡◌, ◌≤◌, ◌++◌, ℕ, map, filter, OnOk, IfOk};
+ghost use Rattle.std.specs.Prelude.{◌≡◌, ◌≤◌, ◌<◌, ◌++◌, ◌&&◌, not, map, OnOk, IfOk, false};
 ghost use Rattle.std.specs.List.{list_any};
-ghost use Rattle.col_set.specs.ColSet.{subset, has, with, upto};
+ghost use Rattle.col_set.specs.ColSet.{subset, has, with};
 ghost use Rattle.col_set.specs.Target.{IsColumnTarget};
 ghost use Rattle.candidate_cover.specs.Growth as words;
 
@@ -40,43 +40,68 @@ pub(crate) fn near(alloc: Global, z: ColSet, sets: &[ColSet]) -> Result<Vec<ColS
     Ok(found)
 }
 
-// The columns each of which is the only one that one of the sets has and x lacks. With such a column more, x contains that set.
-fn completing(x: ColSet, sets: &[ColSet]) -> ColSet
-    ensures { (k : ℕ) → has result k ≡ list_any (words.completes x k) sets.now }
+// Makes the list that of the sets that have the column.
+fn fill_having(found: &mut Vec<ColSet>, column: u8, sets: &[ColSet]) -> Result<(), AllocError>
+    requires { column < 128 }
+    ensures { OnOk result (found.new.items ≡ words.having column sets.now) }
 {
-    let mut found = ColSet::empty();
-    for y in sets {
-        let lacking = y.minus(x);
-        if lacking.len() == 1 {
-            found = found.union(lacking);
-        }
-    }
-    found
-}
-
-// Adds x with each one of these columns more.
-fn push_extended(
-    extended: &mut Vec<ColSet>,
-    columns: u8,
-    x: ColSet,
-    more: ColSet,
-) -> Result<(), AllocError>
-    requires { columns ≤ 128 }
-    ensures { OnOk result (extended.new.items ≡ extended.old.items ++ map (λ k. with x k) (filter (has more) (upto columns))) }
-{
-    for column in 0..columns {
-        if more.has(column) {
-            extended.push(x.with(column))?;
+    found.clear();
+    for x in sets {
+        if x.has(column) {
+            found.push(*x)?;
         }
     }
     Ok(())
 }
 
+// Adds each set with the column more, unless a blocker lies inside it.
+fn push_grown(
+    grown: &mut Vec<ColSet>,
+    blockers: &[ColSet],
+    column: u8,
+    inside: &[ColSet],
+) -> Result<(), AllocError>
+    requires { column < 128 }
+    ensures { OnOk result (grown.new.items ≡ grown.old.items ++ words.unblocked blockers.now (map (λ c. with c column) inside.now)) }
+{
+    for c in inside {
+        let x = c.with(column);
+        if !has_subset(blockers, x) {
+            grown.push(x)?;
+        }
+    }
+    Ok(())
+}
+
+// Adds each set with the column more, where no set near by lies inside it. The blockers are made anew.
+fn push_grown_by(
+    grown: &mut Vec<ColSet>,
+    blockers: &mut Vec<ColSet>,
+    near: &[ColSet],
+    column: u8,
+    inside: &[ColSet],
+) -> Result<(), AllocError>
+    requires { column < 128 }
+    ensures { OnOk result (grown.new.items ≡ grown.old.items ++ words.grown_by inside.now near.now column) }
+{
+    fill_having(blockers, column, near)?;
+    push_grown(grown, blockers.as_slice(), column, inside)
+}
+
+// Whether the column is one of these and outside z.
+fn is_choice(choices: ColSet, z: ColSet, column: u8) -> bool
+    requires { column < 128 }
+    ensures { result ≡ (has choices column && not (has z column)) }
+{
+    choices.has(column) && !z.has(column)
+}
+
 // Adds the sets that lie inside z, each with one column more that is outside z and among the choices. Of the candidates that
 // do not lie inside z, only those with one column outside it can lie inside such a set: where one does, the set is none of
-// the least. So the time grows with the number of sets inside z times that of those near by.
-pub(crate) fn push_grown(
-    grown: &mut Vec<ColSet>,
+// the least. So the time grows with the number of sets inside z times that of those near by. The blockers are made anew.
+pub(crate) fn push_all_grown(
+    sets: &mut Vec<ColSet>,
+    blockers: &mut Vec<ColSet>,
     columns: u8,
     choices: ColSet,
     z: ColSet,
@@ -84,11 +109,30 @@ pub(crate) fn push_grown(
     near: &[ColSet],
 ) -> Result<(), AllocError>
     requires { columns ≤ 128 }
-    ensures { OnOk result (grown.new.items ≡ grown.old.items ++ words.grown columns choices z inside.now near.now) }
+    ensures { OnOk result (sets.new.items ≡ sets.old.items ++ words.grown columns choices z inside.now near.now) }
 {
-    let outside = choices.minus(z);
-    for x in inside {
-        push_extended(grown, columns, *x, outside.minus(completing(*x, near)))?;
+    for column in 0..columns {
+        if is_choice(choices, z, column) {
+            push_grown_by(sets, blockers, near, column, inside)?;
+        }
     }
     Ok(())
+}
+
+// The same in a list of their own.
+pub(crate) fn grown(
+    alloc: Global,
+    columns: u8,
+    choices: ColSet,
+    z: ColSet,
+    inside: &[ColSet],
+    near: &[ColSet],
+) -> Result<Vec<ColSet>, AllocError>
+    requires { columns ≤ 128 }
+    ensures { IfOk result (λ sets. sets.items ≡ words.grown columns choices z inside.now near.now) }
+{
+    let mut sets = Vec::new(alloc);
+    let mut blockers = Vec::new(alloc);
+    push_all_grown(&mut sets, &mut blockers, columns, choices, z, inside, near)?;
+    Ok(sets)
 }

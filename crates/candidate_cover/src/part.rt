@@ -9,7 +9,7 @@ ghost use Rattle.candidate_cover.specs.Cands.{kept_or_fresh};
 ghost use Rattle.set_tree.specs.Pairs as pairs;
 
 use crate::cand::Mark;
-use crate::growth::{choices, has_subset, push_grown};
+use crate::growth::{choices, grown, has_subset};
 use rel_base::{ColSet, Target};
 use set_tree::SetTree;
 use std::alloc::{AllocError, Global};
@@ -83,16 +83,14 @@ pub(crate) fn specialised(
     let rest = tree.into_list();
     let near = near(alloc, z, rest.as_slice())?;
     let choices = choices(columns, target);
-    let mut sets = Vec::new(alloc);
-    push_grown(
-        &mut sets,
+    let sets = sorted(grown(
+        alloc,
         columns,
         choices,
         z,
         inside.as_slice(),
         near.as_slice(),
-    )?;
-    let sets = sorted(sets);
+    )?);
     let mut made = SetTree::of_list(rest);
     made.add_all(alloc, sets.as_slice(), Mark::fresh())?;
     Ok(made)

@@ -11,11 +11,10 @@ returns-then-not-any_inside g c = λ ws l. lists_untouched c.args.choices ws c.a
 
 pub returns : goal.returns
 returns g c = λ ws l.
-    let z = c.args.z in
-    let old = c.args.found.items in
-    let ins : c.as_slice-4.result.now ≡ inside z old = c.as_slice-4.ensures.value ∙ c.in_ok-inside.ensures.inside ∙ ap (inside z) c.as_slice-2.ensures.value in
-    let out : c.in_ok-inside.field-0.outside.items ≡ outside z old = c.in_ok-inside.ensures.outside ∙ ap (outside z) c.as_slice-2.ensures.value in
-    let made : c.push_grown.new.grown.items ≡ outside z old ++ grown c.args.columns c.args.choices z (inside z old) (near z (outside z old))
-    = c.in_ok-push_grown.ensures ∙ ap₂ (λ (xs ys : List ℕ). xs ++ ys) out (ap₂ (grown c.args.columns c.args.choices z) ins (c.as_slice-5.ensures.value ∙ c.in_ok-near.ensures ∙ ap (near z) (c.as_slice-3.ensures.value ∙ out))) in
-    subst (ListsLeast c.args.choices (ws ++ z ∷ []) c.args.target) (sym made)
-    (lists_after c.args.columns c.args.choices ws c.args.target z c.requires.few c.requires.apart old l)
+    let ins : c.in_ok-sides.sides.inside.items ≡ inside c.args.z c.args.found.items = c.in_ok-sides.ensures.inside ∙ ap (inside c.args.z) c.as_slice-2.ensures.value in
+    let out : c.in_ok-sides.sides.outside.items ≡ outside c.args.z c.args.found.items = c.in_ok-sides.ensures.outside ∙ ap (outside c.args.z) c.as_slice-2.ensures.value in
+    let made : c.extend_from_slice.new.self.items ≡ outside c.args.z c.args.found.items ++ grown c.args.columns c.args.choices c.args.z (inside c.args.z c.args.found.items) (near c.args.z (outside c.args.z c.args.found.items))
+    = c.in_ok-extend_from_slice.ensures.items ∙ ap₂ (λ (xs ys : List ℕ). xs ++ ys) out
+    (c.as_slice-6.ensures.value ∙ c.in_ok-grown.ensures ∙ ap₂ (grown c.args.columns c.args.choices c.args.z) (c.as_slice-4.ensures.value ∙ ins) (c.as_slice-5.ensures.value ∙ c.in_ok-near.ensures ∙ ap (near c.args.z) (c.as_slice-3.ensures.value ∙ out))) in
+    subst (ListsLeast c.args.choices (ws ++ c.args.z ∷ []) c.args.target) (sym made)
+    (lists_after c.args.columns c.args.choices ws c.args.target c.args.z c.requires.few c.requires.apart c.args.found.items l)

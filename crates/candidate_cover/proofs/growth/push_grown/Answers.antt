@@ -1,6 +1,14 @@
-use Rattle.candidate_cover.proofs.Growing.{grown_more}
+use Rattle.std.proofs.Common.{◌∙◌, sym, ap}
+use Rattle.candidate_cover.proofs.Growing.{unblocked_more, unblocked_same}
 use Rattle.candidate_cover.proofs.growth.push_grown.Goals as goal
+use Rattle.candidate_cover.proofs.growth.push_grown.Goals.{then-not-has_subset+in_ok-push, else-not-has_subset}
 
-pub loop-x-preserved : goal.loop-x-preserved
-loop-x-preserved c = grown_more c.args.columns c.args.choices c.args.z c.args.inside.now c.args.near.now c.loop-x.x-index c.x-item.result c.minus-outside.result c.completing.result c.minus.result c.loop-x-test.true c.x-item.is
-    c.minus-outside.ensures c.completing.ensures c.minus.ensures c.args.grown.now.items c.loop-x.grown.items _ c.loop-x.invariant c.in_ok-push_extended.ensures
+pub loop-c-preserved : goal.loop-c-preserved
+loop-c-preserved c = elim c.if-not-has_subset.branch [
+  | then-not-has_subset+in_ok-push w ↦
+      ap (λ m. m.items) w.grown-is ∙ w.in_ok-push.ensures.items
+      ∙ unblocked_more c.args.blockers.now c.args.column c.args.inside.now c.loop-c.c-index c.c-item.result c.with-x.result c.loop-c-test.true c.c-item.is c.with-x.ensures (sym w.if-not-has_subset.ensures) c.args.grown.now.items c.loop-c.grown.items c.loop-c.invariant
+  | else-not-has_subset w ↦
+      ap (λ m. m.items) w.grown-is
+      ∙ unblocked_same c.args.blockers.now c.args.column c.args.inside.now c.loop-c.c-index c.c-item.result c.with-x.result c.loop-c-test.true c.c-item.is c.with-x.ensures (sym w.if-not-has_subset.ensures) c.args.grown.now.items c.loop-c.grown.items c.loop-c.invariant
+]
