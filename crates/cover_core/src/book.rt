@@ -48,6 +48,9 @@ pub struct Book {
     snapshot: Arc<Snapshot>,
     store: Store,
     cursors: Cursors,
+    // That of the columns when the book was opened. It only decides which verdicts share groups of rows, and batches change it
+    // little.
+    order: Order,
     alloc: Global,
 }
 
@@ -75,7 +78,7 @@ impl Book {
     }
 
     /// The book of a relation as it was read, with this reading of NULL: no witness, and for each target the empty set as its
-    /// one candidate. It takes a step a cell, and lets the relation go as soon as it is coded.
+    /// one candidate. It takes a step a cell, lets the relation go as soon as it is coded, and groups the rows by each column.
     pub fn open_with(
         alloc: Global,
         relation: Relation,
@@ -89,7 +92,8 @@ impl Book {
         // `names` is called for its clause that the rows are a row state.
         let _names = rows.names();
         let candidates = CandidateCover::new(alloc, snapshot.columns())?;
-        let store = store_of(alloc, &snapshot)?;
+        let mut store = store_of(alloc, &snapshot)?;
+        let order = Order::of(&store.weights(alloc)?);
         Ok(Book {
             rows,
             witnesses: NegativeCover::new(alloc),
@@ -97,6 +101,7 @@ impl Book {
             snapshot,
             store,
             cursors: Cursors::start(),
+            order,
             alloc,
         })
     }
@@ -315,13 +320,8 @@ impl Book {
         if self.witnesses.is_empty() {
             self.sample()?;
         }
-        if self.settled() {
-            return Ok(());
-        }
-        let weights = self.store.weights(self.alloc)?;
-        let order = Order::of(&weights);
         for size in 0..=self.candidates.columns() {
-            self.pass(&order, size as u32)?;
+            self.pass(size as u32)?;
         }
         Ok(())
     }
@@ -337,13 +337,13 @@ impl Book {
     }
 
     // Validates the unfinished candidates with so many columns that no evidence just found refutes, and books the evidence.
-    fn pass(&mut self, order: &Order, size: u32) -> Result<(), AllocError>
+    fn pass(&mut self, size: u32) -> Result<(), AllocError>
         ensures rows { self.new.rows ≡ self.old.rows }
         ensures witnesses { Extends self.old.witnesses self.new.witnesses }
         ensures sound { Sound self.new }
     {
         let next = self.rows.next();
-        let list = of_size(self.alloc, &self.candidates, order, size, next)?;
+        let list = of_size(self.alloc, &self.candidates, &self.order, size, next)?;
         let mut found = Vec::new(self.alloc);
         for waiting in list.as_slice() {
             if !is_told(recent(found.as_slice()), waiting.target, waiting.cand.left) {

@@ -12,6 +12,6 @@ invariant_of-result c = (
   subst (λ (ws : List Witness). IsBook (record { rows = c.in_ok-rows.rows; witnesses = ws; candidates = c.in_ok-candidates.candidates }) c.in_ok-snapshot.snapshot.value) (sym c.new-2.ensures)
       (IsBook-opened c.in_ok-rows.rows c.in_ok-candidates.candidates c.in_ok-snapshot.snapshot.value c.names-names.ensures.state (subst IsCodeTable c.deref.ensures c.columns.ensures.bounds) c.in_ok-snapshot.ensures
       (c.in_ok-candidates.ensures ∙ ap one_each (c.columns.ensures.value ∙ ap (λ (t : CodeTable). length t.codes) c.deref.ensures))),
-  c.in_ok-store.ensures,
+  c.weights.ensures.store ∙ c.in_ok-store.ensures,
   past-both _ c.start.result c.start.ensures.unfinished c.start.ensures.drawable,
 )
