@@ -26,6 +26,7 @@ use Rattle.cover_core.specs.declared.cursor.Cursors.{Cursors}
 use Rattle.cover_core.specs.Kept.{IsBook}
 use Rattle.cover_core.specs.Past.{rank, IsPast, ArePast}
 use Rattle.cover_core.specs.Tests.{on_cand}
+use Rattle.cover_core.proofs.Calls.{with_lists}
 use Rattle.cover_core.proofs.FirstFound.{find-row_id, find-column}
 
 abbrev pub start : Cursor
@@ -198,9 +199,6 @@ not_below a b c e i = elim (cases_lt a c) as (λ _. b ≤ a) [
 ]
 
 -- ---- the cursors of a book
-abbrev pub with_lists : Core → CandLists → Core
-with_lists s c = record { rows = s.rows; witnesses = s.witnesses; candidates = c }
-
 module _ (s : Core) where
   pub past-both : (cursors : Cursors) → cursors.unfinished ≡ start → cursors.drawable ≡ start → ArePast s cursors
   past-both cursors e f = record {

@@ -321,6 +321,9 @@ impl Book {
             self.sample()?;
         }
         for size in 0..=self.candidates.columns() {
+            if self.settled() {
+                return Ok(());
+            }
             self.pass(size as u32)?;
         }
         Ok(())
