@@ -9,7 +9,7 @@ use self::sample::{COLUMNS, ROWS, Sample, drawn};
 use crate::{Store, Verdict, validate};
 use col_set::{ColSet, Target};
 use plain_base::Samples;
-use rel_base::{Job, RowNo, Steps};
+use rel_base::{Job, MOST_COLUMNS, RowNo, Steps};
 use std::alloc::{AllocError, Global};
 use std::marker::Brand;
 use std::process::Abort;
@@ -18,9 +18,9 @@ use std::test::Fail;
 
 // Whether the target is a column of the first n, or which row it is.
 fn is_target(target: Target, columns: u8) -> bool
-    requires { columns ≤ 128 }
+    requires { columns ≤ MOST_COLUMNS }
     ensures given { IsTrue result → IsColumnTarget columns target }
-    ensures bound { IsTrue result → IsColumnTarget 128 target }
+    ensures bound { IsTrue result → IsColumnTarget MOST_COLUMNS target }
 {
     match target {
         Target::Col(column) => column < columns,
@@ -31,7 +31,7 @@ fn is_target(target: Target, columns: u8) -> bool
 // Whether the job's parts fit. Its dependency holds among its old rows, of which there is one at most.
 fn is_fitting(job: &Job) -> bool
     ensures fitting { IsTrue result → IsFitting job.now }
-    ensures target { IsTrue result → IsColumnTarget 128 job.now.target }
+    ensures target { IsTrue result → IsColumnTarget MOST_COLUMNS job.now.target }
 {
     let columns = job.snapshot().columns();
     if !job.left().subset_of(ColSet::all(columns)) {
@@ -73,7 +73,7 @@ fn answered<L: Ledger>(
 }
 
 fn is_right(sample: &Sample, job: &Job, verdict: Verdict) -> bool
-    requires { IsColumnTarget 128 job.now.target }
+    requires { IsColumnTarget MOST_COLUMNS job.now.target }
 {
     match verdict {
         Verdict::Holds { to } => to == job.to() && sample.holds(job.left(), job.target()),
@@ -83,7 +83,7 @@ fn is_right(sample: &Sample, job: &Job, verdict: Verdict) -> bool
 
 // Whether each pair breaks the dependency, and there is none only where it holds.
 fn are_right(sample: &Sample, job: &Job, pairs: &[(RowNo, RowNo)]) -> bool
-    requires { IsColumnTarget 128 job.now.target }
+    requires { IsColumnTarget MOST_COLUMNS job.now.target }
 {
     for (i, j) in pairs {
         if !sample.breaks(job.left(), job.target(), *i, *j) {

@@ -5,7 +5,7 @@ ghost use Rattle.col_set.specs.Target.{IsColumnTarget};
 
 use col_set::{ColSet, Target};
 use plain_base::{Samples, agree, agree_sets, refutes};
-use rel_base::{Codes, Nulls, Row, RowNo, Snapshot};
+use rel_base::{COLUMN_PLACES, Codes, MOST_COLUMNS, Nulls, Row, RowNo, Snapshot};
 use std::alloc::{AllocError, Global};
 use std::process::Abort;
 use std::sync::Arc;
@@ -87,7 +87,7 @@ fn snapshot_of(
     for place in 0..=ROWS {
         live.push(place != dead)?;
     }
-    assert!(rt; 0 < lists.len() && lists.len() <= 128 && live.len() == 10);
+    assert!(rt; 0 < lists.len() && lists.len() <= COLUMN_PLACES && live.len() == 10);
     assert!(rt; are_long(lists.as_slice(), 10));
     Ok(Snapshot::of(lists, live, RowNo::of(11)))
 }
@@ -109,7 +109,7 @@ pub fn drawn(alloc: Global, rt: &impl Abort, samples: &mut Samples) -> Result<Sa
 impl Sample {
     // Whether these columns determine the target among the live rows.
     pub fn holds(&self, left: ColSet, target: Target) -> bool
-        requires { IsColumnTarget 128 target }
+        requires { IsColumnTarget MOST_COLUMNS target }
     {
         !refutes(self.agree_sets.as_slice(), target, left)
     }
@@ -138,10 +138,10 @@ impl Sample {
 
     // Whether these are two live rows, the smaller number first, that agree on these columns and not on the target.
     pub fn breaks(&self, left: ColSet, target: Target, i: RowNo, j: RowNo) -> bool
-        requires { IsColumnTarget 128 target }
+        requires { IsColumnTarget MOST_COLUMNS target }
     {
         match self.agreed(i, j) {
-            Some(agreed) => i < j && left.subset_of(agreed) && !agreed.has_target(target),
+            Some(agreed) => i < j && agreed.refutes(left, target),
             None => false,
         }
     }
@@ -158,7 +158,7 @@ impl Sample {
     }
 
     // Whether these are the weights of the columns.
-    pub fn weighs(&self, weights: &[u32; 128]) -> bool {
+    pub fn weighs(&self, weights: &[u32; COLUMN_PLACES]) -> bool {
         for column in 0..COLUMNS {
             if weights[column as usize] != self.weight(column) {
                 return false;
