@@ -1,5 +1,5 @@
 -- The inclusions of one more column, in one more column.
-use Rattle.std.proofs.Common.{◌≡◌, ◌∙◌, ◌+◌, ℕ, arith, Bool, true, false, cond, not, ◌&&◌, ◌||◌, ◌<◌, ◌≤◌, eqb, refl, sym, ap, ap₂, List, [], ◌∷◌, ◌++◌, map, filter, flat_map, length, get_or, append_assoc, append-nil}
+use Rattle.std.proofs.Common.{◌≡◌, ◌∙◌, ◌+◌, ℕ, arith, Bool, true, false, cond, not, ◌&&◌, ◌||◌, ◌<◌, ◌≤◌, eqb, sym, ap, ap₂, List, [], ◌∷◌, ◌++◌, map, filter, flat_map, length, get_or, append_assoc, append-nil}
 use Rattle.std.specs.List.{list_all, list_any}
 use Rattle.std.proofs.lemmas.Bool.{eq-eqb, ne_eqb}
 use Rattle.std.proofs.lemmas.List.{map-append, get_or_default}

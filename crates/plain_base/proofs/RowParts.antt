@@ -1,50 +1,24 @@
 -- Parts of rows, by one more column and one more row.
-use Rattle.std.proofs.Common.{inl, inr, ◌≡◌, ◌∙◌, ◌+◌, ◌<◌, ◌≤◌, ◌^◌, ℕ, zero, suc, arith, Bool, true, false, cond, not, ◌&&◌, ◌||◌, refl, sym, ap, ap₂, subst, List, [], ◌∷◌, ◌++◌, length, get_or, take, map, filter, append_assoc, append-nil}
+use Rattle.std.proofs.Common.{◌≡◌, ◌∙◌, ◌+◌, ◌<◌, ◌^◌, ℕ, Bool, true, false, cond, not, ◌||◌, refl, sym, ap, ap₂, List, [], ◌∷◌, ◌++◌, length, get_or, take, map, filter, append-nil}
 use Rattle.std.specs.List.{list_any}
-use Rattle.std.proofs.lemmas.Bool.{and_from, and_parts, or_left, or_right, or_cases, true≢false}
+use Rattle.std.proofs.lemmas.Bool.{and_parts, true≢false}
 use Rattle.std.proofs.lemmas.List.{map-append, take_more}
 use Rattle.std.proofs.lemmas.List.Elements.{filter-append}
-use Rattle.col_set.specs.ColSet.{Columns, has, columns, upto}
+use Rattle.col_set.specs.ColSet.{Columns, has, upto}
 use Rattle.col_set.specs.Columns.{columns_below}
 use Rattle.rel_base.specs.Cells.{Cell, Row, cell}
 use Rattle.rel_base.specs.Agreement.{same_cell}
 use Rattle.rel_base.specs.Projection.{part, same_row, distinct, projected}
-use Rattle.rel_base.proofs.Agree.{same_cell-true, true-same_cell}
+use Rattle.rel_base.proofs.Agree.{same_cell-true}
 use Rattle.plain_base.proofs.Pairs.{upto_more}
 
 -- ---- the same cells
-pub same_row_apart : (a b : Row) (k : ℕ) → k < length a → length a ≡ length b → same_cell (cell a k) (cell b k) ≡ false → false ≡ same_row a b
-same_row_apart [] b k l e h = absurd (omega arith)
-same_row_apart (x ∷ a) [] k l e h = absurd (omega arith)
-same_row_apart (x ∷ a) (y ∷ b) zero l e h = sym (ap (λ c. c && same_row a b) h)
-same_row_apart (x ∷ a) (y ∷ b) (suc k) l e h = sym (ap (λ c. same_cell x y && c) (sym (same_row_apart a b k (omega arith) (omega arith) h)) ∙ none (same_cell x y))
-  where
-    none : (c : Bool) → (c && false) ≡ false
-    none true = refl
-    none false = refl
-
-pub same_row_from : (a b : Row) → length a ≡ length b → ((k : ℕ) → k < length a → same_cell (cell a k) (cell b k) ≡ true) → same_row a b ≡ true
-same_row_from [] [] e f = refl
-same_row_from [] (y ∷ b) e f = absurd (omega arith)
-same_row_from (x ∷ a) [] e f = absurd (omega arith)
-same_row_from (x ∷ a) (y ∷ b) e f = and_from (same_cell x y) (same_row a b) (f 0 (omega arith)) (same_row_from a b (omega arith) (λ k l. f (suc k) (omega arith)))
-
-pub same_row_lengths : (a b : Row) → same_row a b ≡ true → length a ≡ length b
-same_row_lengths [] [] h = refl
-same_row_lengths [] (y ∷ b) h = absurd (true≢false (sym h))
-same_row_lengths (x ∷ a) [] h = absurd (true≢false (sym h))
-same_row_lengths (x ∷ a) (y ∷ b) h = ap suc (same_row_lengths a b (and_parts (same_cell x y) (same_row a b) h).1)
-
 same_row-true : (a b : Row) → same_row a b ≡ true → a ≡ b
 same_row-true [] [] e = refl
 same_row-true [] (y ∷ ys) e = absurd (true≢false (sym e))
 same_row-true (x ∷ xs) [] e = absurd (true≢false (sym e))
 same_row-true (x ∷ xs) (y ∷ ys) e = let w = and_parts (same_cell x y) (same_row xs ys) e in
     ap₂ (λ (z : Cell) (zs : Row). z ∷ zs) (same_cell-true x y w.0) (same_row-true xs ys w.1)
-
-same_row-refl : (a : Row) → same_row a a ≡ true
-same_row-refl [] = refl
-same_row-refl (x ∷ a) = and_from (same_cell x x) (same_row a a) (true-same_cell x x refl) (same_row-refl a)
 
 -- ---- one more column
 module _ (f : ℕ → Cell) (p : ℕ → Bool) (n : ℕ) where

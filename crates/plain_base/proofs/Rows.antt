@@ -1,10 +1,8 @@
 -- Row states that operations leave, and the operations of a batch one by one.
-use Rattle.std.proofs.Common.{inl, inr, ◌≡◌, ◌∙◌, ◌+◌, ◌-◌, ◌<◌, ◌≤◌, ℕ, zero, suc, arith, Bool, true, false, cond, not, refl, sym, ap, ap₂, subst, List, [], ◌∷◌, ◌++◌, length, get_or, take, drop, map, filter, drop-cons, Result, Ok, Err}
-use Rattle.std.specs.Prelude.{nat_eq, nat_lt}
-use Rattle.std.specs.List.{All, Contains, range_with_len}
+use Rattle.std.proofs.Common.{inl, inr, ◌≡◌, ◌∙◌, ◌+◌, ◌-◌, ◌<◌, ◌≤◌, ℕ, zero, suc, arith, Bool, true, false, cond, refl, sym, ap, ap₂, subst, List, [], ◌∷◌, ◌++◌, length, get_or, take, drop, map, filter, drop-cons, Result, Ok, Err}
+use Rattle.std.specs.List.{All, range_with_len}
 use Rattle.std.proofs.lemmas.Bool.{le-ltb}
 use Rattle.std.proofs.lemmas.List.{take_more, map-append, get_or_default}
-use Rattle.std.proofs.lemmas.List.FromFn.{length-range_with_len}
 use Rattle.col_set.specs.Lists.{Listed, Listed-filter_parts, Listed-map_which}
 use Rattle.col_set.proofs.Places.{Climbs, Listed-get_or}
 use Rattle.rel_base.specs.declared.batch.Op.{Op}
@@ -17,10 +15,11 @@ use Rattle.rel_base.specs.Relation.{Content, IsContent}
 use Rattle.rel_base.specs.RowState.{RowState, IsRowState, opened, width, next, row}
 use Rattle.rel_base.specs.Agreement.{agree}
 use Rattle.rel_base.specs.Validity.{agree_sets, pairs, determined, holds}
-use Rattle.rel_base.specs.Covers.{covers}
+use Rattle.rel_base.specs.declared.limits.TheConstants.{MOST_ROWS}
+use Rattle.rel_base.specs.Covers.{covers, least_covers}
 use Rattle.rel_base.specs.Projection.{projected, projection}
-use Rattle.rel_base.specs.Batches.{is_live, is_full, inserted, deleted, applied, go_on, after_from, after}
-use Rattle.rel_base.specs.Laws.{IsAsWide, least_covers}
+use Rattle.rel_base.specs.Batches.{is_live, is_full, inserted, deleted, applied, go_on, after_from}
+use Rattle.rel_base.specs.Batches.{IsAsWide}
 use Rattle.rel_base.proofs.States.{All-listed, All-from, increasing-Climbs, live_climbs, live_positive, live_numbered}
 use Rattle.rel_base.proofs.Valid.{Climbs-filter}
 use Rattle.rel_base.proofs.Changes.{applied-follows}
@@ -65,7 +64,7 @@ range_climbs : (n a : ℕ) → Climbs (range_with_len a n)
 range_climbs zero a = tt
 range_climbs (suc n) a = ((λ y h. let l = (range_within n (a + 1) y h).0 in omega arith), range_climbs n (a + 1))
 
-read-state : (nulls : Nulls) (limit : ℕ) (c : Content) → IsContent c → limit ≤ 1000000 → IsRowState (opened nulls limit c)
+read-state : (nulls : Nulls) (limit : ℕ) (c : Content) → IsContent c → limit ≤ MOST_ROWS → IsRowState (opened nulls limit c)
 read-state nulls limit c is few = record {
   some = is.some;
   narrow = is.narrow;
@@ -77,7 +76,7 @@ read-state nulls limit c is few = record {
   numbered = All-from (λ (number : ℕ). number < length c.rows + 1) (range_with_len 1 (length c.rows)) (λ number h. let l = (range_within (length c.rows) 1 number h).1 in omega arith);
 }
 
-pub opened-state : (nulls : Nulls) (limit : ℕ) (c : Content) (names : Row) (given : List Row) (live : List ℕ) → IsContent c → limit ≤ 1000000 → names ≡ c.names → given ≡ c.rows → live ≡ range_with_len 1 (length given)
+pub opened-state : (nulls : Nulls) (limit : ℕ) (c : Content) (names : Row) (given : List Row) (live : List ℕ) → IsContent c → limit ≤ MOST_ROWS → names ≡ c.names → given ≡ c.rows → live ≡ range_with_len 1 (length given)
     → IsRowState (record { names = names; nulls = nulls; limit = limit; given = given; live = live })
 opened-state nulls limit c names given live is few e f g =
     subst IsRowState (ap₂ (λ (ns : Row) (rows : List Row). opened nulls limit (record { names = ns; rows = rows })) (sym e) (sym f) ∙ ap (λ (numbers : List ℕ). record { names = names; nulls = nulls; limit = limit; given = given; live = numbers }) (sym g))

@@ -5,9 +5,9 @@ ghost use Rattle.rel_base.specs.declared.batch.Op.TheVariants.{Insert, Delete, U
 ghost use Rattle.rel_base.specs.RowState.{IsRowState, opened, width};
 ghost use Rattle.rel_base.specs.Validity as validity;
 ghost use Rattle.rel_base.specs.Batches as batches;
-ghost use Rattle.rel_base.specs.Laws.{IsAsWide};
+ghost use Rattle.rel_base.specs.Batches.{IsAsWide};
 
-use rel_base::{Batch, Limits, Nulls, Op, Relation, Row, Why};
+use rel_base::{Batch, Limits, MOST_ROWS, Nulls, Op, Relation, Row, Why};
 use std::alloc::{AllocError, Global};
 use std::marker::Model;
 
@@ -182,7 +182,7 @@ impl PlainRows {
 }
 
 fn numbers_to(alloc: Global, last: u32) -> Result<Vec<u32>, AllocError>
-    requires { last ≤ 1000000 }
+    requires { last ≤ MOST_ROWS }
     ensures { IfOk result (λ numbers. numbers.items ≡ range_with_len 1 last) }
 {
     let mut numbers = Vec::new(alloc);

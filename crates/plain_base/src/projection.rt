@@ -3,14 +3,14 @@ ghost use Rattle.std.specs.Prelude.{◌≡◌, ◌≤◌, ◌<◌, ◌^◌, leng
 ghost use Rattle.std.specs.List.{All, list_any};
 ghost use Rattle.rel_base.specs.Projection as projection;
 
-use rel_base::{ColSet, Row};
+use rel_base::{ColSet, MOST_COLUMNS, Row};
 use std::alloc::{AllocError, Global};
 
 /// The distinct parts of these rows in some columns, first seen first.
 ///
 /// Each part is compared with all that are kept, so the time grows with the square of the rows.
 pub fn projected(alloc: Global, columns: ColSet, rows: &[Row]) -> Result<Vec<Row>, AllocError>
-    requires narrow { All (λ row. length row ≤ 128) rows.now }
+    requires narrow { All (λ row. length row ≤ MOST_COLUMNS) rows.now }
     requires inside { All (λ row. columns < 2 ^ length row) rows.now }
     ensures { IfOk result (λ parts. parts.items ≡ projection.projected columns rows.now) }
 {
@@ -26,7 +26,7 @@ pub fn projected(alloc: Global, columns: ColSet, rows: &[Row]) -> Result<Vec<Row
 
 /// The cells of a row in these columns, ascending.
 pub fn part(alloc: Global, columns: ColSet, row: &Row) -> Result<Row, AllocError>
-    requires narrow { length row.now ≤ 128 }
+    requires narrow { length row.now ≤ MOST_COLUMNS }
     requires inside { columns < 2 ^ length row.now }
     ensures { IfOk result (λ part. part ≡ projection.part columns row.now) }
 {
@@ -42,23 +42,5 @@ pub fn part(alloc: Global, columns: ColSet, row: &Row) -> Result<Row, AllocError
 fn has_row(rows: &[Row], row: &Row) -> bool
     ensures { result ≡ list_any (λ other. projection.same_row other row.now) rows.now }
 {
-    rows.iter().any(|other| is_same_row(other, row))
-}
-
-fn is_same_row(one: &Row, other: &Row) -> bool
-    ensures { result ≡ projection.same_row one.now other.now }
-{
-    one.len() == other.len() && have_same_cells(one, other)
-}
-
-fn have_same_cells(one: &Row, other: &Row) -> bool
-    requires { length one.now ≡ length other.now }
-    ensures { result ≡ projection.same_row one.now other.now }
-{
-    for place in 0..one.len() {
-        if one.cell(place) != other.cell(place) {
-            return false;
-        }
-    }
-    true
+    rows.iter().any(|other| other == row)
 }

@@ -2,9 +2,9 @@
 ghost use Rattle.std.specs.Prelude.{◌≡◌, ◌<◌, ◌≤◌, true, length, IfOk, IfSome, IsSome};
 ghost use Rattle.std.specs.List.{All};
 ghost use Rattle.rel_base.specs.Relation.{IsContent};
-ghost use Rattle.rel_base.specs.Laws.{IsAsWide};
+ghost use Rattle.rel_base.specs.Batches.{IsAsWide};
 
-use rel_base::{Batch, Op, Relation, Row, RowNo};
+use rel_base::{Batch, MOST_COLUMNS, MOST_ROWS, Op, Relation, Row, RowNo};
 use std::alloc::{AllocError, Global};
 
 /// The relation of these names and rows, or none where these are not a relation's.
@@ -14,7 +14,11 @@ pub fn relation_of(names: Row, rows: Vec<Row>) -> Option<Relation>
     ensures some { IsContent (record { names = names; rows = rows.items }) → IsSome result }
 {
     let width = names.len();
-    if 0 < width && width <= 128 && rows.len() <= 1_000_000 && are_wide(&rows, width) {
+    if 0 < width
+        && width <= MOST_COLUMNS as usize
+        && rows.len() <= MOST_ROWS as usize
+        && are_wide(&rows, width)
+    {
         Some(Relation::of(names, rows))
     } else {
         None
@@ -114,7 +118,7 @@ impl Samples {
 
     /// An operation that brings a row of so many cells, or ends a row with a number up to this one, or both.
     pub fn op(&mut self, alloc: Global, cells: usize, last: u32) -> Result<Op, AllocError>
-        requires { last < 1000000 }
+        requires { last < MOST_ROWS }
         ensures { IfOk result (λ op. IsAsWide cells op) }
     {
         let number = RowNo::of(self.below(last + 1) + 1);
@@ -134,7 +138,7 @@ impl Samples {
         cells: usize,
         last: u32,
     ) -> Result<Batch, AllocError>
-        requires { last < 1000000 }
+        requires { last < MOST_ROWS }
         ensures { IfOk result (λ batch. All (IsAsWide cells) batch) }
     {
         let mut ops = Vec::new(alloc);

@@ -4,13 +4,13 @@ use crate::{
     PlainRows, Samples, agree, agree_sets, are_as_wide, covers, inclusions, is_included,
     least_covers, least_sets, minimal_sets, refutes, relation_of, specialise,
 };
-use col_set::{ColSet, Target};
-use rel_base::{Batch, Fd, Limits, Nulls, Op, Relation, Row, RowNo, Why};
+use col_set::{ColSet, MOST_COLUMNS, Target};
+use rel_base::{Batch, Fd, Limits, MOST_ROWS, Nulls, Op, Relation, Row, RowNo, Why};
 use std::alloc::{AllocError, Global};
 use std::test::Fail;
 
 fn one(column: u8) -> ColSet
-    requires { column < 128 }
+    requires { column < MOST_COLUMNS }
 {
     ColSet::empty().with(column)
 }
@@ -31,7 +31,7 @@ fn letters(alloc: Global) -> Result<Option<Relation>, AllocError> {
 
 // The same rows, where no number above this one is given.
 fn letter_rows(alloc: Global, last: u32) -> Result<PlainRows, Fail>
-    requires { last ≤ 1000000 }
+    requires { last ≤ MOST_ROWS }
 {
     let relation = letters(alloc)?.ok_or("no relation")?;
     Ok(PlainRows::opened(

@@ -8,7 +8,7 @@ ghost use Rattle.rel_base.specs.Covers as cover_words;
 ghost use Rattle.rel_base.specs.Projection as projection;
 
 use crate::{PlainRows, agree_sets, least_covers, projected};
-use col_set::{ColSet, Target};
+use col_set::{ColSet, MOST_COLUMNS, Target};
 use rel_base::{Covers, Row};
 use std::alloc::{AllocError, Global};
 
@@ -42,7 +42,7 @@ impl PlainRows {
 
     /// Whether these columns determine the target among the live rows.
     pub fn holds(&self, alloc: Global, x: ColSet, target: Target) -> Result<bool, AllocError>
-        requires { IsColumnTarget 128 target }
+        requires { IsColumnTarget MOST_COLUMNS target }
         ensures { IfOk result (λ holds. holds ≡ validity.holds self.now x target) }
     {
         let sets = self.agree_sets(alloc)?;
@@ -57,7 +57,7 @@ impl PlainRows {
         x: ColSet,
         target: Target,
     ) -> Result<bool, AllocError>
-        requires { IsColumnTarget 128 target }
+        requires { IsColumnTarget MOST_COLUMNS target }
         ensures { IfOk result (λ holds. holds ≡ validity.holds_below bound self.now x target) }
     {
         self.below(alloc, bound)?.holds(alloc, x, target)
@@ -83,7 +83,7 @@ impl PlainRows {
 
 // Whether each of these agree sets that contains x contains the target.
 fn determines(agree_sets: &[ColSet], x: ColSet, target: Target) -> bool
-    requires { IsColumnTarget 128 target }
+    requires { IsColumnTarget MOST_COLUMNS target }
     ensures { result ≡ validity.determined agree_sets.now x target }
 {
     agree_sets

@@ -1,4 +1,4 @@
-use Rattle.std.proofs.Common.{◌≡◌, ◌∙◌, ◌∷◌, ◌++◌, List, [], Vec, Global, Bor, sym, ap, map, filter, arith}
+use Rattle.std.proofs.Common.{◌∙◌, ◌∷◌, ◌++◌, List, [], Vec, Global, Bor, sym, ap, map, arith}
 use Rattle.std.proofs.lemmas.List.{map-append}
 use Rattle.col_set.specs.ColSet.{has}
 use Rattle.rel_base.specs.Cells.{Cell, cell}

@@ -1,4 +1,4 @@
-use Rattle.std.proofs.Common.{◌≡◌, ◌∙◌, List, Vec, Global, sym, ap, false, true}
+use Rattle.std.proofs.Common.{◌∙◌, Vec, Global, sym, ap}
 use Rattle.std.specs.List.{list_any}
 use Rattle.rel_base.specs.Cells.{Row}
 use Rattle.rel_base.specs.Projection.{same_row}

@@ -1,7 +1,7 @@
-use Rattle.std.proofs.Common.{◌≡◌, ◌∙◌, ap, sym, length, arith, Result, Ok, Err}
+use Rattle.std.proofs.Common.{◌∙◌, ap, sym, length, arith}
 use Rattle.rel_base.specs.Cells.{Row}
 use Rattle.rel_base.specs.RowState.{RowState}
-use Rattle.rel_base.specs.Batches.{applied, after_from, after}
+use Rattle.rel_base.specs.Batches.{after}
 use Rattle.plain_base.proofs.Rows.{applied-names, as_wide, after_more, after_fails, after_all}
 use Rattle.plain_base.proofs.plain_rows.PlainRows.after.Goals as goal
 

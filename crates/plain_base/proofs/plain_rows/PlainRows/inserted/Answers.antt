@@ -1,6 +1,6 @@
 use Rattle.std.proofs.Common.{◌≡◌, ◌≤◌, ◌+◌, ◌∷◌, ◌++◌, ◌∙◌, ℕ, [], ap, sym, length, arith}
 use Rattle.rel_base.specs.Cells.{Row}
-use Rattle.rel_base.specs.RowState.{RowState, width, next}
+use Rattle.rel_base.specs.RowState.{RowState, width}
 use Rattle.plain_base.proofs.Rows.{grown-state}
 use Rattle.plain_base.proofs.plain_rows.PlainRows.inserted.Goals as goal
 

@@ -1,4 +1,4 @@
-use Rattle.std.proofs.Common.{◌≡◌, ◌∙◌, ℕ, ap, length, arith}
+use Rattle.std.proofs.Common.{◌≡◌, ◌∙◌, ap, length, arith}
 use Rattle.std.specs.List.{range_with_len}
 use Rattle.plain_base.proofs.Rows.{opened-state}
 use Rattle.plain_base.proofs.plain_rows.PlainRows.opened.Goals as goal

@@ -1,5 +1,5 @@
 use Rattle.std.specs.List.{All}
-use Rattle.rel_base.specs.Laws.{IsAsWide}
+use Rattle.rel_base.specs.Batches.{IsAsWide}
 use Rattle.plain_base.proofs.samples.Samples.batch.Given as goal
 
 abbrev pub invariant-loop : goal.invariant-loop
