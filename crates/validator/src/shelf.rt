@@ -474,7 +474,10 @@ impl Shelf {
     {
         let columns = self.kept[k].columns;
         let rows = self.rows.saturating_add(self.kept[k].rows);
-        if columns.len() > MOST_KEPT_COLUMNS || self.settled >= MOST_KEPT || rows > self.room_for(k) {
+        if columns.len() > MOST_KEPT_COLUMNS
+            || self.settled >= MOST_KEPT
+            || rows > self.room_for(k)
+        {
             return false;
         }
         if !note(&mut self.places, columns, self.settled) {
