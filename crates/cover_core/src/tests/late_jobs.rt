@@ -66,18 +66,25 @@ fn finds_letters(book: &mut Book) -> Result<bool, AllocError> {
     Ok(found.keys() == [columns(&[1])].as_slice() && found.fds() == [fd].as_slice())
 }
 
+fn deliver_one(rt: &impl Abort, alloc: Global, book: &mut Book) -> Result<(), AllocError> {
+    match drawn(book)? {
+        Some(job) => {
+            assert!(rt; is_of(&job, Target::RowId, columns(&[1]), 1, 4));
+            deliver_late(rt, alloc, book, &job)
+        }
+        None => {
+            assert!(rt; false, "no job");
+            Ok(())
+        }
+    }
+}
+
 #[test]
 fn late_jobs_are_dropped_or_marked(rt: HostRuntime) -> Result<(), Fail> {
     let alloc = rt.alloc();
     let mut book = letters(&rt, alloc)?;
     play(&rt, alloc, &mut book, &BEGIN)?;
-    match drawn(&mut book)? {
-        Some(job) => {
-            assert!(rt; is_of(&job, Target::RowId, columns(&[1]), 1, 4));
-            deliver_late(&rt, alloc, &mut book, &job)?;
-        }
-        None => assert!(rt; false, "no job"),
-    }
+    deliver_one(&rt, alloc, &mut book)?;
     play(&rt, alloc, &mut book, &END)?;
     assert!(rt; finds_letters(&mut book)?);
     Ok(())
@@ -152,15 +159,22 @@ fn finds_no_dependency(book: &mut Book) -> Result<bool, AllocError> {
     Ok(found.keys() == [columns(&[0, 1])].as_slice() && found.fds().is_empty())
 }
 
+fn deliver_two(rt: &impl Abort, alloc: Global, book: &mut Book) -> Result<(), AllocError> {
+    match drawn(book)? {
+        Some(late) => deliver_both(rt, alloc, book, &late),
+        None => {
+            assert!(rt; false, "no job");
+            Ok(())
+        }
+    }
+}
+
 #[test]
 fn a_job_is_marked_after_a_row_of_its_witness_went(rt: HostRuntime) -> Result<(), Fail> {
     let alloc = rt.alloc();
     let mut book = letters(&rt, alloc)?;
     play(&rt, alloc, &mut book, &DRAW)?;
-    match drawn(&mut book)? {
-        Some(late) => deliver_both(&rt, alloc, &mut book, &late)?,
-        None => assert!(rt; false, "no job"),
-    }
+    deliver_two(&rt, alloc, &mut book)?;
     play(&rt, alloc, &mut book, &GO_ON)?;
     assert!(rt; finds_no_dependency(&mut book)?);
     Ok(())

@@ -102,24 +102,25 @@ fn judged_after(rt: &impl Abort, alloc: Global, k: &[u8], v: &[u8]) -> Result<Ju
     judge_drawn::<Brand>(alloc, &mut book, Blank::new(1))
 }
 
-// Whether the answers are the jobs of the key and of the dependency for the fourth row, and that these are held.
-fn are_new(judged: &Judged) -> bool {
+// Whether the answers are the jobs of the key and of the dependency for the fourth row, with this verdict on the key, and that
+// both are held.
+fn are_new(judged: &Judged, rows: Option<(u32, u32)>) -> bool {
     let right = columns(&[1]);
     judged.jobs.len() == 2
         && is_of(&judged.jobs[0].0, Target::RowId, right, 4, 5)
         && is_of(&judged.jobs[1].0, Target::Col(0), right, 4, 5)
+        && is_judged(judged.jobs[0].1, rows)
         && judged
             .last
             .as_ref()
             .is_some_and(|last| is_busy(last, Target::RowId, right))
 }
 
-// Whether the first verdict is that these two rows break the key, or, where there are none, that it holds in all four rows.
-fn is_judged(judged: &Judged, rows: Option<(u32, u32)>) -> bool {
-    match judged.jobs.first() {
-        Some((_, Verdict::Holds { to })) => rows.is_none() && to.number() == 5,
-        Some((_, Verdict::Broken { i, j })) => rows == Some((i.number(), j.number())),
-        None => false,
+// Whether the verdict is that these two rows break the key, or, where there are none, that it holds in all four rows.
+fn is_judged(verdict: Verdict, rows: Option<(u32, u32)>) -> bool {
+    match verdict {
+        Verdict::Holds { to } => rows.is_none() && to.number() == 5,
+        Verdict::Broken { i, j } => rows == Some((i.number(), j.number())),
     }
 }
 
@@ -133,7 +134,7 @@ static FOURTH: [(&[u8], &[u8], Option<(u32, u32)>); 2] = [
 fn a_new_row_leaves_a_step_a_job(rt: HostRuntime) -> Result<(), Fail> {
     for (k, v, rows) in &FOURTH {
         let judged = judged_after(&rt, rt.alloc(), k, v)?;
-        assert!(rt; are_new(&judged) && is_judged(&judged, *rows));
+        assert!(rt; are_new(&judged, *rows));
     }
     Ok(())
 }

@@ -48,11 +48,10 @@ fn delete(rt: &impl Abort, alloc: Global, book: &mut Book, number: u32) -> Resul
 }
 
 fn is_told(refutation: Refutation, told: Told) -> bool {
-    match (refutation, told) {
-        (Refutation::Booked, Told::News) => true,
-        (Refutation::Known, Told::Nothing) => true,
-        (Refutation::Gone(row), Told::Dead(number)) => row.number() == number,
-        _ => false,
+    match told {
+        Told::News => refutation == Refutation::Booked,
+        Told::Nothing => refutation == Refutation::Known,
+        Told::Dead(number) => 0 < number && refutation == Refutation::Gone(RowNo::of(number)),
     }
 }
 
