@@ -5,9 +5,23 @@ use Rattle.desk_lock.specs.declared.history.Entry.{Entry}
 use Rattle.desk_lock.specs.declared.view.View.{View}
 use Rattle.desk_lock.specs.declared.desk.TicketDesk.{TicketDesk}
 use Rattle.desk_lock.specs.History.{entry, NoneIn, GoesOn}
-use Rattle.desk_lock.specs.Views.{InHome, IsUnborne, longer, Turned, kept_of, given_of, united}
+use Rattle.desk_lock.specs.Views.{Sat, InHome, IsUnborne, longer, Turned, kept_of, given_of, united}
 use Rattle.desk_lock.specs.Passes.{view, opened, IsPassOf}
 use Rattle.desk_lock.proofs.Histories.{none-append, none-snoc, none-narrower}
+
+-- the parts of what a seat has
+module _ {T C R : Type 0} (m : Sat T C R) (w : View T C R) (l : List (ℕ × T)) (is : m ≡ (w, l)) where
+  pub view_is : m.0 ≡ w
+  view_is = ap (λ (n : Sat T C R). n.0) is
+
+  pub stage_is : m.0.stage ≡ w.stage
+  stage_is = ap (λ (n : Sat T C R). n.0.stage) is
+
+  pub heard_is : m.0.heard ≡ w.heard
+  heard_is = ap (λ (n : Sat T C R). n.0.heard) is
+
+  pub hand_is : m.1 ≡ l
+  hand_is = ap (λ (n : Sat T C R). n.1) is
 
 module _ {T K C R : Type 0} (desk : TicketDesk T K C R) where
   abbrev Token : Type 0

@@ -1,7 +1,9 @@
-use Rattle.std.proofs.Common.{rules, subst, ap, ◌∙◌, Some}
+use Rattle.std.proofs.Common.{rules, subst, [], ◌∙◌, Some}
+use Rattle.desk_lock.specs.declared.view.Stage.TheVariants.{Drawn}
 use Rattle.desk_lock.specs.History.{MayTurn}
+use Rattle.desk_lock.specs.Views.{at_stage}
 use Rattle.desk_lock.specs.Passes.{opened}
-use Rattle.desk_lock.proofs.Passing.{turned_pass}
+use Rattle.desk_lock.proofs.Passing.{stage_is, turned_pass}
 use Rattle.desk_lock.proofs.Turning.{came, changed, found, holds_slot, may_turn, serves, ends}
 use Rattle.desk_lock.proofs.desk.TicketDesk.turn.Goals as goal
 
@@ -9,7 +11,7 @@ pub reach-requires-clause-own : goal.reach-requires-clause-own
 reach-requires-clause-own g c = c.ask-ticket.ensures.same.0 ∙ c.requires.own.of_desk
 
 pub reach-requires-clause-drawn : goal.reach-requires-clause-drawn
-reach-requires-clause-drawn g c = let d = c.ask-ticket.ensures.drawn in (d.0, Some c.args.call, ap (λ m. m.0.stage) d.1, d.2)
+reach-requires-clause-drawn g c = let d = c.ask-ticket.ensures.drawn in (d.0, Some c.args.call, stage_is c.ask-ticket.new.pass.me (at_stage (Drawn d.0 (Some c.args.call)) c.args.pass.now.me.0) [] d.1, d.2)
 
 pub slot_mut-requires : goal.slot_mut-requires
 slot_mut-requires g c =
