@@ -1,5 +1,5 @@
 -- Passes that are split and joined keep the rule.
-use Rattle.std.proofs.Common.{◌≡◌, ◌≢◌, ◌⊎◌, ℕ, ◌<◌, ◌≤◌, List, [], ◌∷◌, ◌++◌, length, set, sym, refl, ap, ◌∙◌, subst, inl, inr, ⊎_elim, arith, Some, None, length-set}
+use Rattle.std.proofs.Common.{◌≡◌, ◌≢◌, ◌⊎◌, ℕ, ◌<◌, ◌≤◌, List, [], ◌∷◌, length, set, sym, refl, ap, ◌∙◌, subst, inl, inr, ⊎_elim, arith, Some, None, length-set}
 use mathlib.Core.Option.{none, some}
 use lib.ListN.{get_elem?}
 use lib.Seq.{set-get_or}
@@ -11,15 +11,12 @@ use Rattle.desk_lock.specs.declared.view.Heard.{Heard}
 use Rattle.desk_lock.specs.declared.view.Terms.{Terms}
 use Rattle.desk_lock.specs.declared.view.Stage.TheVariants.{Idle}
 use Rattle.desk_lock.specs.History.{GoesOn}
-use Rattle.desk_lock.specs.Views.{Among, Home, InHome, IsUnborne, longer, kept_of, given_of, hearing, gone, met, listened}
+use Rattle.desk_lock.specs.Views.{Home, InHome, IsUnborne, longer, kept_of, given_of, hearing, gone, met, listened}
 use Rattle.desk_lock.specs.Rule.{out, tickets, owned, Stands, Hears, Knows, Kept}
 use Rattle.desk_lock.proofs.Histories.{none-narrower, none-nowhere, on_nowhere, joined_on}
 use Rattle.desk_lock.proofs.Counts.{sum-set, sum-append, at_end, put_range, range_here, range_else, moved, moved_here, moved_else}
 use Rattle.desk_lock.proofs.Keeps.{seats_stay}
-
-among-append : (n : ℕ) (xs ys : List (ℕ × ℕ)) → Among n (xs ++ ys) → Among n xs ⊎ Among n ys
-among-append n [] ys h = inr h
-among-append n (x ∷ xs) ys h = ⊎_elim (λ a. inl (inl a)) (λ a. ⊎_elim (λ b. inl (inr b)) inr (among-append n xs ys a)) h
+use Rattle.desk_lock.proofs.Numbers.{among-append}
 
 module _ {T C R : Type 0} (taken : T → C → R → T → Type 0) (may : T → ℕ → List (Entry C R) → C → Type 0) (key : Terms T) where
   abbrev V : Type 0

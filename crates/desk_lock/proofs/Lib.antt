@@ -5,3 +5,4 @@ pub mod Turning
 pub mod Homes
 pub mod Uniting
 pub mod Passing
+pub mod Numbers

@@ -1,9 +1,9 @@
 -- The laws of histories, which functions with an empty body ensure.
-use Rattle.std.specs.Prelude.{◌≡◌, ◌⊎◌, ◌<◌, ℕ, List, [], ◌∷◌, ◌++◌}
+use Rattle.std.specs.Prelude.{◌≡◌, ◌⊎◌, ◌↔◌, ◌<◌, ℕ, List, [], ◌∷◌, ◌++◌}
 use Rattle.desk_lock.specs.declared.history.Entry.{Entry}
 use Rattle.desk_lock.specs.declared.view.View.{View}
 use Rattle.desk_lock.specs.History.{entry, Begins, GoesOn, calls_of, LegalFrom, Legal}
-use Rattle.desk_lock.specs.Views.{InHome, Turned}
+use Rattle.desk_lock.specs.Views.{InHome, Turned, kept_of, given_of, united}
 
 module _ {T C R : Type 0} (step : T → C → R → T → Type 0) (may : T → ℕ → List (Entry C R) → C → Type 0) where
   -- A legal history with one more entry, which its pass may make, is legal.
@@ -31,3 +31,11 @@ module _ (T C R : Type 0) where
   -- Where a history goes on with no entry of a pass's home, the calls of the home's numbers stay the same.
   abbrev pub CallsStay : Type 0
   CallsStay = (v : View T C R) (number : ℕ) (later : List (Entry C R)) → InHome v number → GoesOn (InHome v) v.seen later → calls_of number later ≡ calls_of number v.seen
+
+  -- A split divides the home: the owned numbers from `at` on are the new pass's, and all others stay.
+  abbrev pub HomesDivide : Type 0
+  HomesDivide = (v : View T C R) (at n : ℕ) → v.low < at → at < v.high → InHome v n ↔ (InHome (kept_of at v) n ⊎ InHome (given_of at v) n)
+
+  -- A join unites the homes.
+  abbrev pub HomesUnite : Type 0
+  HomesUnite = (v w : View T C R) (n : ℕ) → InHome (united v w) n ↔ (InHome v n ⊎ InHome w n)

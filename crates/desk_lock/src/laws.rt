@@ -1,5 +1,5 @@
 // Laws of histories. Each function does nothing, and its contract is the law.
-ghost use Rattle.desk_lock.specs.Laws.{GrowsAtTheEnd, EndsWithAStep, BeginningIsLegal, CallsStandOnce, OneBeginsTheOther, CallsStay};
+ghost use Rattle.desk_lock.specs.Laws.{GrowsAtTheEnd, EndsWithAStep, BeginningIsLegal, CallsStandOnce, OneBeginsTheOther, CallsStay, HomesDivide, HomesUnite};
 
 use crate::turns::Turns;
 
@@ -31,4 +31,14 @@ pub fn one_beginning_begins_the_other<C, R>()
 /// What others add to a history leaves the calls of a pass's home as they are.
 pub fn calls_of_a_home_stay<T, C, R>()
     ensures { CallsStay T C R }
+{}
+
+/// A split divides the home of a pass between it and the new one.
+pub fn a_split_divides_a_home<T, C, R>()
+    ensures { HomesDivide T C R }
+{}
+
+/// A join unites the homes of two passes.
+pub fn a_join_unites_homes<T, C, R>()
+    ensures { HomesUnite T C R }
 {}

@@ -10,7 +10,7 @@
 
 mod desk;
 mod history;
-mod laws;
+pub mod laws;
 mod plays;
 mod rule;
 #[cfg(test)]
