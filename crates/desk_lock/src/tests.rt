@@ -1,7 +1,7 @@
 ghost use Rattle.std.specs.Prelude.{◌≡◌, ◌<◌, ◌≤◌, IfOk};
 ghost use Rattle.desk_lock.specs.Passes.{view, IsPassOf};
 
-use crate::{NoMemory, Pass, TicketDesk, Turns};
+use crate::NoMemory;
 use std::alloc::{AllocError, Global};
 use std::process::Abort;
 use std::sync::{Arc, Wait};
@@ -94,11 +94,21 @@ fn a_value_goes_from_one_caller_to_another(rt: HostRuntime) -> Result<(), Fail> 
     let alloc = rt.alloc();
     let mut parcel = Vec::new(alloc);
     parcel.extend_from_slice(&[7, 9])?;
-    let Ok((desk, mut first)) = ExchangeDesk::open(alloc, None, 2) else {
+    let Ok((desk, mut first)) = ExchangeDesk::<Vec<u32>>::open(alloc, None, 2) else {
         return Err(Fail::from(AllocError));
     };
     let second = desk.split(&mut first, 1);
-    let (found, fetched, left) = handed_over(&rt, desk, first, second, parcel);
+    let (fetched, found, left) = handed_over(&rt, desk, first, second, parcel);
     assert!(rt; found.is_none() && left.is_none() && fetched.as_slice() == [7, 9].as_slice());
+    Ok(())
+}
+
+#[test]
+fn a_desk_that_is_dropped_drops_its_object(rt: HostRuntime) -> Result<(), Fail> {
+    let shared = Arc::new(rt.alloc(), 7u8)?;
+    let desk = ExchangeDesk::open(rt.alloc(), Some(Arc::try_clone(&shared)?), 1);
+    assert!(rt; desk.is_err() || Arc::strong_count(&shared) == 2);
+    drop(desk);
+    assert!(rt; Arc::strong_count(&shared) == 1);
     Ok(())
 }

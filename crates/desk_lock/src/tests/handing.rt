@@ -9,16 +9,18 @@ use std::thread::{Threads, join};
 
 pub struct Exchange;
 
-pub type Parcel = Option<Vec<u32>>;
+pub type ExchangeDesk<X> = TicketDesk<Option<X>, Exchange>;
 
-pub type ExchangeDesk = TicketDesk<Parcel, Exchange>;
+type Parcel = Option<Vec<u32>>;
 
-pub type ExchangePass = Pass<Parcel, Parcel, Parcel>;
+type ParcelDesk = ExchangeDesk<Vec<u32>>;
 
-impl Turns<Parcel> for Exchange {
-    type Call = Parcel;
+type ParcelPass = Pass<Parcel, Parcel, Parcel>;
 
-    type Reply = Parcel;
+impl<X> Turns<Option<X>> for Exchange {
+    type Call = Option<X>;
+
+    type Reply = Option<X>;
 
     ghost step = { λ s call reply t. (reply ≡ s) × (t ≡ call) };
 
@@ -26,17 +28,17 @@ impl Turns<Parcel> for Exchange {
 
     ghost lasts = { λ _ _ _ _ _ m. m };
 
-    fn turn(state: &mut Parcel, call: Parcel) -> Parcel {
+    fn turn(state: &mut Option<X>, call: Option<X>) -> Option<X> {
         mem::replace(state, call)
     }
 }
 
 fn bring<R: Wait>(
     rt: &R,
-    desk: &ExchangeDesk,
-    mut pass: ExchangePass,
+    desk: &ParcelDesk,
+    mut pass: ParcelPass,
     parcel: Vec<u32>,
-) -> (ExchangePass, Parcel)
+) -> (ParcelPass, Parcel)
     requires { IsPassOf desk.now pass }
     ensures { IsPassOf desk.now result.0 }
 {
@@ -45,7 +47,7 @@ fn bring<R: Wait>(
 }
 
 // Asks until something is there.
-fn fetch<R: Wait>(rt: &R, desk: &ExchangeDesk, mut pass: ExchangePass) -> (ExchangePass, Vec<u32>)
+fn fetch<R: Wait>(rt: &R, desk: &ParcelDesk, mut pass: ParcelPass) -> (ParcelPass, Vec<u32>)
     requires { IsPassOf desk.now pass }
     ensures { IsPassOf desk.now result.0 }
 {
@@ -57,28 +59,30 @@ fn fetch<R: Wait>(rt: &R, desk: &ExchangeDesk, mut pass: ExchangePass) -> (Excha
     unreachable!()
 }
 
-/// One thread brings a parcel, and another fetches it. What each was replied, and what is left.
+/// One thread fetches a parcel that another brings. What each was replied, and what is left.
+///
+/// Where no thread can be made, `join` calls its second closure first, and the parcel is there before it is fetched.
 pub fn handed_over<R: Threads + Wait + Sync>(
     rt: &R,
-    desk: ExchangeDesk,
-    mut first: ExchangePass,
-    second: ExchangePass,
+    desk: ParcelDesk,
+    mut first: ParcelPass,
+    second: ParcelPass,
     parcel: Vec<u32>,
-) -> (Parcel, Vec<u32>, Parcel)
+) -> (Vec<u32>, Parcel, Parcel)
     requires { IsPassOf desk first × IsPassOf desk second }
 {
     let shared = &desk;
-    let ((mut first, found), (second, fetched)) = join(
+    let ((mut first, fetched), (second, found)) = join(
         rt,
-        move || -> (ExchangePass, Parcel)
+        move || -> (ParcelPass, Vec<u32>)
             requires { IsPassOf shared.now first }
             ensures { IsPassOf shared.entry.now result.0 }
-        { bring(rt, shared, first, parcel) },
-        move || -> (ExchangePass, Vec<u32>)
+        { fetch(rt, shared, first) },
+        move || -> (ParcelPass, Parcel)
             requires { IsPassOf shared.now second }
             ensures { IsPassOf shared.entry.now result.0 }
-        { fetch(rt, shared, second) },
+        { bring(rt, shared, second, parcel) },
     );
     desk.join(&mut first, second);
-    (found, fetched, desk.close(rt, first))
+    (fetched, found, desk.close(rt, first))
 }
