@@ -1,6 +1,6 @@
 -- Boyce-Codd normal form of a table: the columns S of a row state.
-use Rattle.std.specs.Prelude.{◌≡◌, ℕ, Bool, true, false, not, ◌&&◌, Option, slice_get}
-use Rattle.std.specs.List.{filter, list_any}
+use Rattle.std.specs.Prelude.{◌≡◌, ℕ, Bool, true, false, not, ◌&&◌, Option}
+use Rattle.std.specs.List.{find, list_any}
 use Rattle.col_set.specs.declared.target.Target.TheVariants.{Col}
 use Rattle.col_set.specs.ColSet.{Columns, IsSubset, has, subset, columns, all_sets}
 use Rattle.rel_base.specs.RowState.{RowState, width}
@@ -26,4 +26,4 @@ pub record Violates (r : RowState) (s x : Columns) : Type 0 where
 
 -- the first column set in report order that violates it
 unfoldable pub first_violation : RowState → Columns → Option Columns
-first_violation r s = slice_get (filter (violates r s) (all_sets (width r))) 0
+first_violation r s = find (violates r s) (all_sets (width r))
