@@ -1,4 +1,4 @@
--- The first element that passes a test, of a list that rises; and that fewer columns stand before more in report order.
+-- The first element that passes a test, of a list that rises, and where a set lies inside another.
 use Rattle.std.proofs.Common.{inl, inr, ◌≡◌, ◌≢◌, ◌⊎◌, ℕ, suc, ◌+◌, ◌<◌, ◌≤◌, ◌^◌, Bool, true, false, cond, refl, sym, ap, ◌∙◌, arith, List, [], ◌∷◌, length, Ordering, Less, Option, Some, None}
 use Rattle.std.specs.List.{filter, find}
 use Rattle.std.specs.Ordering.{ordering_then}
@@ -47,46 +47,6 @@ module _ {X : Type 0} where
       by : (o : Option X) → find p xs ≡ o → (find p xs ≡ None) ⊎ ((x : X) × (find p xs ≡ Some x))
       by None e = inl e
       by (Some x) e = inr (x, e)
-
--- ---- how many columns
-fewer : (p q : ℕ → Bool) (xs : List ℕ) → ((k : ℕ) → p k ≡ true → q k ≡ true) → length (filter p xs) ≤ length (filter q xs)
-fewer p q [] f = omega arith
-fewer p q (x ∷ xs) f = by (p x) (q x) (f x) (fewer p q xs f)
-  where
-    by : (a b : Bool) → (a ≡ true → b ≡ true) → length (filter p xs) ≤ length (filter q xs) → length (cond a (x ∷ filter p xs) (filter p xs)) ≤ length (cond b (x ∷ filter q xs) (filter q xs))
-    by true true g h = omega arith
-    by true false g h = absurd (false≢true (g refl))
-    by false true g h = omega arith
-    by false false g h = h
-
-less : (p q : ℕ → Bool) (c : ℕ) (xs : List ℕ) → ((k : ℕ) → p k ≡ true → q k ≡ true) → Listed c xs → p c ≡ false → q c ≡ true → length (filter p xs) < length (filter q xs)
-less p q c [] f h i j = absurd h
-less p q c (x ∷ xs) f (inl e) i j = by (p x) (q x) (sym (ap p e) ∙ i) (sym (ap q e) ∙ j) (fewer p q xs f)
-  where
-    by : (a b : Bool) → a ≡ false → b ≡ true → length (filter p xs) ≤ length (filter q xs) → length (cond a (x ∷ filter p xs) (filter p xs)) < length (cond b (x ∷ filter q xs) (filter q xs))
-    by false true g d h = omega arith
-    by true b g d h = absurd (true≢false g)
-    by false false g d h = absurd (false≢true d)
-less p q c (x ∷ xs) f (inr h) i j = by (p x) (q x) (f x) (less p q c xs f h i j)
-  where
-    by : (a b : Bool) → (a ≡ true → b ≡ true) → length (filter p xs) < length (filter q xs) → length (cond a (x ∷ filter p xs) (filter p xs)) < length (cond b (x ∷ filter q xs) (filter q xs))
-    by true true g h = omega arith
-    by true false g h = absurd (false≢true (g refl))
-    by false true g h = omega arith
-    by false false g h = h
-
-pub size-less : (n x y c : ℕ) → y < 2 ^ n → IsSubset x y → has x c ≡ false → has y c ≡ true → size x < size y
-unfolding size
-size-less n x y c b s i j =
-    let d = ap length (columns_below n x (subset_below n s b)) in
-    let e = ap length (columns_below n y b) in
-    let l = less (has x) (has y) c (upto n) s.each (Listed-upto n c (has_within y n c b j)) i j in
-    omega arith
-
--- a proper subset stands first in report order
-pub report-inside : (n x y c : ℕ) → y < 2 ^ n → IsSubset x y → has x c ≡ false → has y c ≡ true → report_cmp x y ≡ Less
-unfolding report_cmp
-report-inside n x y c b s i j = ap (λ o. ordering_then o (slice_cmp nat_cmp (columns x) (columns y))) (nat_cmp-lt (size x) (size y) (size-less n x y c b s i j))
 
 -- a set inside another is that one, or lacks one of its columns
 gap : Columns → Columns → ℕ → Bool

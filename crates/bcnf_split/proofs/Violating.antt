@@ -23,7 +23,8 @@ use Rattle.fd_closure.proofs.Determined.{all-more, Determines-tested, determines
 use Rattle.fd_closure.proofs.Closing.{minimal_inside, minimal-holds}
 use Rattle.bcnf_split.specs.Bcnf.{IsBcnf, violates, Violates, first_violation}
 use Rattle.bcnf_split.specs.Laws.{ViolationsMean, IsLeftSide, FirstIsLeftSide}
-use Rattle.bcnf_split.proofs.Found.{find_passes, find_none, find_first, find_cases, report-inside, same_or_less}
+use Rattle.fd_closure.proofs.Sizes.{report-inside}
+use Rattle.bcnf_split.proofs.Found.{find_passes, find_none, find_first, find_cases, same_or_less}
 
 -- ---- the test, part by part
 pub record Violating (r : RowState) (s x : Columns) : Type 0 where

@@ -3,3 +3,6 @@ pub mod Closing
 pub mod Order
 pub mod Shrinking
 pub mod Telling
+pub mod Sizes
+pub mod Grouping
+pub mod Reaching

@@ -12,7 +12,9 @@ use Rattle.rel_base.specs.declared.dependency.Fd.{Fd}
 use Rattle.rel_base.specs.RowState.{RowState, width}
 use Rattle.rel_base.specs.Minimality.{min_fd}
 use Rattle.rel_base.specs.Covers.{fds_to, covers}
+use Rattle.rel_base.proofs.States.{All-from}
 use Rattle.fd_closure.specs.Closure.{fd_cmp, IsInOrder}
+use Rattle.fd_closure.proofs.Closing.{covers-minimal}
 
 module _ (lefts : ℕ → List Columns) (rise : (a : ℕ) → Rises report_cmp (lefts a)) where
   later : (one other : Fd) → one.right < other.right → fd_cmp one other ≡ Less
@@ -35,5 +37,8 @@ pub Rises-covers : (r : RowState) → Rises fd_cmp (covers r).fds
 unfolding covers
 Rises-covers r = Rises-groups (λ a. filter (λ x. min_fd r x a) (all_sets (width r))) (λ a. Rises-filter report_cmp (λ x. min_fd r x a) (all_sets (width r)) (Rises-all_sets (width r))) (width r) 0
 
-pub covers-in_order : (r : RowState) → IsInOrder (covers r).fds
-covers-in_order r = AllPairs-rises fd_cmp (covers r).fds (Rises-covers r)
+pub covers-in_order : (r : RowState) → width r ≤ 128 → IsInOrder (covers r).fds
+covers-in_order r l = record {
+  rising = AllPairs-rises fd_cmp (covers r).fds (Rises-covers r);
+  narrow = All-from (λ (fd : Fd). fd.right < 128) (covers r).fds (λ fd h. let b = (covers-minimal r fd h).column in omega arith);
+}

@@ -61,6 +61,22 @@ module _ (p : ℕ → Bool) where
     | inr ne ↦ ap (shrunk p m) (tried_nothing m x (has_above x n m b (omega arith))) ∙ shrunk-above m n x b (omega arith)
   ]
 
+  -- one step of the loop
+  pub shrunk-dropped : (m n x less : ℕ) → m ≡ suc n → has x n ≡ true → p less ≡ true → less ≡ without x n → shrunk p n less ≡ shrunk p m x
+  unfolding shrunk tried
+  shrunk-dropped m n x less e h g i =
+      ap (shrunk p n) (i ∙ sym (ap (λ b. cond b (without x n) x) (and_from _ _ h (ap p (sym i) ∙ g))))
+      ∙ ap (λ k. shrunk p k x) (sym e)
+
+  pub shrunk-kept : (m n x : ℕ) → m ≡ suc n → (has x n && p (without x n)) ≡ false → shrunk p n x ≡ shrunk p m x
+  unfolding shrunk tried
+  shrunk-kept m n x e h = ap (shrunk p n) (sym (ap (λ b. cond b (without x n) x) h)) ∙ ap (λ k. shrunk p k x) (sym e)
+
+  pub shrunk-end : (m x : ℕ) → m ≤ 0 → shrunk p m x ≡ x
+  unfolding shrunk
+  shrunk-end zero x l = refl
+  shrunk-end (suc m) x l = absurd (omega arith)
+
   -- where more columns pass where fewer do, no column of what is left can be spared
   module _ (more : (x y : ℕ) → IsSubset x y → p x ≡ true → p y ≡ true) where
     needed : (n x c : ℕ) → c < n → has (shrunk p n x) c ≡ true → p (without (shrunk p n x) c) ≡ false

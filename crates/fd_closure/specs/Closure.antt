@@ -1,10 +1,10 @@
 -- The closure of a column set under listed dependencies, in one pass.
-use Rattle.std.specs.Prelude.{◌≡◌, ℕ, ◌==◌, Bool, ◌&&◌, List, map}
-use Rattle.std.specs.List.{filter, list_any, AllPairs}
+use Rattle.std.specs.Prelude.{◌≡◌, ◌<◌, ℕ, ◌==◌, nat_lt, nat_le, Bool, ◌&&◌, ◌||◌, List, map}
+use Rattle.std.specs.List.{filter, list_any, All, AllPairs}
 use Rattle.std.specs.declared.cmp.Ordering.{Ordering}
 use Rattle.std.specs.declared.cmp.Ordering.TheVariants.{Less}
 use Rattle.std.specs.Ordering.{nat_cmp, on, then_cmp}
-use Rattle.col_set.specs.ColSet.{Columns, subset, union, set_of, report_cmp}
+use Rattle.col_set.specs.ColSet.{Columns, subset, size, union, set_of, report_cmp}
 use Rattle.rel_base.specs.declared.dependency.Fd.{Fd}
 
 -- X, and each column that has a listed left side inside X
@@ -19,6 +19,15 @@ has_left_inside fds x a = list_any (λ fd. (fd.right == a) && subset fd.left x) 
 abbrev pub fd_cmp : Fd → Fd → Ordering
 fd_cmp = then_cmp (on (λ fd. fd.right) nat_cmp) (on (λ fd. fd.left) report_cmp)
 
--- the dependencies stand in that order, each once
-abbrev pub IsInOrder : List Fd → Type 0
-IsInOrder fds = AllPairs (λ one other. fd_cmp one other ≡ Less) fds
+-- dependencies on columns, in that order, each once
+pub record IsInOrder (fds : List Fd) : Type 0 where
+  pub rising : AllPairs (λ one other. fd_cmp one other ≡ Less) fds
+  pub narrow : All (λ fd. fd.right < 128) fds
+
+-- whether a dependency stands before those of a column
+abbrev pub is_before : ℕ → Fd → Bool
+is_before a fd = nat_lt fd.right a
+
+-- the same, or it is one of that column with at most so many columns on the left
+abbrev pub is_short : ℕ → ℕ → Fd → Bool
+is_short a most fd = nat_lt fd.right a || ((fd.right == a) && nat_le (size fd.left) most)
