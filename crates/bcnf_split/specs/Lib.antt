@@ -1,3 +1,4 @@
 pub mod Bcnf
 pub mod Split
+pub mod Search
 pub mod Laws
