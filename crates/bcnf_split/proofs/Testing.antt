@@ -80,7 +80,7 @@ module _ (s x reached d : Columns) (inside : IsSubset x s) (own : IsSubset x rea
 -- ---- by the covers of a row state
 module _ (lists : CoverLists) (r : RowState) (s : Columns) (table : IsTableOf lists r s) where
   pub lists-in_order : IsInOrder lists.fds
-  lists-in_order = subst (λ (l : CoverLists). IsInOrder l.fds) (sym table.own) (covers-in_order r table.state.narrow)
+  lists-in_order = subst (λ (l : CoverLists). IsInOrder l.fds) (sym table.own) (covers-in_order r table.state)
 
   module _ (x : Columns) (inside : IsSubset x s) where
     below : x < 2 ^ width r

@@ -9,7 +9,7 @@ ghost use Rattle.bcnf_split.specs.Search.{IsParting, IsViolation, IsFoundBy};
 
 use crate::dependents::parting_by;
 use crate::parted::Parting;
-use rel_base::{ColSet, Covers, Fd};
+use rel_base::{ColSet, Covers, Fd, MOST_COLUMNS};
 
 /// The first column set in report order that determines, inside the table s, some column outside itself and not all of s. There is
 /// none exactly where s is in Boyce-Codd normal form.
@@ -54,9 +54,9 @@ fn is_ahead(covers: &Covers, fd: &Fd, s: ColSet, first: &Option<Parting>) -> boo
 // Whether all columns of a dependency are in s.
 fn lies_inside(fd: &Fd, s: ColSet) -> bool
     ensures only { IsTrue result → IsSubset fd.now.left s }
-    ensures every { fd.now.right < 128 → result ≡ (has s fd.now.right && subset fd.now.left s) }
+    ensures every { fd.now.right < MOST_COLUMNS → result ≡ (has s fd.now.right && subset fd.now.left s) }
 {
-    fd.right < 128 && s.has(fd.right) && fd.left.subset_of(s)
+    fd.right < MOST_COLUMNS && s.has(fd.right) && fd.left.subset_of(s)
 }
 
 // Whether x stands before the violation that was found, if there is one.

@@ -8,7 +8,7 @@ ghost use Rattle.bcnf_split.specs.Split.{tables_of};
 
 use crate::search::first_parting;
 use fd_closure::shrink_key;
-use rel_base::{ColSet, Covers, Table};
+use rel_base::{ColSet, Covers, MOST_COLUMNS, Table};
 use std::alloc::{AllocError, Global};
 
 /// The tables in Boyce-Codd normal form that the n columns of a relation with these covers are split into, each with its key.
@@ -17,7 +17,7 @@ use std::alloc::{AllocError, Global};
 /// there, and X with Y (Normalize, Papenbrock and Naumann, 2017, with its ranking of violations left out). There are at most as many
 /// tables as columns. For each table and each set that is parted the covers are walked once, as `violation` does.
 pub fn split(alloc: Global, covers: &Covers, n: u8) -> Result<Vec<Table>, AllocError>
-    requires { n ≤ 128 }
+    requires { n ≤ MOST_COLUMNS }
     ensures { IfOk result (λ tables. (r : RowState) → IsRowState r → width r ≡ n → covers.now ≡ cover_words.covers r → tables.items ≡ tables_of r (all n)) }
 {
     let mut tables = Vec::new(alloc);

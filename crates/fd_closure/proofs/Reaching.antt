@@ -11,7 +11,8 @@ use Rattle.col_set.proofs.EachColumn.{Listed-columns, first-Some, first-None}
 use Rattle.col_set.proofs.Places.{Listed-get_or}
 use Rattle.rel_base.specs.declared.dependency.Fd.{Fd}
 use Rattle.rel_base.proofs.States.{All-listed}
-use Rattle.fd_closure.specs.Closure.{closure_of, has_left_inside, fd_cmp, IsInOrder}
+use Rattle.rel_base.specs.Laws.{fd_cmp}
+use Rattle.fd_closure.specs.Closure.{closure_of, has_left_inside, IsInOrder}
 use Rattle.fd_closure.proofs.Closing.{has-closure_of}
 use Rattle.fd_closure.proofs.Grouping.{inside-some, fd_equal}
 
