@@ -5,3 +5,4 @@ pub mod Splitting
 pub mod Testing
 pub mod Searching
 pub mod Tabling
+pub mod PlainSplit

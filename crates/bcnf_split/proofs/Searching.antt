@@ -30,7 +30,7 @@ not_before x y h = by (report_cmp x y) refl
     by Equal e = inl (sym (report_cmp-same x y e))
     by Greater e = inr (report_total.antisymm y x ∙ ap ordering_reverse e)
 
-not_both : (x y : ℕ) → report_cmp x y ≡ Less → report_cmp y x ≡ Less → ⊥
+pub not_both : (x y : ℕ) → report_cmp x y ≡ Less → report_cmp y x ≡ Less → ⊥
 not_both x y e f = let g : report_cmp x y ≡ Greater = report_total.antisymm x y ∙ ap ordering_reverse f in cc
 
 pub less_trans : (x y z : ℕ) → report_cmp x y ≡ Less → (y ≡ z) ⊎ (report_cmp y z ≡ Less) → report_cmp x z ≡ Less

@@ -40,7 +40,7 @@ module _ (r : RowState) where
     splits_by s b = within_by s s (omega arith) b
 
   -- ---- as the definition says
-  more_steps : (m n s : ℕ) → s ≤ m → s ≤ n → s < 2 ^ width r → splits_within m r s ≡ splits_within n r s
+  pub more_steps : (m n s : ℕ) → s ≤ m → s ≤ n → s < 2 ^ width r → splits_within m r s ≡ splits_within n r s
   unfolding splits_within
   more_steps zero zero s l k b = refl
   more_steps zero (suc n) s l k b = by (first_violation r s) refl

@@ -21,3 +21,8 @@ pub record IsViolation (r : RowState) (s : Columns) (p : Parting) : Type 0 where
 abbrev pub IsFoundBy : Columns → Option Parting → Type 0
 IsFoundBy x None = ⊥
 IsFoundBy x (Some p) = (p.left ≡ x) ⊎ (report_cmp p.left x ≡ Less)
+
+-- the same of a column set that was found
+abbrev pub IsFoundAs : Columns → Option Columns → Type 0
+IsFoundAs x None = ⊥
+IsFoundAs x (Some y) = (y ≡ x) ⊎ (report_cmp y x ≡ Less)

@@ -6,6 +6,8 @@ pub mod laws;
 mod parted;
 mod search;
 mod tables;
+#[cfg(test)]
+mod tests;
 
 pub use search::violation;
 pub use tables::split;
