@@ -1,11 +1,10 @@
 -- The plain definition of the split, as the tests run it.
-use Rattle.std.proofs.Common.{inl, inr, ◌≡◌, ◌≢◌, ◌⊎◌, ℕ, zero, suc, ◌+◌, ◌-◌, ◌<◌, ◌≤◌, ◌^◌, Bool, true, false, not, ◌&&◌, ◌||◌, refl, sym, ap, ap₂, ◌∙◌, subst, arith, List, [], ◌∷◌, ◌++◌, eqb, map, append_assoc, Less, Option, Some, None}
+use Rattle.std.proofs.Common.{inl, inr, ◌≡◌, ◌≢◌, ◌⊎◌, ℕ, zero, suc, ◌+◌, ◌<◌, ◌≤◌, ◌^◌, Bool, true, false, not, ◌&&◌, refl, sym, ap, ap₂, ◌∙◌, subst, arith, List, [], ◌∷◌, ◌++◌, eqb, map, append_assoc, Less, Option, Some, None}
 use Rattle.std.specs.Prelude.{IfSome}
 use Rattle.std.specs.List.{list_any}
-use Rattle.std.proofs.lemmas.Bool.{true≢false, false≢true, cases_eq, cases_lt, cases_Bool, and_parts, and_from, or_cases, or_left, or_right, not-true, not_from_false, eq-eqb, eqb-true, ne_eqb, false_from_ne_true}
-use Rattle.std.proofs.lemmas.Option.{same_Some, none-some}
+use Rattle.std.proofs.lemmas.Bool.{true≢false, false≢true, cases_eq, cases_Bool, and_parts, and_from, or_cases, or_right, not-true, not_from_false, eq-eqb, eqb-true, false_from_ne_true}
 use Rattle.col_set.specs.declared.target.Target.TheVariants.{Col}
-use Rattle.col_set.specs.ColSet.{Columns, IsSubset, has, subset, with, union, inter, minus, columns, all, report_cmp}
+use Rattle.col_set.specs.ColSet.{Columns, has, subset, with, union, inter, minus, columns, all, report_cmp}
 use Rattle.col_set.specs.Members.{has-empty, has-with, has-inter, same_set}
 use Rattle.col_set.specs.Lists.{list_any_at, list_any_which}
 use Rattle.col_set.specs.Subsets.{IsSubset-with, same_test, subset-true, true-subset, has_within, subset_below}
@@ -16,9 +15,8 @@ use Rattle.rel_base.specs.Validity.{agree_sets, determined, holds}
 use Rattle.fd_closure.specs.Determined.{determined_columns, determines_all}
 use Rattle.fd_closure.specs.Keys.{shrunk, table_key}
 use Rattle.fd_closure.proofs.Determined.{determined-holds, holds-determined, subset-determined}
-use Rattle.fd_closure.proofs.Shrinking.{shrunk-same}
 use Rattle.bcnf_split.specs.Bcnf.{violates, first_violation}
-use Rattle.bcnf_split.specs.Split.{dependents, splits_within, splits, tables_of}
+use Rattle.bcnf_split.specs.Split.{dependents, splits_within, tables_of}
 use Rattle.bcnf_split.specs.Search.{IsFoundAs}
 use Rattle.bcnf_split.proofs.Violating.{violates-parts, violates-from, first-violating, first-cases, first-before, none-violates}
 use Rattle.bcnf_split.proofs.Searching.{not_both}

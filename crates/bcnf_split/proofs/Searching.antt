@@ -1,11 +1,11 @@
 -- The walk over left sides: what is found so far, and that the first one is found.
-use Rattle.std.proofs.Common.{inl, inr, ◌≡◌, ◌⊎◌, ℕ, ◌+◌, ◌<◌, ◌≤◌, ◌^◌, Bool, true, false, not, ◌&&◌, refl, sym, ap, ◌∙◌, subst, arith, List, length, get_or, Ordering, Less, Greater, Equal, is_lt, Option, Some, None}
-use Rattle.std.specs.Prelude.{IfSome, IsNone, ◌↔◌}
+use Rattle.std.proofs.Common.{inl, inr, ◌≡◌, ◌⊎◌, ℕ, ◌+◌, ◌<◌, ◌≤◌, ◌^◌, Bool, true, false, ◌&&◌, refl, sym, ap, ◌∙◌, subst, arith, List, length, get_or, Ordering, Less, Greater, Equal, is_lt, Option, Some, None}
+use Rattle.std.specs.Prelude.{IfSome}
 use Rattle.std.specs.Option.{option_map}
 use Rattle.std.specs.Ordering.{ordering_reverse}
 use Rattle.std.proofs.lemmas.Bool.{true≢false, false≢true, and_from, cases_lt}
 use Rattle.std.proofs.lemmas.List.{get_or_default}
-use Rattle.col_set.specs.ColSet.{Columns, IsSubset, has, subset, report_cmp}
+use Rattle.col_set.specs.ColSet.{Columns, has, subset, report_cmp}
 use Rattle.col_set.specs.Columns.{report_total}
 use Rattle.col_set.specs.AllSets.{report_cmp-same}
 use Rattle.col_set.specs.Lists.{Listed}
@@ -13,13 +13,12 @@ use Rattle.col_set.specs.Subsets.{has_within, subset_below, true-subset}
 use Rattle.col_set.proofs.Places.{Contains-listed}
 use Rattle.rel_base.specs.declared.dependency.Fd.{Fd}
 use Rattle.rel_base.specs.RowState.{RowState, width}
-use Rattle.rel_base.specs.Covers.{CoverLists, covers}
+use Rattle.rel_base.specs.Covers.{CoverLists}
 use Rattle.fd_closure.proofs.Closing.{minimal-covers}
 use Rattle.bcnf_split.specs.declared.parted.Parting.{Parting}
 use Rattle.bcnf_split.specs.Bcnf.{IsTableOf, violates, first_violation}
 use Rattle.bcnf_split.specs.Search.{IsParting, IsViolation, IsFoundBy}
-use Rattle.bcnf_split.proofs.Violating.{Violating, violates-parts, violates-from, first-violating, first-minimal, first-cases, first-before, none-violates}
-use Rattle.bcnf_split.proofs.Testing.{key-not_violating}
+use Rattle.bcnf_split.proofs.Violating.{violates-parts, violates-from, first-violating, first-minimal, first-cases, first-before, none-violates}
 
 -- ---- before and behind what was found
 pub not_before : (x y : ℕ) → (report_cmp x y ≡ Less → ⊥) → (y ≡ x) ⊎ (report_cmp y x ≡ Less)

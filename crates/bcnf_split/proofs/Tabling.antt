@@ -1,13 +1,12 @@
 -- The tables of a set, with their keys: of one without a violation, and of one that is parted.
-use Rattle.std.proofs.Common.{inl, inr, ◌≡◌, ◌⊎◌, ℕ, ◌<◌, ◌≤◌, ◌^◌, Bool, true, false, refl, sym, ap, ap₂, ◌∙◌, subst, arith, List, [], ◌∷◌, ◌++◌, map, length, get_or, append_assoc, Option, Some, None, Result, Ok, Err}
-use Rattle.std.specs.Prelude.{OnOk, IfSome, IsNone, ◌↔◌}
+use Rattle.std.proofs.Common.{inl, inr, ◌≡◌, ◌⊎◌, ℕ, ◌<◌, ◌^◌, Bool, true, refl, sym, ap, ap₂, ◌∙◌, subst, arith, List, [], ◌∷◌, ◌++◌, map, length, get_or, append_assoc, Option, Some, None, Result, Ok, Err}
+use Rattle.std.specs.Prelude.{OnOk, IsNone, ◌↔◌}
 use Rattle.std.specs.List.{Contains}
 use Rattle.std.specs.List.Sorted.{IsBinarySearchResult, IsSearchInRange}
-use Rattle.std.specs.Option.{option_map}
 use Rattle.std.specs.Result.{is_ok}
 use Rattle.std.proofs.lemmas.Bool.{false≢true, ltb-true}
-use Rattle.std.proofs.lemmas.Option.{same_Some, none-some}
-use Rattle.col_set.specs.ColSet.{Columns, has, all, subset, union, minus, report_cmp}
+use Rattle.std.proofs.lemmas.Option.{none-some}
+use Rattle.col_set.specs.ColSet.{Columns, all, subset, union, minus, report_cmp}
 use Rattle.col_set.specs.Members.{has-all}
 use Rattle.col_set.specs.AllSets.{report_cmp-same}
 use Rattle.col_set.specs.Subsets.{below_from}
@@ -20,7 +19,7 @@ use Rattle.fd_closure.specs.Keys.{shrunk, table_key}
 use Rattle.fd_closure.proofs.Telling.{shrunk-table_key}
 use Rattle.bcnf_split.specs.declared.parted.Parting.{Parting}
 use Rattle.bcnf_split.specs.Bcnf.{IsBcnf, IsTableOf, first_violation}
-use Rattle.bcnf_split.specs.Split.{dependents, splits, tables_of}
+use Rattle.bcnf_split.specs.Split.{splits, tables_of}
 use Rattle.bcnf_split.specs.Search.{IsViolation, IsFoundBy}
 use Rattle.bcnf_split.proofs.Violating.{first-cases, IsBcnf-none, none-IsBcnf}
 use Rattle.bcnf_split.proofs.Splitting.{splits-whole, splits-parted}

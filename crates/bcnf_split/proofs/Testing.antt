@@ -1,14 +1,14 @@
 -- The test of one left side against a table, by its closure.
-use Rattle.std.proofs.Common.{inl, inr, ◌≡◌, ◌≢◌, ◌⊎◌, ℕ, ◌<◌, ◌≤◌, ◌^◌, Bool, true, false, not, ◌&&◌, ◌||◌, refl, sym, ap, ◌∙◌, subst, arith, length, List}
+use Rattle.std.proofs.Common.{inl, inr, ◌≡◌, ◌≢◌, ◌⊎◌, ℕ, ◌<◌, ◌^◌, Bool, true, false, not, ◌&&◌, sym, ap, ◌∙◌, subst, arith}
 use Rattle.std.specs.List.{Contains}
-use Rattle.std.proofs.lemmas.Bool.{true≢false, false≢true, and_parts, and_from, or_cases, or_left, or_right, not-true, not_from_false, false_from_ne_true}
+use Rattle.std.proofs.lemmas.Bool.{true≢false, and_parts, and_from, or_cases, not-true, not_from_false, false_from_ne_true}
 use Rattle.col_set.specs.declared.target.Target.TheVariants.{Col, RowId}
 use Rattle.col_set.specs.ColSet.{Columns, IsSubset, has, subset, union, inter, minus, all_sets}
 use Rattle.col_set.specs.Columns.{lt-pow}
 use Rattle.col_set.specs.Members.{has-union, has-inter, has-minus}
 use Rattle.col_set.specs.Lists.{Listed, Listed-filter_parts}
 use Rattle.col_set.specs.AllSets.{all_sets_below}
-use Rattle.col_set.specs.Subsets.{IsSubset-le, IsSubset-antisymm, has_within, subset_below, subset-true}
+use Rattle.col_set.specs.Subsets.{IsSubset-le, IsSubset-antisymm, has_within, subset_below}
 use Rattle.col_set.proofs.Minimal.{IsMinimal-from_test}
 use Rattle.col_set.proofs.Places.{Listed-contained}
 use Rattle.rel_base.specs.RowState.{RowState, width}
@@ -21,12 +21,11 @@ use Rattle.fd_closure.specs.Closure.{closure_of, IsInOrder}
 use Rattle.fd_closure.proofs.Determined.{determined-holds, holds-determined, holds-all}
 use Rattle.fd_closure.proofs.Closing.{closure-determined, closure-determines}
 use Rattle.fd_closure.proofs.Order.{covers-in_order}
-use Rattle.bcnf_split.specs.declared.parted.Parting.{Parting}
 use Rattle.bcnf_split.specs.Bcnf.{IsTableOf, violates}
 use Rattle.bcnf_split.specs.Split.{dependents}
 use Rattle.bcnf_split.specs.Search.{IsParting, IsViolation}
 use Rattle.bcnf_split.proofs.Found.{same_or_less}
-use Rattle.bcnf_split.proofs.Violating.{Violating, violates-parts, violates-from}
+use Rattle.bcnf_split.proofs.Violating.{violates-parts, violates-from}
 
 -- ---- what is parted is smaller, whatever the closure is
 module _ (s x reached d : Columns) (inside : IsSubset x s) (own : IsSubset x reached) (is : d ≡ inter s reached) where

@@ -1,5 +1,5 @@
 -- The split of a row state's columns into tables.
-use Rattle.std.specs.Prelude.{ℕ, zero, suc, List, [], ◌∷◌, ◌++◌, map, Option, Some, None}
+use Rattle.std.specs.Prelude.{ℕ, zero, suc, List, [], ◌∷◌, ◌++◌, map, Some, None}
 use Rattle.col_set.specs.ColSet.{Columns, union, inter, minus}
 use Rattle.rel_base.specs.declared.dependency.Table.{Table}
 use Rattle.rel_base.specs.RowState.{RowState}

@@ -118,7 +118,10 @@ fn small_relations_are_split_as_defined(rt: HostRuntime) -> Result<(), Fail> {
     for seed in 0..240u32 {
         let n = (seed % 5 + 1) as u8;
         let rows = made_rows(rt.alloc(), n, seed / 5 % 8, 2 + seed % 2, seed)?;
-        assert!(rt; is_split_as_defined(rt.alloc(), n, rows.as_slice())?, "seed {seed}");
+        assert!(rt;
+            is_split_as_defined(rt.alloc(), n, rows.as_slice())?,
+            "seed {seed}"
+        );
     }
     Ok(())
 }
@@ -127,7 +130,10 @@ fn small_relations_are_split_as_defined(rt: HostRuntime) -> Result<(), Fail> {
 fn first_violations_are_those_of_the_definition(rt: HostRuntime) -> Result<(), Fail> {
     for seed in 0..80u32 {
         let rows = made_rows(rt.alloc(), 4, seed % 8, 2 + seed % 2, seed)?;
-        assert!(rt; is_violated_as_defined(rt.alloc(), 4, rows.as_slice())?, "seed {seed}");
+        assert!(rt;
+            is_violated_as_defined(rt.alloc(), 4, rows.as_slice())?,
+            "seed {seed}"
+        );
     }
     Ok(())
 }

@@ -96,7 +96,13 @@ fn table_key(sets: &[ColSet], n: u8, s: ColSet) -> ColSet
 }
 
 // Adds the tables of s, for which so many steps are enough.
-fn push_tables(tables: &mut Vec<Table>, sets: &[ColSet], n: u8, s: ColSet, steps: u32) -> Result<(), AllocError>
+fn push_tables(
+    tables: &mut Vec<Table>,
+    sets: &[ColSet],
+    n: u8,
+    s: ColSet,
+    steps: u32,
+) -> Result<(), AllocError>
     requires { n ≤ 16 }
     ensures { OnOk result ((r : RowState) → agree_sets r ≡ sets.now → width r ≡ n → s < 2 ^ n → tables.new.items ≡ tables.old.items ++ map (λ t. record { columns = t; key = keys.table_key r t }) (splits_within steps r s)) }
 {

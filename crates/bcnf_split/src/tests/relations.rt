@@ -34,7 +34,12 @@ pub fn agree_sets_of(alloc: Global, n: u8, rows: &[u32]) -> Result<Vec<ColSet>, 
 }
 
 // The column sets that no agree set refutes for the target, and that have no smaller such set, in report order.
-fn least_sets(alloc: Global, n: u8, sets: &[ColSet], target: Target) -> Result<Vec<ColSet>, AllocError>
+fn least_sets(
+    alloc: Global,
+    n: u8,
+    sets: &[ColSet],
+    target: Target,
+) -> Result<Vec<ColSet>, AllocError>
     requires few { n ≤ 8 }
     requires target { IsColumnTarget 128 target }
 {
@@ -70,7 +75,13 @@ pub fn covers_of(alloc: Global, n: u8, sets: &[ColSet]) -> Result<Covers, AllocE
 }
 
 // So many rows of n cells below `values`, by a generator of small numbers.
-pub fn made_rows(alloc: Global, n: u8, count: u32, values: u32, seed: u32) -> Result<Vec<u32>, AllocError> {
+pub fn made_rows(
+    alloc: Global,
+    n: u8,
+    count: u32,
+    values: u32,
+    seed: u32,
+) -> Result<Vec<u32>, AllocError> {
     let mut rows = Vec::new(alloc);
     let mut state = seed % 65537;
     for _ in 0..count {

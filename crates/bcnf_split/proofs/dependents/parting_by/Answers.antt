@@ -1,4 +1,4 @@
-use Rattle.std.proofs.Common.{◌≡◌, ℕ, ◌∙◌, sym, true, false}
+use Rattle.std.proofs.Common.{◌∙◌, sym}
 use Rattle.std.proofs.lemmas.Bool.{eqb-true, eqb-false}
 use Rattle.bcnf_split.proofs.Testing.{IsParting-parted, lists-in_order, answered, all-not_violating, whole-not_violating, own-not_violating, IsViolation-found}
 use Rattle.bcnf_split.proofs.dependents.parting_by.Goals as goal

@@ -1,4 +1,4 @@
-use Rattle.std.proofs.Common.{◌≡◌, ◌∙◌, sym, true, false}
+use Rattle.std.proofs.Common.{◌∙◌, sym}
 use Rattle.std.proofs.lemmas.Bool.{true≢false, not-false}
 use Rattle.bcnf_split.proofs.Testing.{key-not_violating}
 use Rattle.bcnf_split.proofs.Searching.{inside-answer}

@@ -1,6 +1,4 @@
-use Rattle.std.proofs.Common.{◌≡◌, ◌∙◌, sym, ap, subst, Option, Some, true, false, Less, is_lt}
-use Rattle.col_set.specs.ColSet.{report_cmp}
-use Rattle.bcnf_split.specs.declared.parted.Parting.{Parting}
+use Rattle.std.proofs.Common.{◌∙◌, sym, subst}
 use Rattle.bcnf_split.specs.Search.{IsFoundBy}
 use Rattle.bcnf_split.proofs.Searching.{is_lt-true, is_lt-false, less_trans, not_before}
 use Rattle.bcnf_split.proofs.search.stands_before.Goals as goal

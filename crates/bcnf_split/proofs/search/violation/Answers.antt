@@ -1,4 +1,4 @@
-use Rattle.std.proofs.Common.{◌≡◌, ℕ, ◌∙◌, rules, Option}
+use Rattle.std.proofs.Common.{◌≡◌, ◌∙◌, rules}
 use Rattle.std.specs.Option.{option_map}
 use Rattle.bcnf_split.specs.declared.parted.Parting.{Parting}
 use Rattle.bcnf_split.proofs.Searching.{found_first}

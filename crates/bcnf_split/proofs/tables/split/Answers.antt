@@ -1,4 +1,4 @@
-use Rattle.std.proofs.Common.{◌≡◌, ℕ, ◌∙◌, ap, subst, sym, ◌++◌, List}
+use Rattle.std.proofs.Common.{ℕ, ◌∙◌, ap, ◌++◌, List}
 use Rattle.rel_base.specs.declared.dependency.Table.{Table}
 use Rattle.bcnf_split.specs.Split.{tables_of}
 use Rattle.bcnf_split.proofs.Tabling.{all_table}

@@ -1,8 +1,4 @@
-use Rattle.std.proofs.Common.{inl, inr, ◌≡◌, ◌⊎◌, ℕ, suc, ◌-◌, ◌≤◌, ◌∙◌, ap, sym, arith, List, ◌++◌, ◌∷◌, [], None}
-use Rattle.col_set.specs.ColSet.{minus, inter}
-use Rattle.rel_base.specs.declared.dependency.Table.{Table}
-use Rattle.fd_closure.specs.Keys.{table_key}
-use Rattle.bcnf_split.specs.Bcnf.{first_violation}
+use Rattle.std.proofs.Common.{inl, inr, ◌≡◌, ℕ, suc, ◌-◌, ◌∙◌, ap, sym, arith, List, ◌++◌, ◌∷◌, []}
 use Rattle.bcnf_split.proofs.PlainSplit.{moved_are, part_below, plain_joined, steps_whole, with_keys}
 use Rattle.bcnf_split.proofs.Tabling.{on_ok}
 use Rattle.bcnf_split.proofs.tests.plain.+push_tables.Goals as goal

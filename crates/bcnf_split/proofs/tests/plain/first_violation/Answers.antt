@@ -1,5 +1,4 @@
-use Rattle.std.proofs.Common.{◌≡◌, ℕ, ◌<◌, ◌≤◌, ◌^◌, ◌∙◌, sym, subst, arith}
-use Rattle.rel_base.specs.RowState.{width}
+use Rattle.std.proofs.Common.{ℕ, ◌<◌, ◌≤◌, ◌^◌, sym, subst, arith}
 use Rattle.bcnf_split.proofs.PlainSplit.{tried_all}
 use Rattle.bcnf_split.proofs.tests.plain.first_violation.Goals as goal
 

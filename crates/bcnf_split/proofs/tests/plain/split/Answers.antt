@@ -1,5 +1,4 @@
-use Rattle.std.proofs.Common.{◌≡◌, ℕ, ◌<◌, ◌^◌, ◌∙◌, ap, sym, subst, ◌++◌, List}
-use Rattle.col_set.specs.ColSet.{all}
+use Rattle.std.proofs.Common.{ℕ, ◌<◌, ◌^◌, ◌∙◌, ap, sym, subst, ◌++◌, List}
 use Rattle.rel_base.specs.declared.dependency.Table.{Table}
 use Rattle.bcnf_split.proofs.PlainSplit.{plain_tables, with_keys}
 use Rattle.bcnf_split.specs.Split.{splits_within}

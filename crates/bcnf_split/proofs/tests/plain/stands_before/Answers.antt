@@ -1,5 +1,4 @@
-use Rattle.std.proofs.Common.{◌≡◌, ◌∙◌, sym, ap, subst, Option, Some, true, false, Less, is_lt}
-use Rattle.col_set.specs.ColSet.{report_cmp}
+use Rattle.std.proofs.Common.{◌∙◌, sym, subst}
 use Rattle.bcnf_split.specs.Search.{IsFoundAs}
 use Rattle.bcnf_split.proofs.Searching.{is_lt-true, is_lt-false, less_trans, not_before}
 use Rattle.bcnf_split.proofs.tests.plain.stands_before.Goals as goal

@@ -1,4 +1,4 @@
-use Rattle.std.proofs.Common.{◌≡◌, ℕ, suc, ◌-◌, ◌∙◌, sym, arith, true, false}
+use Rattle.std.proofs.Common.{◌≡◌, suc, ◌-◌, ◌∙◌, sym, arith}
 use Rattle.std.proofs.lemmas.Bool.{and_left, and_right}
 use Rattle.col_set.specs.ColSet.{has}
 use Rattle.fd_closure.specs.Determined.{determines_all}

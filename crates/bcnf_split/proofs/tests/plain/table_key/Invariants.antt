@@ -1,5 +1,4 @@
 use Rattle.std.proofs.Common.{◌≡◌, ◌<◌, ◌^◌}
-use Rattle.col_set.specs.ColSet.{IsSubset}
 use Rattle.rel_base.specs.RowState.{RowState, width}
 use Rattle.rel_base.specs.Validity.{agree_sets}
 use Rattle.fd_closure.specs.Determined.{determines_all}
