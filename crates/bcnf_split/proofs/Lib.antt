@@ -6,3 +6,4 @@ pub mod Testing
 pub mod Searching
 pub mod Tabling
 pub mod PlainSplit
+pub mod Inside
