@@ -48,11 +48,11 @@ module _ (r : RowState) (s : Columns) (below : s < 2 ^ width r) (nulls : r.nulls
   unfolding has_target
   inside-projection h = record {
     each = λ p q f g same.
-    let v = (ProjectionMeans-projection r s).parts p in
-    let w = (ProjectionMeans-projection r s).parts q in
-    let i = v.0 f in
-    let j = w.0 g in
-    of_part i.0 a p i.2 own ∙ by i.0 j.0 i.1 j.1 (λ k e. sym (of_part i.0 k p i.2 (inside.each k e)) ∙ same k e ∙ of_part j.0 k q j.2 (inside.each k e)) (cases_eq i.0 j.0) ∙ sym (of_part j.0 a q j.2 own);
+        let v = (ProjectionMeans-projection r s).parts p in
+        let w = (ProjectionMeans-projection r s).parts q in
+        let i = v.0 f in
+        let j = w.0 g in
+        of_part i.0 a p i.2 own ∙ by i.0 j.0 i.1 j.1 (λ k e. sym (of_part i.0 k p i.2 (inside.each k e)) ∙ same k e ∙ of_part j.0 k q j.2 (inside.each k e)) (cases_eq i.0 j.0) ∙ sym (of_part j.0 a q j.2 own);
   }
     where
       by : (i j : ℕ) → Contains r.live i → Contains r.live j → ((k : ℕ) → has x k ≡ true → cell (row r i) k ≡ cell (row r j) k) → (i ≡ j) ⊎ (i ≢ j) → cell (row r i) a ≡ cell (row r j) a
@@ -63,11 +63,11 @@ module _ (r : RowState) (s : Columns) (below : s < 2 ^ width r) (nulls : r.nulls
   unfolding has_target
   projection-inside h = record {
     each = λ i j f g ne sub.
-    let p = ((ProjectionMeans-projection r s).parts (part s (row r i))).1 (i, f, refl) in
-    let q = ((ProjectionMeans-projection r s).parts (part s (row r j))).1 (j, g, refl) in
-    agreed i j a own (sym (cell_of-part s a (row r i) own)
-    ∙ h.each (part s (row r i)) (part s (row r j)) p q (λ k e. cell_of-part s k (row r i) (inside.each k e) ∙ equal_cells i j k (sub.each k e) ∙ sym (cell_of-part s k (row r j) (inside.each k e)))
-    ∙ cell_of-part s a (row r j) own);
+        let p = ((ProjectionMeans-projection r s).parts (part s (row r i))).1 (i, f, refl) in
+        let q = ((ProjectionMeans-projection r s).parts (part s (row r j))).1 (j, g, refl) in
+        agreed i j a own (sym (cell_of-part s a (row r i) own)
+        ∙ h.each (part s (row r i)) (part s (row r j)) p q (λ k e. cell_of-part s k (row r i) (inside.each k e) ∙ equal_cells i j k (sub.each k e) ∙ sym (cell_of-part s k (row r j) (inside.each k e)))
+        ∙ cell_of-part s a (row r j) own);
   }
 
 pub HoldsInsideTables-projection : (r : RowState) (s : Columns) → s < 2 ^ width r → HoldsInsideTables r s
