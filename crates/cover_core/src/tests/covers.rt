@@ -66,18 +66,33 @@ fn change(
     Ok(())
 }
 
-// Compares the covers of a relation, and after each of some batches.
-fn follow(rt: &impl Abort, alloc: Global, seed: u64, nulls: Nulls) -> Result<(), AllocError> {
+// Compares the covers of a book with those of the same rows, and again after each of some batches.
+fn follow(
+    rt: &impl Abort,
+    alloc: Global,
+    seed: u64,
+    book: &mut Book,
+    rows: &mut PlainRows,
+) -> Result<(), AllocError> {
+    let mut samples = Samples::from_seed(seed);
+    for _ in 0..6u32 {
+        compare(rt, alloc, book, rows)?;
+        let batch = samples.batch(alloc, 2, COLUMNS, 8)?;
+        change(rt, alloc, book, rows, &batch)?;
+    }
+    compare(rt, alloc, book, rows)
+}
+
+fn open_and_follow(
+    rt: &impl Abort,
+    alloc: Global,
+    seed: u64,
+    nulls: Nulls,
+) -> Result<(), AllocError> {
     let limits = Limits::standard();
     let mut book = Book::open_with(alloc, relation(rt, alloc, seed)?, limits, nulls)?;
     let mut rows = PlainRows::opened(alloc, nulls, limits, relation(rt, alloc, seed)?)?;
-    let mut samples = Samples::from_seed(seed);
-    for _ in 0..6u32 {
-        compare(rt, alloc, &mut book, &rows)?;
-        let batch = samples.batch(alloc, 2, COLUMNS, 8)?;
-        change(rt, alloc, &mut book, &mut rows, &batch)?;
-    }
-    compare(rt, alloc, &mut book, &rows)
+    follow(rt, alloc, seed, &mut book, &mut rows)
 }
 
 static CASES: [(u64, Nulls); 4] = [
@@ -90,7 +105,7 @@ static CASES: [(u64, Nulls); 4] = [
 #[test]
 fn covers_are_those_of_the_plain_programs(rt: HostRuntime) -> Result<(), Fail> {
     for case in &CASES {
-        follow(&rt, rt.alloc(), case.0, case.1)?;
+        open_and_follow(&rt, rt.alloc(), case.0, case.1)?;
     }
     Ok(())
 }

@@ -79,14 +79,18 @@ fn deliver_one(rt: &impl Abort, alloc: Global, book: &mut Book) -> Result<(), Al
     }
 }
 
+fn play_late(rt: &impl Abort, alloc: Global, book: &mut Book) -> Result<(), AllocError> {
+    play(rt, alloc, book, &BEGIN)?;
+    deliver_one(rt, alloc, book)?;
+    play(rt, alloc, book, &END)?;
+    assert!(rt; finds_letters(book)?);
+    Ok(())
+}
+
 #[test]
 fn late_jobs_are_dropped_or_marked(rt: HostRuntime) -> Result<(), Fail> {
-    let alloc = rt.alloc();
-    let mut book = letters(&rt, alloc)?;
-    play(&rt, alloc, &mut book, &BEGIN)?;
-    deliver_one(&rt, alloc, &mut book)?;
-    play(&rt, alloc, &mut book, &END)?;
-    assert!(rt; finds_letters(&mut book)?);
+    let mut book = letters(&rt, rt.alloc())?;
+    play_late(&rt, rt.alloc(), &mut book)?;
     Ok(())
 }
 
@@ -169,13 +173,17 @@ fn deliver_two(rt: &impl Abort, alloc: Global, book: &mut Book) -> Result<(), Al
     }
 }
 
+fn play_both(rt: &impl Abort, alloc: Global, book: &mut Book) -> Result<(), AllocError> {
+    play(rt, alloc, book, &DRAW)?;
+    deliver_two(rt, alloc, book)?;
+    play(rt, alloc, book, &GO_ON)?;
+    assert!(rt; finds_no_dependency(book)?);
+    Ok(())
+}
+
 #[test]
 fn a_job_is_marked_after_a_row_of_its_witness_went(rt: HostRuntime) -> Result<(), Fail> {
-    let alloc = rt.alloc();
-    let mut book = letters(&rt, alloc)?;
-    play(&rt, alloc, &mut book, &DRAW)?;
-    deliver_two(&rt, alloc, &mut book)?;
-    play(&rt, alloc, &mut book, &GO_ON)?;
-    assert!(rt; finds_no_dependency(&mut book)?);
+    let mut book = letters(&rt, rt.alloc())?;
+    play_both(&rt, rt.alloc(), &mut book)?;
     Ok(())
 }
