@@ -65,7 +65,7 @@ fn are_long(codes: &[Codes], count: usize) -> bool
     ensures { result ≡ true → All (λ list. length list + 1 ≡ count + 1) codes.now }
 {
     for list in codes {
-        if list.as_slice().len() != count {
+        if list.len() != count {
             return false;
         }
     }
