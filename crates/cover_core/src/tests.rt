@@ -10,7 +10,7 @@ mod late_jobs;
 mod new_rows;
 mod script;
 
-use crate::{Applying, Book, Draw, Marking, Refutation, Release};
+use crate::{Applying, Book, Draw, Marking, Refutation};
 use plain_base::{are_as_wide, relation_of};
 use rel_base::{Batch, ColSet, Covers, Job, Limits, MOST_COLUMNS, Op, Row, RowNo, Steps, Target};
 use std::alloc::{AllocError, Global};
@@ -134,14 +134,6 @@ fn mark(rt: &impl Abort, alloc: Global, book: &mut Book, job: &Job) -> Result<Ma
     let valid = is_valid::<Brand>(alloc, job, Blank::new(1))?;
     assert!(rt; valid);
     Ok(book.mark(job))
-}
-
-// Gives a job back.
-fn release(book: &mut Book, job: &Job) -> Release
-    requires { Fits book.old.rows job.now }
-    ensures { (other : JobParts) → Fits book.old.rows other → Fits book.new.rows other }
-{
-    book.release(job)
 }
 
 // Finishes, once more where memory is wanting.
