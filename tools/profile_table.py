@@ -26,7 +26,7 @@ import tempfile
 import time
 from collections import Counter
 
-from table_engine import IDENTITY, Engine, Refused, Table, encoded, header, inclusions, note, one_line, parts_by, record, seconds, unlike
+from table_engine import IDENTITY, Engine, Refused, Table, alike, encoded, header, inclusions, note, one_line, parts_by, record, seconds, text_of, unlike
 
 MOST_SAMPLED = 900_000  # a session takes 1,000,000 rows
 KEPT_ROWS = 1_000_000  # rows that break a left side and are kept for larger ones
@@ -120,8 +120,10 @@ class Sample:
         part = part_of(left)
         firsts, out = {}, set()
         for row in self.fresh:
-            first = firsts.setdefault(part(row), row)
-            if first is not row:
+            first = firsts.get(part(row))
+            if first is None:
+                firsts[part(row)] = row
+            else:
                 out.update(a for a in targets if a == IDENTITY or first[a] != row[a])
         for row in self.rows:
             first = firsts.get(part(row))
@@ -268,7 +270,9 @@ class Trial:
             open_ = self.open_targets(left, open_)
         while open_:
             self.try_groups(left, open_)
-            open_ = self.open_targets(left, open_)
+            still, open_ = open_, self.open_targets(left, open_)
+            if open_ == still:
+                raise alike("of rows that break a dependency")
         return len(self.sample.refutes(left, before))
 
     def by_known_rows(self, left, targets):
@@ -305,17 +309,16 @@ class Trial:
         groups = table.broken_keys(left) if targets == [IDENTITY] else table.broken_dependencies(left, targets)
         complete = len(groups) < table.groups
         few = sum(group.size for group in groups) <= table.few_rows / 4
-        found = rows_of_groups(table, left, groups) if groups and few else [None] * len(groups)
+        found = table.rows_of_groups(left, groups) if groups and few else [None] * len(groups)
         for a in targets:
             mine = [(group, rows) for group, rows in zip(groups, found) if a in group.breaks]
             if not mine:
                 if complete:
                     self.held.add(left, a)
                 continue
-            rows = [rows for _, rows in mine] if few else [two_rows(table, left, group, a) for group, _ in mine[:2]]
+            rows = [rows for _, rows in mine] if few else [table.two_rows(left, group, a) for group, _ in mine[:2]]
             if len(broken(rows, a)) < len(rows):
-                name = "of rows" if a == IDENTITY else f"of column {table.names[a]}"
-                raise Refused(f"the engine tells apart values {name} whose texts are equal: compare texts (--text)")
+                raise alike("of rows" if a == IDENTITY else f"of column {table.names[a]}")
             self.take_in(rows, a)
             if complete and few:
                 self.breaking.keep(left, a, [row for group in rows for row in group])

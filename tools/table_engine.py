@@ -209,6 +209,10 @@ class Engine:
 # ---------------------------------------------------------------- the table
 
 
+# Rows that agree on a left side: their values there, how many rows, and which targets they break, with two values of each.
+Group = namedtuple("Group", "values size breaks")
+
+
 class Table:
     """The rows that a table or a query gives, as the engine sees them."""
 
@@ -350,73 +354,64 @@ class Table:
         groups = f" GROUP BY {', '.join(self.values[c] for c in order)}" if left else ""
         return f"SELECT {', '.join(wanted)} FROM {self.source}{groups}"
 
+    def parts_of(self, columns, values):
+        """The cells of some values."""
+        return tuple(text_of(value, self.names[c]) for c, value in zip(columns, values))
 
-# Rows that agree on a left side: their values there, how many rows, and which targets they break, with two values of each.
-Group = namedtuple("Group", "values size breaks")
+    def rows_of_groups(self, left, groups):
+        """All rows of each of these groups. They come from one statement, so they are different rows even where their cells are
+        equal."""
+        found, part = {self.parts_of(left, group.values): [] for group in groups}, parts_by(left)
+        if len(found) < len(groups):
+            raise alike("of the columns " + ", ".join(self.names[c] for c in left))
+        for row in self.fetched(left, [group.values for group in groups], 1 + sum(group.size for group in groups)):
+            if part(row) not in found:
+                raise differing(self, left, part(row), found)
+            found[part(row)].append(row)
+        out = [found[self.parts_of(left, group.values)] for group in groups]
+        if any(len(rows) != group.size for rows, group in zip(out, groups)):
+            raise changing()
+        return out
 
-# ---------------------------------------------------------------- rows that are evidence
+    def two_rows(self, left, group, target):
+        """Two rows of a group that break the target."""
+        if target == IDENTITY:
+            rows = list(self.fetched(left, [group.values], 2))
+        else:
+            rows = [row for end in group.breaks[target] for row in self.fetched(left + (target,), [tuple(group.values) + (end,)], 1)]
+        if len(rows) != 2:
+            raise changing()
+        return rows
 
+    def fetched(self, columns, searched, limit):
+        """Rows that have in these columns one of these lists of values, as cells."""
+        parts, values = [self.parts_of(columns, each) for each in searched], []
+
+        def mark_of(value):
+            mark, value = self.engine.parameter(value)
+            values.append(value)
+            return mark
+
+        def is_equal(column, part, value):
+            return f"{self.values[column]} IS NULL" if part == "" else f"{self.values[column]} = {mark_of(value)}"
+
+        tests = []
+        if len(searched) > 2:
+            # First a list of the values of the column that tells most: it spares most rows the other tests.
+            at = max(range(len(columns)), key=lambda k: self.telling[columns[k]])
+            own = {cells[at]: each[at] for cells, each in zip(parts, searched)}
+            either = [f"{self.values[columns[at]]} IS NULL"] if "" in own else []
+            marks = [mark_of(value) for cell, value in own.items() if cell != ""]
+            either += [f"{self.values[columns[at]]} IN ({', '.join(marks)})"] if marks else []
+            tests.append(f"({' OR '.join(either)})")
+        either = [" AND ".join(map(is_equal, columns, cells, each)) or "1 = 1" for cells, each in zip(parts, searched)]
+        tests.append(f"({' OR '.join(f'({test})' for test in either)})")
+        return map(self.cells_of, self.all_rows(f" WHERE {' AND '.join(tests)} LIMIT {limit}", values))
 
 
 def parts_by(left):
     """The cells of a row in some columns."""
     return lambda row: tuple(row[c] for c in left)
-
-
-def parts_of(table, columns, values):
-    """The cells of some values."""
-    return tuple(text_of(value, table.names[c]) for c, value in zip(columns, values))
-
-
-def rows_of_groups(table, left, groups):
-    """All rows of each of these groups. They come from one statement, so they are different rows even where their cells are
-    equal."""
-    found, part = {parts_of(table, left, group.values): [] for group in groups}, parts_by(left)
-    for row in fetched(table, left, [group.values for group in groups], 1 + sum(group.size for group in groups)):
-        if part(row) not in found:
-            raise differing(table, left, part(row), found)
-        found[part(row)].append(row)
-    out = [found[parts_of(table, left, group.values)] for group in groups]
-    if any(len(rows) != group.size for rows, group in zip(out, groups)):
-        raise changing()
-    return out
-
-
-def two_rows(table, left, group, target):
-    """Two rows of a group that break the target."""
-    if target == IDENTITY:
-        rows = list(fetched(table, left, [group.values], 2))
-    else:
-        rows = [row for end in group.breaks[target] for row in fetched(table, left + (target,), [tuple(group.values) + (end,)], 1)]
-    if len(rows) != 2:
-        raise changing()
-    return rows
-
-
-def fetched(table, columns, searched, limit):
-    """Rows that have in these columns one of these lists of values, as cells."""
-    parts, values = [parts_of(table, columns, each) for each in searched], []
-
-    def mark_of(value):
-        mark, value = table.engine.parameter(value)
-        values.append(value)
-        return mark
-
-    def is_equal(column, part, value):
-        return f"{table.values[column]} IS NULL" if part == "" else f"{table.values[column]} = {mark_of(value)}"
-
-    tests = []
-    if len(searched) > 2:
-        # First a list of the values of the column that tells most: it spares most rows the other tests.
-        at = max(range(len(columns)), key=lambda k: table.telling[columns[k]])
-        own = {cells[at]: each[at] for cells, each in zip(parts, searched)}
-        either = [f"{table.values[columns[at]]} IS NULL"] if "" in own else []
-        marks = [mark_of(value) for cell, value in own.items() if cell != ""]
-        either += [f"{table.values[columns[at]]} IN ({', '.join(marks)})"] if marks else []
-        tests.append(f"({' OR '.join(either)})")
-    either = [" AND ".join(map(is_equal, columns, cells, each)) or "1 = 1" for cells, each in zip(parts, searched)]
-    tests.append(f"({' OR '.join(f'({test})' for test in either)})")
-    return map(table.cells_of, table.all_rows(f" WHERE {' AND '.join(tests)} LIMIT {limit}", values))
 
 
 def changing():
@@ -428,6 +423,10 @@ def differing(table, left, parts, others):
     near = max(others, key=lambda other: sum(x == y for x, y in zip(parts, other)))
     c, x, y = next((c, x, y) for c, x, y in zip(left, parts, near) if x != y)
     return unlike(table.names[c], x, y)
+
+
+def alike(what):
+    return Refused(f"the engine tells apart values {what} whose texts are equal: compare texts (--text)")
 
 
 def unlike(name, first, second):
