@@ -3,6 +3,7 @@
 Statements are plain SQL but for what `Dialect` tells. Values are compared as the engine compares them, the empty text as NULL;
 cells are the texts that the driver gives.
 """
+import contextlib
 import csv
 import datetime
 import decimal
@@ -195,9 +196,14 @@ class Engine:
             self.run(statement)
             return True
         except Refused:
-            if not self.is_sqlite:
-                self.connection.rollback()
+            self.end_transaction()
             return False
+
+    def end_transaction(self):
+        """After an error some engines take no statement before this; others know no transaction."""
+        if not self.is_sqlite:
+            with contextlib.suppress(Exception):
+                self.connection.rollback()
 
     def parameter(self, value):
         """How a statement names a parameter, and its value."""
@@ -242,6 +248,7 @@ class Table:
         engine, wanted = self.engine, ["COUNT(*)"]
         may_be_empty = [engine.takes(f"SELECT 1 FROM {self.source} WHERE {c} = '' AND 1 = 0") for c in self.cells]
         self.has_random = engine.takes(f"SELECT 1 FROM {self.source} WHERE {engine.dialect.random} < 0.5 AND 1 = 0")
+        engine.end_transaction()
         for statement in args.before:
             engine.do(statement)
         for cell, empty in zip(self.cells, may_be_empty):
