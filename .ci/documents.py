@@ -53,6 +53,8 @@ def commands_of(text):
             else:
                 commands[-1][2].append(line)
         for number, command, lines in commands:
+            while lines and lines[-1] == "":
+                lines.pop()  # the blank line before the next command
             yield number, "\n".join(command), lines
 
 
