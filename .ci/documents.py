@@ -6,15 +6,18 @@
 An example is an indented or fenced block whose first line begins with `$ `. Each line that begins so is a command, `> ` goes on with
 it, and the lines behind it are what it writes, to the standard output or the standard error; a line `...` stands for any lines. A
 command must end with status 0, so one that fails shows its status by `echo $?`. The commands of a document run one after another in
-one folder that has the repository's examples/, tools/ and bench/, and find `depprof` by its name.
+one folder that has the repository's examples/, tools/ and bench/, and find `depprof` by its name. What stands in a comment of the
+document (`<!--`) is left out, and so is a command that needs a program which is not there.
 """
 import difflib
 import os
 import re
+import shutil
 import subprocess
 import sys
 import tempfile
 
+MAYBE = ["sqlite3", "dot"]  # programs that may be missing
 TOP = os.path.dirname(os.path.dirname(os.path.abspath(__file__)))
 
 
@@ -37,9 +40,14 @@ def blocks_of(text):
             block = []
 
 
+def without_comments(text):
+    """The text with its comments made empty lines."""
+    return re.sub("<!--.*?-->", lambda found: "\n" * found.group().count("\n"), text, flags=re.DOTALL)
+
+
 def commands_of(text):
     """Each command: the number of its line, the command, and the lines that it is to write."""
-    for begins, block in blocks_of(text):
+    for begins, block in blocks_of(without_comments(text)):
         while block and block[-1] == "":
             block.pop()
         if not block or not block[0].startswith("$ "):
@@ -79,6 +87,10 @@ def check(document, program):
                 os.symlink(os.path.join(TOP, name), os.path.join(room, name))
         surroundings = {**os.environ, "PATH": path + os.pathsep + os.environ.get("PATH", ""), "LC_ALL": "C.UTF-8"}
         for number, command, lines in commands:
+            missing = [need for need in MAYBE if re.search(rf"\b{need}\b", command) and not shutil.which(need)]
+            if missing:
+                print(f"documents: {document}:{number}: no {missing[0]}, skipped")
+                continue
             done = subprocess.run(["bash", "-c", command], cwd=room, env=surroundings, stdin=subprocess.DEVNULL, stdout=subprocess.PIPE,
                                   stderr=subprocess.STDOUT, timeout=600)
             told = done.stdout.decode("utf-8", "replace")

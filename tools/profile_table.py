@@ -207,10 +207,13 @@ class Breaking:
 
 def groups_by(left, rows):
     """The groups of two rows or more that agree on `left`."""
-    part, groups = part_of(left), {}
-    for row in rows:
-        groups.setdefault(part(row), []).append(row)
-    return [group for group in groups.values() if len(group) > 1]
+    parts = list(map(part_of(left), rows))
+    counts, groups = Counter(parts), {}
+    if len(counts) < len(parts):
+        for row, part in zip(rows, parts):
+            if counts[part] > 1:
+                groups.setdefault(part, []).append(row)
+    return list(groups.values())
 
 
 def broken(groups, target):

@@ -63,7 +63,9 @@ def text_of(value, name):
     """The cell of a value. NULL and the empty text are the same cell."""
     if value is None:
         return ""
-    if isinstance(value, (str, int, float, decimal.Decimal, uuid.UUID)):
+    if isinstance(value, str):
+        return value
+    if isinstance(value, (int, float, decimal.Decimal, uuid.UUID)):
         return str(value)
     if isinstance(value, (datetime.date, datetime.time)):
         return value.isoformat()
