@@ -141,6 +141,14 @@ def mask_of(columns):
     return sum(1 << c for c in columns)
 
 
+def by_left(covers):
+    """The targets of each left side."""
+    out = {}
+    for left, target in covers:
+        out.setdefault(left, []).append(target)
+    return out
+
+
 def columns_of(text):
     return tuple(int(word) - 1 for word in text.split())
 
@@ -157,13 +165,13 @@ class Held:
 
     def add(self, left, target):
         right = 1 << self.bit(target) if target != IDENTITY else (1 << self.width + 1) - 1
-        self.rules.append((sum(1 << c for c in left), right))
+        self.rules.append((mask_of(left), right))
 
     def bit(self, target):
         return self.width if target == IDENTITY else target
 
     def closure(self, left):
-        out, rules = sum(1 << c for c in left), self.rules
+        out, rules = mask_of(left), self.rules
         while True:
             rest = []
             for x, right in rules:
@@ -230,11 +238,14 @@ def profile(table, sample):
         if len(sample.rows) == table.rows:
             note(f"round {number}: the sample is the table, {len(covers)} candidates hold, {seconds(began)}")
             return covers
-        failed = trial.round(covers)
+        trial.round(covers)
+        failed = sum(len(trial.not_held(left, targets)) for left, targets in by_left(covers).items())
         note(f"round {number}: {len(sample.rows)} rows sampled, {len(covers)} candidates, {trial.asked - asked} passes over the table, "
              f"{failed} candidates failed, {len(sample.fresh)} rows more, {seconds(began)}")
         if not failed:
             return covers
+        if not sample.fresh:
+            raise alike("of rows that break a dependency")
         sample.keep_fresh()
 
 
@@ -248,21 +259,23 @@ class Trial:
         self.too_many = []  # parts of left sides that too many rows repeat
 
     def round(self, covers):
-        """How many of these candidates fail."""
-        lefts = {}
-        for left, target in covers:
-            lefts.setdefault(left, []).append(target)
-        return sum(self.try_left(left, lefts) for left in sorted(lefts, key=lambda left: (len(left), left)))
+        """Tries these candidates, those with fewer columns first. Afterwards each holds in the table, or rows break it that are to join
+        the sample."""
+        lefts = by_left(covers)
+        for left in sorted(lefts, key=lambda left: (len(left), left)):
+            self.try_left(left, lefts)
+
+    def not_held(self, left, targets):
+        return set(targets) - self.held.follows(left, targets)
 
     def open_targets(self, left, targets):
         """Those of which it is not known whether they hold."""
-        open_ = set(targets) - self.held.follows(left, targets)
+        open_ = self.not_held(left, targets)
         return sorted(open_ - self.sample.refutes(left, open_)) if open_ else []
 
     def try_left(self, left, lefts):
-        """How many targets of a left side fail."""
-        before = self.open_targets(left, lefts[left])
-        open_ = self.by_known_rows(left, before)
+        """Decides all targets of a left side."""
+        open_ = self.by_known_rows(left, self.open_targets(left, lefts[left]))
         if open_ and left and self.sample.repeats(left) <= self.table.few_rows / 4:
             for part in dict.fromkeys([self.sample.shared_part(left, lefts), left]):
                 if open_ and not any(set(part) <= set(other) for other in self.too_many):
@@ -276,7 +289,6 @@ class Trial:
             still, open_ = open_, self.open_targets(left, open_)
             if open_ == still:
                 raise alike("of rows that break a dependency")
-        return len(self.sample.refutes(left, before))
 
     def by_known_rows(self, left, targets):
         """Decides what the rows decide that are known, and answers the targets that are left."""
@@ -410,7 +422,7 @@ def run(args):
         sample = Sample(table, program, folder)
         # A table little larger than the sample is taken whole.
         number = args.sample or max(20_000, min(200_000, table.rows // 50))
-        sample.open(list(table.all_rows()) if table.rows <= 2 * number else table.some_rows(number))
+        sample.open(list(table.all_rows()) if table.rows <= min(2 * number, MOST_SAMPLED) else table.some_rows(number))
         covers = profile(table, sample)
         pairs = inclusions(table) if args.inclusions else []
     sys.stdout.buffer.write(report(args.name or args.table or "query", table, covers, pairs))

@@ -250,6 +250,8 @@ class Table:
         engine, wanted = self.engine, ["COUNT(*)"]
         may_be_empty = [engine.takes(f"SELECT 1 FROM {self.source} WHERE {c} = '' AND 1 = 0") for c in self.cells]
         self.has_random = engine.takes(f"SELECT 1 FROM {self.source} WHERE {engine.dialect.random} < 0.5 AND 1 = 0")
+        two = f"SELECT {self.cells[0]}, COUNT(*) FROM {self.source} WHERE 1 = 0 GROUP BY {self.cells[0]}"
+        self.has_row_in = engine.takes(f"SELECT 1 FROM {self.source} WHERE ({self.cells[0]}, 1) IN ({two}) AND 1 = 0")
         engine.end_transaction()
         for statement in args.before:
             engine.do(statement)
@@ -291,7 +293,7 @@ class Table:
         """About so many rows: random ones where the engine can draw them, else the first."""
         if self.has_random:
             share = f"{min(1.0, 1.05 * number / self.rows):.9f}"
-            rows = list(self.all_rows(f" WHERE {self.engine.dialect.random} < {share} LIMIT {2 * number}"))
+            rows = list(self.all_rows(f" WHERE {self.engine.dialect.random} < {share} LIMIT {min(2 * number, 1_000_000)}"))
             if rows:
                 return rows
         note("the sample begins with the first rows, since random ones were not drawn")
@@ -321,10 +323,16 @@ class Table:
                 values.append(filler)
             if not self.has_null[c]:
                 mine.append(value)
-        inner = f"{self.grouped(left, mine)} HAVING COUNT(*) > 1 LIMIT {self.few_rows}"
-        place = f"({', '.join(mine)})" if len(mine) > 1 else mine[0]
-        where = f" WHERE {place} IN (SELECT * FROM ({inner}) AS repeated) LIMIT {self.few_rows}"
-        return list(map(self.cells_of, self.all_rows(where, values + values)))
+        names = [f"repeated_{k}" for k in range(len(mine))]
+        inner = self.grouped(left, [f"{value} AS {name}" for value, name in zip(mine, names)])
+        inner = f"({inner} HAVING COUNT(*) > 1 LIMIT {self.few_rows}) AS repeated"
+        if self.has_row_in:
+            place = f"({', '.join(mine)})" if len(mine) > 1 else mine[0]
+            rest = f" WHERE {place} IN (SELECT * FROM {inner})"
+        else:
+            tests = " AND ".join(f"{value} = {name}" for value, name in zip(mine, names))
+            rest = f" JOIN {inner} ON {tests}"
+        return list(map(self.cells_of, self.all_rows(f"{rest} LIMIT {self.few_rows}", values + values)))
 
     def broken_keys(self, left):
         """Some groups of two rows or more that agree on these columns: their values, and how many rows."""

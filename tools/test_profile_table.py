@@ -12,6 +12,7 @@ import subprocess
 import sys
 import tempfile
 import unittest
+from unittest import mock
 
 TOOLS = os.path.dirname(os.path.abspath(__file__))
 sys.path.insert(0, TOOLS)
@@ -92,7 +93,7 @@ class Reports(Case):
         few, groups = table_engine.Table.few_rows, table_engine.Table.groups
         evidence, small, kept = profile_table.EVIDENCE, profile_table.SMALL_GROUP, profile_table.KEPT_ROWS
         try:
-            for seed in range(40):
+            for seed in range(25):
                 rng = random.Random(seed)
                 table_engine.Table.few_rows = rng.choice([1, 8, 40, 200_000])
                 table_engine.Table.groups = rng.choice([1, 2, 64])
@@ -102,10 +103,12 @@ class Reports(Case):
                 values = [rng.choice([[1, 2, 3], ["a", "b", "", None], ["x,y", 'q"q', "l\nf", "c\rr", " "], list(range(40)), [None, 5]])
                           for _ in range(width)]
                 rows = [tuple(rng.choice(v) for v in values) for _ in range(height)]
+                has_row_in = rng.choice([True, False])
                 with self.subTest(seed=seed):
                     with contextlib.suppress(FileNotFoundError):
                         os.remove(self.database)
-                    self.check([f"c{k}" for k in range(width)], rows, "--sample", str(rng.choice([1, 2, 5, 10])))
+                    with mock.patch.object(table_engine.Table, "has_row_in", property(lambda _: has_row_in, lambda _, __: None), create=True):
+                        self.check([f"c{k}" for k in range(width)], rows, "--sample", str(rng.choice([1, 2, 5, 10])))
         finally:
             table_engine.Table.few_rows, table_engine.Table.groups = few, groups
             profile_table.EVIDENCE, profile_table.SMALL_GROUP, profile_table.KEPT_ROWS = evidence, small, kept
