@@ -26,7 +26,8 @@ import tempfile
 import time
 from collections import Counter
 
-from table_engine import IDENTITY, Engine, Refused, Table, alike, encoded, header, inclusions, note, one_line, parts_by, record, seconds, text_of, unlike
+from table_engine import (IDENTITY, Engine, Refused, Table, alike, encoded, header, inclusions, note, one_line, parts_by, record, seconds,
+                          text_of, unlike)
 
 MOST_SAMPLED = 900_000  # a session takes 1,000,000 rows
 KEPT_ROWS = 1_000_000  # rows that break a left side and are kept for larger ones
@@ -193,18 +194,19 @@ class Breaking:
     breaks a larger left side is among them, so this is decided without the engine."""
 
     def __init__(self):
-        self.lists, self.room = {}, KEPT_ROWS
+        self.lists = []  # (left side, target, rows), the oldest first
 
     def keep(self, left, target, rows):
-        if len(rows) <= self.room:
-            self.room -= len(rows)
-            self.lists.setdefault(target, []).append((mask_of(left), rows))
+        """Keeps a list of rows; the oldest are let go of where there are too many rows."""
+        self.lists.append((mask_of(left), target, rows))
+        while sum(len(rows) for _, _, rows in self.lists) > KEPT_ROWS:
+            self.lists.pop(0)
 
     def groups(self, left, target, grouped):
         """None where this is not known, else the groups of rows that agree on `left` and not on the target. `grouped` keeps what
         this left side has made of a list already."""
         mask = mask_of(left)
-        lists = [rows for x, rows in self.lists.get(target, []) + self.lists.get(IDENTITY, []) if x & ~mask == 0]
+        lists = [rows for x, a, rows in self.lists if a in (target, IDENTITY) and x & ~mask == 0]
         if not lists:
             return None
         rows = min(lists, key=len)
@@ -314,8 +316,9 @@ class Trial:
             self.breaking.keep(part, IDENTITY, rows)
             return
         self.too_many.append(part)
+        groups = groups_by(left, rows)
         for a in range(IDENTITY, len(self.table.names)):
-            self.take_in(broken(groups_by(left, rows), a), a)
+            self.take_in(broken(groups, a), a)
 
     def try_groups(self, left, targets):
         """Has the engine look for groups of rows that break these targets. Where it gives all there are, the others hold."""
