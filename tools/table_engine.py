@@ -192,10 +192,10 @@ class Engine:
             raise Refused(f"{self.name}: {one_line(error)}")
         return cursor
 
-    def takes(self, statement):
+    def takes(self, statement, values=()):
         """Whether the engine takes a statement."""
         try:
-            self.run(statement)
+            self.run(statement, values)
             return True
         except Refused:
             self.end_transaction()
@@ -248,10 +248,16 @@ class Table:
     def look(self, args):
         """One pass over the table: its rows, and what each column holds."""
         engine, wanted = self.engine, ["COUNT(*)"]
+        for c, name in enumerate(self.names):
+            if not engine.takes(f"SELECT MIN({self.cells[c]}) FROM {self.source} WHERE 1 = 0"):
+                note(f"column {name} holds values without an order: they are compared by their texts")
+                self.cells[c] = engine.as_text(self.cells[c])
         may_be_empty = [engine.takes(f"SELECT 1 FROM {self.source} WHERE {c} = '' AND 1 = 0") for c in self.cells]
         self.has_random = engine.takes(f"SELECT 1 FROM {self.source} WHERE {engine.dialect.random} < 0.5 AND 1 = 0")
         two = f"SELECT {self.cells[0]}, COUNT(*) FROM {self.source} WHERE 1 = 0 GROUP BY {self.cells[0]}"
         self.has_row_in = engine.takes(f"SELECT 1 FROM {self.source} WHERE ({self.cells[0]}, 1) IN ({two}) AND 1 = 0")
+        if not engine.is_sqlite:
+            self.look_for_folding(list(self.all_rows(" LIMIT 200")))
         engine.end_transaction()
         for statement in args.before:
             engine.do(statement)
@@ -308,6 +314,22 @@ class Table:
             if own is None and self.has_null[c]:
                 own = self.engine.run(f"SELECT MIN({value}) FROM {self.source}")[0][0]
             self.filler.append(own)
+
+    def look_for_folding(self, rows):
+        """One pass that tells whether the engine takes texts for equal that differ in upper and lower case, or in spaces at the end."""
+        tests, values, asked = [], [], []
+        for c, cell in enumerate(self.cells):
+            texts = {row[c] for row in rows if isinstance(row[c], str)}
+            for other in (str.swapcase, lambda text: text if text.endswith(" ") else text + " "):
+                text = min((text for text in texts if text and other(text) != text), default=None)
+                if text is not None and self.engine.takes(f"SELECT 1 FROM {self.source} WHERE {cell} = {MARK} AND 1 = 0", (other(text),)):
+                    tests.append(f"SUM(CASE WHEN {cell} = {MARK} AND {cell} = {MARK} THEN 1 ELSE 0 END)")
+                    values += [text, other(text)]
+                    asked.append((self.names[c], text, other(text)))
+        found = self.engine.run(f"SELECT {', '.join(tests)} FROM {self.source}", values)[0] if tests else ()
+        for number, differ in zip(found, asked):
+            if number:
+                raise unlike(*differ, "compare texts (--text), or give the column another collation in a query (--query)")
 
     def repeated(self, left):
         """The rows that agree on these columns with another row, as cells, at most `few_rows` of them."""
@@ -446,8 +468,8 @@ def alike(what):
     return Refused(f"the engine tells apart values {what} whose texts are equal: compare texts (--text)")
 
 
-def unlike(name, first, second):
-    return Refused(f"column {name}: the engine takes {first!r} and {second!r} for equal, their texts differ: compare texts (--text)")
+def unlike(name, first, second, help="compare texts (--text)"):
+    return Refused(f"column {name}: the engine takes {first!r} and {second!r} for equal, their texts differ: {help}")
 
 
 # ---------------------------------------------------------------- inclusions

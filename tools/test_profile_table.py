@@ -212,15 +212,18 @@ class Refusals(Case):
         self.assertIn("column b holds bytes", self.refused("--sqlite", self.database, "t"))
 
     def test_values_that_are_equal_with_other_texts(self):
-        self.make(["a", "b"], [(k // 2, k % 2) for k in range(50)])
+        self.make(["a", "b", "c", "d"], [(k // 2, k % 2, f"x{k % 5}", f"y{k}") for k in range(50)], ["", "", "TEXT COLLATE NOCASE", "TEXT COLLATE RTRIM"])
         query = "SELECT a, CASE WHEN b THEN 1.0 ELSE 1 END AS b FROM t"
         sys.path.insert(0, self.folder)
         try:
             with open(os.path.join(self.folder, "another.py"), "w") as file:
                 file.write(OTHER.replace("{style}", "qmark"))
-            words = ["--module", "another", "--connect", self.database, "--query", query]
-            self.assertIn("for equal, their texts differ", self.refused(*words))
-            self.assertEqual(self.run_tool(*words, "--text", "b")[0], 0)
+            words = ["--module", "another", "--connect", self.database]
+            self.assertIn("for equal, their texts differ", self.refused(*words, "--query", query))
+            self.assertEqual(self.run_tool(*words, "--query", query, "--text", "b")[0], 0)
+            self.assertIn("column c: the engine takes 'x0' and 'X0' for equal", self.refused(*words, "--columns", "a,c", "t"))
+            self.assertIn("column d: the engine takes 'y0' and 'y0 ' for equal", self.refused(*words, "--columns", "a,d", "t"))
+            self.assertEqual(self.run_tool(*words, "--query", "SELECT a, c COLLATE BINARY AS c FROM t")[0], 0)
         finally:
             sys.path.remove(self.folder)
 
