@@ -111,7 +111,7 @@ def main():
             continue
         commands, bad = check(document, program)
         print(f"documents: {document}: {commands} commands, {bad} differ")
-        wrong += bad
+        wrong += bad + (commands == 0)
     return 1 if wrong else 0
 
 
