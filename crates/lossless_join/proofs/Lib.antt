@@ -1,0 +1,3 @@
+pub mod PartCells
+pub mod Projected
+pub mod Heath

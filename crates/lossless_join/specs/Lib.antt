@@ -1,0 +1,3 @@
+pub mod NaturalJoin
+pub mod Parts
+pub mod Lossless
