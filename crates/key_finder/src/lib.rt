@@ -1,13 +1,8 @@
-// A library with one function.
+//! The minimal keys of a table: of the distinct parts of rows on some columns.
 #![tactic(auto)]
 
-ghost use Rattle.std.specs.Prelude.{◌≡◌};
-ghost use Rattle.key_finder.specs.Echo.{echo_of};
+mod hitting;
+pub mod laws;
+mod witnessed;
 
-// The `ensures` clause is the contract: what `echo` returns is `echo_of` of its argument, a definition
-// in `specs/Echo.antt`, which a caller's clause can cite too.
-pub fn echo(x: usize) -> usize
-    ensures { result ≡ echo_of x }
-{
-    x
-}
+pub use witnessed::table_keys_of;

@@ -1,0 +1,5 @@
+pub mod Sorting
+pub mod Divide
+pub mod Loops
+pub mod Cuts
+pub mod Tells
