@@ -1,0 +1,4 @@
+pub mod Found
+pub mod Violating
+pub mod Parting
+pub mod Splitting

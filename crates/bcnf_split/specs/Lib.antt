@@ -1,0 +1,3 @@
+pub mod Bcnf
+pub mod Split
+pub mod Laws

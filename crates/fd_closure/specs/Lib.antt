@@ -1,0 +1,4 @@
+pub mod Determined
+pub mod Closure
+pub mod Keys
+pub mod Laws

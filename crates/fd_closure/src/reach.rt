@@ -1,0 +1,63 @@
+// Closures of column sets.
+ghost use Rattle.std.specs.Prelude.{◌≡◌, ℕ, IsTrue};
+ghost use Rattle.col_set.specs.ColSet.{IsSubset, subset};
+ghost use Rattle.fd_closure.specs.Closure.{closure_of, has_left_inside, IsInOrder};
+ghost use Rattle.fd_closure.specs.Keys.{shrunk};
+
+use crate::group::has_left_inside;
+use rel_base::{ColSet, Covers};
+
+/// The columns that x determines, by the minimal dependencies of a relation: x, and each column that has a left side inside x.
+///
+/// This is one pass, since every dependency that holds has a minimal left side inside its own (the closure of Normalize,
+/// Papenbrock and Naumann, 2017). It takes no memory, and finds the dependencies of a column by halves: for each column outside x
+/// it looks at left sides of at most as many columns as x has, up to the first that lies inside x. Dependencies that don't stand in
+/// order, as those of a relation do, may be overlooked.
+pub fn closure(covers: &Covers, x: ColSet) -> ColSet
+    ensures own { IsSubset x result }
+    ensures only { IsSubset result (closure_of covers.now.fds x) }
+    ensures every { IsInOrder covers.now.fds → result ≡ closure_of covers.now.fds x }
+{
+    let mut reached = x;
+    let mut rest = ColSet::all(128).minus(x);
+    while let Some(column) = rest.first() {
+        if has_left_inside(covers.fds(), x, column) {
+            reached = reached.with(column);
+        }
+        rest = rest.without(column);
+    }
+    reached
+}
+
+/// Whether x determines every column of s, by the minimal dependencies of a relation.
+///
+/// It stops at the first column that x does not determine, and else looks at what `closure` looks at for the columns of s.
+pub fn determines(covers: &Covers, x: ColSet, s: ColSet) -> bool
+    ensures only { IsTrue result → IsSubset s (closure_of covers.now.fds x) }
+    ensures every { IsInOrder covers.now.fds → result ≡ subset s (closure_of covers.now.fds x) }
+{
+    let mut rest = s.minus(x);
+    while let Some(column) = rest.first() {
+        if !has_left_inside(covers.fds(), x, column) {
+            return false;
+        }
+        rest = rest.without(column);
+    }
+    true
+}
+
+/// The key of the table s: its columns are tried in descending order, and each is dropped where the rest still determines s.
+///
+/// It takes a call of `determines` for each column of s.
+pub fn shrink_key(covers: &Covers, s: ColSet) -> ColSet
+    ensures inside { IsSubset result s }
+    ensures every { IsInOrder covers.now.fds → result ≡ shrunk (λ x. subset s (closure_of covers.now.fds x)) 128 s }
+{
+    let mut key = s;
+    for column in (0..128).rev() {
+        if key.has(column) && determines(covers, key.without(column), s) {
+            key = key.without(column);
+        }
+    }
+    key
+}
