@@ -1,3 +1,4 @@
 pub mod PartCells
 pub mod Projected
 pub mod Heath
+pub mod Bcnf

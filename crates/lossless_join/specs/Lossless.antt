@@ -1,6 +1,6 @@
 -- Lossless splits (Heath, 1971): where the natural join of projections is the projection that was split.
 use Rattle.std.specs.Prelude.{◌≡◌, ◌↔◌, ◌^◌, ◌<◌, ℕ, true, List, [], ◌∷◌, ◌++◌, map}
-use Rattle.std.specs.List.{Contains}
+use Rattle.std.specs.List.{All, Contains}
 use Rattle.col_set.specs.declared.target.Target.{Target}
 use Rattle.col_set.specs.declared.target.Target.TheVariants.{Col, RowId}
 use Rattle.col_set.specs.ColSet.{Columns, IsSubset, empty, has, all, inter, minus, union}
@@ -9,6 +9,8 @@ use Rattle.rel_base.specs.Cells.{Row}
 use Rattle.rel_base.specs.RowState.{RowState, IsRowState, width}
 use Rattle.rel_base.specs.Validity.{holds}
 use Rattle.rel_base.specs.Projection.{part, projection, distinct_rows}
+use Rattle.bcnf_split.specs.Bcnf.{IsBcnf}
+use Rattle.bcnf_split.specs.Split.{splits}
 use Rattle.lossless_join.specs.NaturalJoin.{TableRows, columns_of, IsMatched, IsNaturalJoin}
 use Rattle.lossless_join.specs.Parts.{projection_holds, ProjectionHolds, projection_keys, IsProjectionKey}
 
@@ -59,3 +61,10 @@ RepeatedSplitsAreLossless = (r : RowState) (s : Columns) (sets : List Columns) �
 -- Along the splits of all columns, the natural join of the projections is the distinct rows.
 abbrev pub SplitsJoinToDistinctRows : Type 0
 SplitsJoinToDistinctRows = (r : RowState) (sets : List Columns) → IsRowState r → r.nulls ≡ Equal → SplitsInto r (all (width r)) sets → IsNaturalJoin (width r) (map (projection_table r) sets) (distinct_rows r)
+
+-- The split of all columns to BCNF: each table is in BCNF, the tables have all columns together, and the natural join of their
+-- projections is the distinct rows.
+pub record SplitToBcnf (r : RowState) : Type 0 where
+  pub normal : All (IsBcnf r) (splits r (all (width r)))
+  pub columns : columns_of (map (projection_table r) (splits r (all (width r)))) ≡ all (width r)
+  pub joined : IsNaturalJoin (width r) (map (projection_table r) (splits r (all (width r)))) (distinct_rows r)
