@@ -3,6 +3,9 @@
 
 mod hitting;
 pub mod laws;
+mod levels;
+mod rounds;
 mod witnessed;
 
+pub use rounds::table_keys;
 pub use witnessed::table_keys_of;
