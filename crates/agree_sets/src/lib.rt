@@ -6,7 +6,7 @@ ghost use Rattle.std.specs.Simd.Lanes.{chunk};
 ghost use Rattle.col_set.specs.ColSet.{has};
 ghost use Rattle.agree_sets.specs.Agreement.{agree_set, agreement_bits};
 
-use rel_base::ColSet;
+use rel_base::{ColSet, MOST_COLUMNS};
 use std::simd::prelude::*;
 
 #[cfg(test)]
@@ -21,7 +21,7 @@ const LANES: usize = 16;
 /// It takes no memory. Sixteen codes are compared at once, and those after the last whole sixteen one by one.
 pub fn agree_codes(a: &[u32], b: &[u32]) -> ColSet
     requires same { length a.now ≡ length b.now }
-    requires few { length a.now ≤ 128 }
+    requires few { length a.now ≤ MOST_COLUMNS }
     ensures set { result ≡ agree_set a.now b.now }
     ensures each { (k : ℕ) → (has result k ≡ true) ↔ ((k < length a.now) × (slice_index a.now k ≡ slice_index b.now k)) }
 {
@@ -31,7 +31,7 @@ pub fn agree_codes(a: &[u32], b: &[u32]) -> ColSet
 // The number whose bit k says whether the rows have the same code at place k.
 fn agreement(a: &[u32], b: &[u32]) -> u128
     requires same { length a.now ≡ length b.now }
-    requires few { length a.now ≤ 128 }
+    requires few { length a.now ≤ MOST_COLUMNS }
     ensures { result ≡ agreement_bits a.now b.now }
 {
     let blocks = a.len() / LANES;
@@ -61,7 +61,7 @@ fn block(a: &[u32], b: &[u32], at: usize) -> u64
 fn joined(bits: u128, at: usize, more: u64, width: usize) -> u128
     requires bits { bits < 2 ^ at }
     requires more { more < 2 ^ width }
-    requires room { at + width ≤ 128 }
+    requires room { at + width ≤ MOST_COLUMNS }
     requires some { 1 ≤ width }
     ensures { result ≡ bits + 2 ^ at * more }
 {

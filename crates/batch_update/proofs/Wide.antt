@@ -9,7 +9,7 @@ use Rattle.rel_base.specs.declared.batch.Op.TheVariants.{Insert, Delete, Update}
 use Rattle.rel_base.specs.declared.why.Why.{Why}
 use Rattle.rel_base.specs.declared.why.Why.TheVariants as why
 use Rattle.rel_base.specs.Cells.{Row}
-use Rattle.rel_base.specs.Laws.{IsAsWide}
+use Rattle.rel_base.specs.Batches.{IsAsWide}
 use Rattle.csv_load.specs.Records.{records_of}
 use Rattle.csv_load.specs.Refusal.{has_long_cell}
 use Rattle.batch_update.specs.declared.begun.Begun.TheVariants.{Nothing, Faulty}

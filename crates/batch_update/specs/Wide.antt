@@ -1,7 +1,7 @@
 -- The width of an item.
 use Rattle.std.specs.Prelude.{ℕ, ⊤}
 use Rattle.std.specs.List.{All}
-use Rattle.rel_base.specs.Laws.{IsAsWide}
+use Rattle.rel_base.specs.Batches.{IsAsWide}
 use Rattle.batch_update.specs.declared.item.Item.{Item}
 use Rattle.batch_update.specs.declared.item.Item.TheVariants.{Batch, Bad, Report}
 

@@ -16,7 +16,7 @@ use crate::draft::Draft;
 use crate::explore::explored;
 use crate::growth::choices;
 use crate::part::{Part, generalised, lefts as lefts_of, specialised, with_marks};
-use rel_base::{ColSet, RowNo, Steps, Target};
+use rel_base::{ColSet, MOST_COLUMNS, RowNo, Steps, Target};
 use set_tree::SetTree;
 use std::alloc::{AllocError, Global};
 use std::marker::Model;
@@ -34,6 +34,7 @@ pub struct CandidateCover {
 impl Model for CandidateCover {
     ghost use Rattle.std.specs.Prelude.{◌≤◌, map, length};
     ghost use Rattle.candidate_cover.specs.Lists.{CandLists};
+    ghost use Rattle.col_set.specs.declared.col_set.TheConstants.{MOST_COLUMNS};
 
     ghost Value = { CandLists };
 
@@ -41,13 +42,13 @@ impl Model for CandidateCover {
 
     ghost view = { λ c. record { rows = cands c.rows; columns = map cands c.columns.items } };
 
-    ghost invariant = { λ c. length c.columns.items ≤ 128 };
+    ghost invariant = { λ c. length c.columns.items ≤ MOST_COLUMNS };
 }
 
 impl CandidateCover {
     /// For each target the empty set alone, of which nothing is known.
     pub fn new(alloc: Global, columns: u8) -> Result<CandidateCover, AllocError>
-        requires { columns ≤ 128 }
+        requires { columns ≤ MOST_COLUMNS }
         ensures { IfOk result (λ cover. cover ≡ record { rows = words.fresh empty ∷ []; columns = replicate columns (words.fresh empty ∷ []) }) }
     {
         let rows = opening(alloc)?;
@@ -64,7 +65,7 @@ impl CandidateCover {
     /// How many columns there are.
     pub fn columns(&self) -> u8
         ensures width { result ≡ width self.now }
-        ensures bound { result ≤ 128 }
+        ensures bound { result ≤ MOST_COLUMNS }
     {
         self.columns.len() as u8
     }

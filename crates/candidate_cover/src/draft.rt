@@ -12,7 +12,7 @@ ghost use Rattle.candidate_cover.specs.Drafts.{Drafted, AreDrafted, AreGrown, li
 
 use crate::growth::{choices, push_all_grown};
 use crate::part::sorted;
-use rel_base::{ColSet, Target};
+use rel_base::{ColSet, MOST_COLUMNS, Target};
 use std::alloc::{AllocError, Global};
 use std::marker::Model;
 
@@ -31,19 +31,20 @@ pub struct Draft {
 impl Model for Draft {
     ghost use Rattle.std.specs.Prelude.{◌≤◌, length};
     ghost use Rattle.candidate_cover.specs.Drafts.{Drafted, AreDrafted, lists_behind};
+    ghost use Rattle.col_set.specs.declared.col_set.TheConstants.{MOST_COLUMNS};
 
     ghost Value = { Drafted };
 
     ghost view = { λ d. record { width = length d.columns.items; agree_sets = d.agree_sets.items } };
 
-    ghost invariant = { λ d. AreDrafted (length d.columns.items) d.agree_sets.items d.rows.items (lists_behind d.columns.items) × (length d.columns.items ≤ 128) };
+    ghost invariant = { λ d. AreDrafted (length d.columns.items) d.agree_sets.items d.rows.items (lists_behind d.columns.items) × (length d.columns.items ≤ MOST_COLUMNS) };
 }
 
 impl Draft {
     // A draft of these lists, which takes no memory.
     pub(crate) fn of(rows: Vec<ColSet>, columns: Vec<Vec<ColSet>>, agree_sets: Vec<ColSet>) -> Draft
         requires lists { AreDrafted (length columns.items) agree_sets.items rows.items (lists_behind columns.items) }
-        requires bound { length columns.items ≤ 128 }
+        requires bound { length columns.items ≤ MOST_COLUMNS }
         ensures { result ≡ record { width = length columns.items; agree_sets = agree_sets.items } }
     {
         Draft {
@@ -125,7 +126,7 @@ struct Known {
 
 // For which of the targets one of these agree sets that lacks the target contains z.
 fn known_by(agree_sets: &[ColSet], columns: u8, z: ColSet) -> Known
-    requires { columns ≤ 128 }
+    requires { columns ≤ MOST_COLUMNS }
     ensures rows { result.rows ≡ refuted agree_sets.now RowId z }
     ensures columns { (a : ℕ) → a < columns → has result.columns a ≡ refuted agree_sets.now (Col a) z }
 {
@@ -203,7 +204,7 @@ fn grow_past(
     z: ColSet,
     scratch: &mut Scratch,
 ) -> Result<(), AllocError>
-    requires columns { columns ≤ 128 }
+    requires columns { columns ≤ MOST_COLUMNS }
     requires target { IsColumnTarget columns target }
     requires apart { has_target z target ≡ false }
     ensures { OnOk result ((ws : List ℕ) → ListsLeast (words.choices columns target) ws target sets.old.items → ListsLeast (words.choices columns target) (ws ++ z ∷ []) target sets.new.items) }
@@ -230,7 +231,7 @@ fn grow_unless(
     z: ColSet,
     scratch: &mut Scratch,
 ) -> Result<(), AllocError>
-    requires columns { columns ≤ 128 }
+    requires columns { columns ≤ MOST_COLUMNS }
     requires target { IsColumnTarget columns target }
     ensures { OnOk result ((ws : List ℕ) → (known ≡ true → refuted ws target z ≡ true) → ListsLeast (words.choices columns target) ws target sets.old.items → ListsLeast (words.choices columns target) (ws ++ z ∷ []) target sets.new.items) }
 {
@@ -248,7 +249,7 @@ fn grow_columns(
     z: ColSet,
     scratch: &mut Scratch,
 ) -> Result<(), AllocError>
-    requires bound { count ≤ 128 }
+    requires bound { count ≤ MOST_COLUMNS }
     requires count { length columns.old.items ≡ count }
     ensures { OnOk result (AreGrown count known z (lists_behind columns.old.items) (lists_behind columns.new.items)) }
 {

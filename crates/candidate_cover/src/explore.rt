@@ -8,7 +8,7 @@ ghost use Rattle.candidate_cover.specs.Growth as words;
 ghost use Rattle.candidate_cover.specs.Growth.{ListsLeast, IsExplored};
 
 use crate::growth::{grown, near};
-use rel_base::{ColSet, Steps, Target};
+use rel_base::{ColSet, MOST_COLUMNS, Steps, Target};
 use std::alloc::{AllocError, Global};
 use std::sync::ledger::Ledger;
 
@@ -32,24 +32,16 @@ fn is_refuted<L: Ledger>(
     x: ColSet,
     steps: &mut Steps<L>,
 ) -> bool
-    requires { IsColumnTarget 128 target }
+    requires { IsColumnTarget MOST_COLUMNS target }
     ensures { result ≡ refuted agree_sets.now target x }
 {
     for w in agree_sets {
         steps.tick();
-        if tells(*w, target, x) {
+        if w.refutes(x, target) {
             return true;
         }
     }
     false
-}
-
-// Whether the agree set contains x and lacks the target.
-fn tells(w: ColSet, target: Target, x: ColSet) -> bool
-    requires { IsColumnTarget 128 target }
-    ensures { result ≡ (subset x w && not (has_target w target)) }
-{
-    x.subset_of(w) && !w.has_target(target)
 }
 
 // Sets, by whether they lie inside another.
@@ -92,7 +84,7 @@ fn advanced<L: Ledger>(
     z: ColSet,
     steps: &mut Steps<L>,
 ) -> Result<Vec<ColSet>, AllocError>
-    requires columns { columns ≤ 128 }
+    requires columns { columns ≤ MOST_COLUMNS }
     requires few { choices < 2 ^ columns }
     requires apart { has_target z target ≡ false }
     ensures { IfOk result (λ sets. (ws : List ℕ) → ListsLeast choices ws target found.items → ListsLeast choices (ws ++ z ∷ []) target sets.items) }
@@ -124,8 +116,8 @@ pub(crate) fn least_among<L: Ledger>(
     agree_sets: &[ColSet],
     steps: &mut Steps<L>,
 ) -> Result<Vec<ColSet>, AllocError>
-    requires columns { columns ≤ 128 }
-    requires target { IsColumnTarget 128 target }
+    requires columns { columns ≤ MOST_COLUMNS }
+    requires target { IsColumnTarget MOST_COLUMNS target }
     requires few { choices < 2 ^ columns }
     ensures { IfOk result (λ sets. ListsLeast choices agree_sets.now target sets.items) }
 {
@@ -144,7 +136,7 @@ pub(crate) fn least_among<L: Ledger>(
 
 // Whether a withdrawn set lacks the target and lies inside none of those that were explored.
 fn is_new<L: Ledger>(tops: &[ColSet], target: Target, w: ColSet, steps: &mut Steps<L>) -> bool
-    requires { IsColumnTarget 128 target }
+    requires { IsColumnTarget MOST_COLUMNS target }
     ensures new { result ≡ (not (has_target w target) && not (refuted tops.now target w)) }
     ensures idle { has_target w target ≡ true → steps.new ≡ steps.old }
 {
@@ -163,8 +155,8 @@ pub(crate) fn explored<L: Ledger>(
     withdrawn: &[ColSet],
     steps: &mut Steps<L>,
 ) -> Result<Vec<ColSet>, AllocError>
-    requires columns { columns ≤ 128 }
-    requires target { IsColumnTarget 128 target }
+    requires columns { columns ≤ MOST_COLUMNS }
+    requires target { IsColumnTarget MOST_COLUMNS target }
     requires few { choices < 2 ^ columns }
     ensures found { IfOk result (λ sets. IsExplored choices rest.now withdrawn.now target sets.items) }
     ensures idle { All (λ w. has_target w target ≡ true) withdrawn.now → steps.new ≡ steps.old }

@@ -5,12 +5,12 @@ ghost use Rattle.col_set.specs.ColSet.{subset, has, with};
 ghost use Rattle.col_set.specs.Target.{IsColumnTarget};
 ghost use Rattle.candidate_cover.specs.Growth as words;
 
-use rel_base::{ColSet, Target};
+use rel_base::{ColSet, MOST_COLUMNS, Target};
 use std::alloc::{AllocError, Global};
 
 // The first columns but the target.
 pub(crate) fn choices(columns: u8, target: Target) -> ColSet
-    requires columns { columns ≤ 128 }
+    requires columns { columns ≤ MOST_COLUMNS }
     requires target { IsColumnTarget columns target }
     ensures { result ≡ words.choices columns target }
 {
@@ -42,7 +42,7 @@ pub(crate) fn near(alloc: Global, z: ColSet, sets: &[ColSet]) -> Result<Vec<ColS
 
 // Makes the list that of the sets that have the column.
 fn fill_having(found: &mut Vec<ColSet>, column: u8, sets: &[ColSet]) -> Result<(), AllocError>
-    requires { column < 128 }
+    requires { column < MOST_COLUMNS }
     ensures { OnOk result (found.new.items ≡ words.having column sets.now) }
 {
     found.clear();
@@ -61,7 +61,7 @@ fn push_grown(
     column: u8,
     inside: &[ColSet],
 ) -> Result<(), AllocError>
-    requires { column < 128 }
+    requires { column < MOST_COLUMNS }
     ensures { OnOk result (grown.new.items ≡ grown.old.items ++ words.unblocked blockers.now (map (λ c. with c column) inside.now)) }
 {
     for c in inside {
@@ -81,7 +81,7 @@ fn push_grown_by(
     column: u8,
     inside: &[ColSet],
 ) -> Result<(), AllocError>
-    requires { column < 128 }
+    requires { column < MOST_COLUMNS }
     ensures { OnOk result (grown.new.items ≡ grown.old.items ++ words.grown_by inside.now near.now column) }
 {
     fill_having(blockers, column, near)?;
@@ -90,7 +90,7 @@ fn push_grown_by(
 
 // Whether the column is one of these and outside z.
 fn is_choice(choices: ColSet, z: ColSet, column: u8) -> bool
-    requires { column < 128 }
+    requires { column < MOST_COLUMNS }
     ensures { result ≡ (has choices column && not (has z column)) }
 {
     choices.has(column) && !z.has(column)
@@ -108,7 +108,7 @@ pub(crate) fn push_all_grown(
     inside: &[ColSet],
     near: &[ColSet],
 ) -> Result<(), AllocError>
-    requires { columns ≤ 128 }
+    requires { columns ≤ MOST_COLUMNS }
     ensures { OnOk result (sets.new.items ≡ sets.old.items ++ words.grown columns choices z inside.now near.now) }
 {
     for column in 0..columns {
@@ -128,7 +128,7 @@ pub(crate) fn grown(
     inside: &[ColSet],
     near: &[ColSet],
 ) -> Result<Vec<ColSet>, AllocError>
-    requires { columns ≤ 128 }
+    requires { columns ≤ MOST_COLUMNS }
     ensures { IfOk result (λ sets. sets.items ≡ words.grown columns choices z inside.now near.now) }
 {
     let mut sets = Vec::new(alloc);

@@ -10,7 +10,7 @@ ghost use Rattle.set_tree.specs.Pairs as pairs;
 
 use crate::cand::Mark;
 use crate::growth::{choices, grown, has_subset};
-use rel_base::{ColSet, Target};
+use rel_base::{ColSet, MOST_COLUMNS, Target};
 use set_tree::SetTree;
 use std::alloc::{AllocError, Global};
 use std::marker::Model;
@@ -74,7 +74,7 @@ pub(crate) fn specialised(
     z: ColSet,
     mut tree: SetTree<Mark>,
 ) -> Result<SetTree<Mark>, AllocError>
-    requires columns { columns ≤ 128 }
+    requires columns { columns ≤ MOST_COLUMNS }
     requires target { IsColumnTarget columns target }
     ensures { IfOk result (λ made. IsGrown columns target z tree made) }
 {

@@ -11,14 +11,11 @@ use Rattle.col_set.specs.ColSet.{has, upto, columns, size, set_of, report_cmp, c
 use Rattle.col_set.specs.Members.{has-empty, has-with, same_set}
 use Rattle.col_set.specs.Columns.{nat_cmp-lt, columns_below, lt-pow}
 pub use Rattle.col_set.specs.Columns.{report_total}
+pub use Rattle.col_set.specs.Listing.{Ascends}
 use Rattle.col_set.specs.Lists.{Listed, Rises, Listed-append_left, Listed-append_right, Listed-append_cases, Listed-filter, Listed-filter_parts, Listed-map, Listed-map_which, Listed-flat_map, Listed-flat_map_which, Rises-append, Rises-map}
 use Rattle.col_set.specs.Subsets.{same_test, has_within, below_from}
 
--- ---- ascending lists of numbers from a up to b
-abbrev pub Ascends : ℕ → ℕ → List ℕ → Type 0
-Ascends a b [] = Unit {0}
-Ascends a b (x ∷ xs) = (a ≤ x) × (x < b) × Ascends (x + 1) b xs
-
+-- ---- ascending lists
 pub Ascends-weaker : (a c b : ℕ) (xs : List ℕ) → a ≤ c → Ascends c b xs → Ascends a b xs
 Ascends-weaker a c b [] l h = tt
 Ascends-weaker a c b (x ∷ xs) l h = ((let g = h.0 in omega arith), h.1, h.2)
@@ -167,9 +164,6 @@ combination_parts (suc k) a b (c ∷ cs) l r h = elim (Listed-append_cases l (ma
   | inr g ↦ let q = combination_parts (suc k) (c + 1) b cs l r.2 g in let p = r.0 in (Ascends-weaker a (c + 1) b l (omega arith) q.0, q.1)
 ]
 
-lex : List ℕ → List ℕ → Ordering
-lex = slice_cmp nat_cmp
-
 combinations_rise : (k a b : ℕ) (cs : List ℕ) → Ascends a b cs → Rises (slice_cmp nat_cmp) (combinations k cs)
 unfolding combinations
 combinations_rise zero a b cs r = ((λ y h. absurd h), tt)
@@ -204,9 +198,6 @@ all_sets_below n x h =
     let v = Listed-flat_map_which (λ k. combinations k (upto n)) w.0 (upto (n + 1)) w.1 in
     let q = combination_parts v.0 0 n (upto n) w.0 (Ascends-range n 0 n (omega arith)) v.2 in
     below_from x n (λ k e. (Ascends_within 0 n k w.0 q.0 (set_of-has k w.0 (sym (ap (λ (z : ℕ). has z k) w.2) ∙ e))).1)
-
-by_length : List ℕ → List ℕ → Ordering
-by_length = then_cmp (on length nat_cmp) (slice_cmp nat_cmp)
 
 shorter : (x y : List ℕ) → length x < length y → then_cmp (on length nat_cmp) (slice_cmp nat_cmp) x y ≡ Less
 shorter x y h = ap (λ o. ordering_then o (slice_cmp nat_cmp x y)) (nat_cmp-lt (length x) (length y) h)

@@ -6,9 +6,13 @@ use Rattle.col_set.specs.ColSet.{Columns, IsSubset, has, with, subset, upto, all
 use Rattle.col_set.specs.Target.{has_target, is_target}
 use Rattle.col_set.specs.Minimal.{proper_subset, is_minimal}
 
--- some agree set of the list contains x and lacks t: two rows agree on x and not on t
+-- the agree set of two rows contains x and lacks t: the two agree on x and not on t
+abbrev pub refutes : Columns → Columns → Target → Bool
+refutes w x t = subset x w && not (has_target w t)
+
+-- some agree set of the list refutes that x determines t
 unfoldable pub refuted : List Columns → Target → Columns → Bool
-refuted ws t x = list_any (λ w. subset x w && not (has_target w t)) ws
+refuted ws t x = list_any (λ w. refutes w x t) ws
 
 -- the sets of n columns without t, in report order, that are not refuted and have no unrefuted proper subset
 unfoldable pub least : ℕ → List Columns → Target → List Columns

@@ -1,13 +1,20 @@
 ghost use Rattle.std.specs.Prelude.{◌≡◌, ◌<◌, ◌≤◌, IfSome};
 ghost use Rattle.col_set.specs.ColSet as cols;
 ghost use Rattle.col_set.specs.Target as targets;
+ghost use Rattle.col_set.specs.Evidence as evidence;
 ghost use Rattle.col_set.specs.Target.{IsColumnTarget};
 
 use crate::Target;
 use std::cmp::Ordering;
 use std::marker::Model;
 
-/// A set of columns, counted from 0 and each below 128.
+/// The most columns that a relation has: a column set has a bit for each.
+pub const MOST_COLUMNS: u8 = 128;
+
+/// The length of an array that has a place for each column.
+pub const COLUMN_PLACES: usize = MOST_COLUMNS as usize;
+
+/// A set of columns, counted from 0 and each below `MOST_COLUMNS`.
 ///
 /// Contracts see the number whose bit k says whether it has column k. It is copied, and no call takes memory or grows with the
 /// number of columns; `iter` takes a step a column that it has.
@@ -77,10 +84,10 @@ impl ColSet {
     /// The columns 0 to below n.
     #[tactic(auto, unfolding(crate::specs::ColSet::all))]
     pub fn all(n: u8) -> Self
-        requires { n ≤ 128 }
+        requires { n ≤ MOST_COLUMNS }
         ensures { result ≡ cols.all n }
     {
-        if n == 128 {
+        if n == MOST_COLUMNS {
             ColSet { bits: u128::MAX }
         } else {
             ColSet { bits: (1 << n) - 1 }
@@ -90,7 +97,7 @@ impl ColSet {
     /// Whether it has the column.
     #[tactic(auto, unfolding(crate::specs::ColSet::has))]
     pub fn has(self, column: u8) -> bool
-        requires { column < 128 }
+        requires { column < MOST_COLUMNS }
         ensures { result ≡ cols.has self column }
     {
         (self.bits >> column) & 1 == 1
@@ -99,7 +106,7 @@ impl ColSet {
     /// Whether it has the target: a column that it has. No set has the row's identity.
     #[tactic(auto, unfolding(crate::specs::Target::has_target))]
     pub fn has_target(self, target: Target) -> bool
-        requires { IsColumnTarget 128 target }
+        requires { IsColumnTarget MOST_COLUMNS target }
         ensures { result ≡ targets.has_target self target }
     {
         match target {
@@ -110,7 +117,7 @@ impl ColSet {
 
     /// It and this column.
     pub fn with(self, column: u8) -> Self
-        requires { column < 128 }
+        requires { column < MOST_COLUMNS }
         ensures { result ≡ cols.with self column }
     {
         ColSet {
@@ -120,7 +127,7 @@ impl ColSet {
 
     /// It less this column.
     pub fn without(self, column: u8) -> Self
-        requires { column < 128 }
+        requires { column < MOST_COLUMNS }
         ensures { result ≡ cols.without self column }
     {
         ColSet {
@@ -165,10 +172,19 @@ impl ColSet {
         self.bits & other.bits == self.bits
     }
 
+    /// Whether it refutes that `left` determines the target, as the agree set of two rows: it contains `left` and lacks the target.
+    #[tactic(auto, unfolding(crate::specs::Evidence::refutes))]
+    pub fn refutes(self, left: Self, target: Target) -> bool
+        requires { IsColumnTarget MOST_COLUMNS target }
+        ensures { result ≡ evidence.refutes self left target }
+    {
+        left.subset_of(self) && !self.has_target(target)
+    }
+
     /// How many columns it has.
     pub fn len(self) -> u32
         ensures value { result ≡ cols.size self }
-        ensures bound { result ≤ 128 }
+        ensures bound { result ≤ MOST_COLUMNS }
     {
         self.bits.count_ones()
     }
@@ -176,7 +192,7 @@ impl ColSet {
     /// Its least column.
     pub fn first(self) -> Option<u8>
         ensures value { result ≡ cols.first self }
-        ensures bound { IfSome result (λ column. column < 128) }
+        ensures bound { IfSome result (λ column. column < MOST_COLUMNS) }
     {
         if self.bits == 0 {
             None

@@ -7,5 +7,5 @@ mod target;
 #[cfg(test)]
 mod tests;
 
-pub use col_set::{ColSet, ColumnIter};
+pub use col_set::{COLUMN_PLACES, ColSet, ColumnIter, MOST_COLUMNS};
 pub use target::Target;

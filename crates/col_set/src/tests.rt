@@ -50,4 +50,6 @@ fn no_set_has_the_identity_of_a_row(rt: HostRuntime) {
     assert!(rt; !ColSet::all(3).has_target(Target::Col(3)));
     assert!(rt; !ColSet::all(128).has_target(Target::RowId));
     assert!(rt; Target::Col(2).is_column(2) && !Target::RowId.is_column(2));
+    assert!(rt; ColSet::all(2).refutes(ColSet::all(1), Target::Col(2)));
+    assert!(rt; !ColSet::all(2).refutes(ColSet::all(1), Target::Col(1)));
 }

@@ -68,7 +68,7 @@ impl Dict {
     ///
     /// After want of memory the dictionary is as before.
     pub fn code(&mut self, cell: &Cell) -> Result<u32, AllocError>
-        requires { length self.old.cells < 4294967295 }
+        requires { length self.old.cells < u32.MAX }
         ensures cell { IfOk result (λ code. slice_get self.new.cells code ≡ Some cell.now) }
         ensures cells { OnOk result (self.new ≡ coded self.old cell.now) }
         ensures last { IfOk result (λ code. is_new self.old cell.now ≡ true → code ≡ length self.old.cells) }
@@ -90,7 +90,7 @@ impl Dict {
     /// A cell that was coded lately is found by a quick guess that is then compared. Else the bytes are looked up from a
     /// buffer that the dictionary keeps, which grows to the longest cell.
     pub fn code_of(&mut self, bytes: &[u8]) -> Result<u32, AllocError>
-        requires { length self.old.cells < 4294967295 }
+        requires { length self.old.cells < u32.MAX }
         ensures cell { IfOk result (λ code. slice_get self.new.cells code ≡ Some bytes.now) }
         ensures cells { OnOk result (self.new ≡ coded self.old bytes.now) }
         ensures last { IfOk result (λ code. is_new self.old bytes.now ≡ true → code ≡ length self.old.cells) }
@@ -129,7 +129,7 @@ impl Dict {
 
     // The code of the cell of these bytes, looked up.
     fn looked_up(&mut self, bytes: &[u8]) -> Result<u32, AllocError>
-        requires { length self.old.cells < 4294967295 }
+        requires { length self.old.cells < u32.MAX }
         ensures cell { IfOk result (λ code. slice_get self.new.cells code ≡ Some bytes.now) }
         ensures cells { OnOk result (self.new ≡ coded self.old bytes.now) }
         ensures last { IfOk result (λ code. is_new self.old bytes.now ≡ true → code ≡ length self.old.cells) }

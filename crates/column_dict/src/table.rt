@@ -49,7 +49,7 @@ pub fn known_code(known: &Known, cell: &Cell) -> Option<u32>
 // Gives a cell that the map lacks the next code.
 pub fn add_known(known: &mut Known, places: &mut Vec<u32>, cell: Cell) -> Result<u32, AllocError>
     requires absent { get (pointwise nat_eq) known.old cell ≡ None }
-    requires room { length places.old.items < 4294967295 }
+    requires room { length places.old.items < u32.MAX }
     requires fewer { length known.old.entries ≤ length places.old.items }
     ensures code { IfOk result (λ code. code ≡ length places.old.items) }
     ensures entries { OnOk result (known.new.entries ≡ known.old.entries ++ (cell, length places.old.items) ∷ []) }
@@ -70,7 +70,7 @@ pub fn add_known(known: &mut Known, places: &mut Vec<u32>, cell: Cell) -> Result
 
 // Gives NULL the next code.
 pub fn add_fresh(places: &mut Vec<u32>) -> Result<u32, AllocError>
-    requires { length places.old.items < 4294967295 }
+    requires { length places.old.items < u32.MAX }
     ensures code { IfOk result (λ code. code ≡ length places.old.items) }
     ensures places { OnOk result (places.new.items ≡ places.old.items ++ nowhere ∷ []) }
     ensures refused { OnErr result (places.new.items ≡ places.old.items) }

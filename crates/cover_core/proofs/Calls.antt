@@ -16,7 +16,8 @@ use Rattle.rel_base.specs.Validity.{agree_of}
 use Rattle.rel_base.specs.Covers.{CoverLists, fds_to, covers}
 use Rattle.rel_base.specs.Shows.{Shows, holds_in}
 use Rattle.rel_base.specs.Batches.{after}
-use Rattle.rel_base.specs.Laws.{IsAsWide, Follows}
+use Rattle.rel_base.specs.Batches.{IsAsWide}
+use Rattle.rel_base.specs.Laws.{Follows}
 use Rattle.rel_base.proofs.Changes.{after-follows}
 use Rattle.negative_cover.specs.declared.negative_cover.Witness.{Witness}
 use Rattle.negative_cover.specs.Witnesses.{sets_of, has_dead, live_of, dead_of}

@@ -10,7 +10,7 @@ use Rattle.rel_base.specs.RowState.{RowState, width, next}
 use Rattle.rel_base.specs.Validity.{agree_of}
 use Rattle.rel_base.specs.Shows.{Shows, holds_in}
 use Rattle.rel_base.specs.Batches.{is_live, after}
-use Rattle.rel_base.specs.Laws.{IsAsWide}
+use Rattle.rel_base.specs.Batches.{IsAsWide}
 use Rattle.negative_cover.specs.declared.negative_cover.Witness.{Witness}
 use Rattle.negative_cover.specs.Witnesses.{sets_of, live_of}
 use Rattle.candidate_cover.specs.declared.cand.Cand.{Cand}

@@ -7,7 +7,7 @@ ghost use Rattle.rel_base.specs.JobParts.{JobParts};
 ghost use Rattle.rel_base.specs.RowState.{opened, width};
 ghost use Rattle.rel_base.specs.Shows.{holds_in};
 ghost use Rattle.rel_base.specs.Covers.{covers};
-ghost use Rattle.rel_base.specs.Laws.{IsAsWide};
+ghost use Rattle.rel_base.specs.Batches.{IsAsWide};
 ghost use Rattle.cover_steps.specs.Core.{opened_core, entries, first_unfinished as first_unfinished_of};
 ghost use Rattle.cover_steps.specs.Steps as steps;
 ghost use Rattle.cover_steps.specs.Sound.{Sound, Fits, IsMarked};

@@ -4,7 +4,7 @@ ghost use Rattle.col_set.specs.ColSet.{empty};
 ghost use Rattle.col_set.specs.declared.target.Target.TheVariants.{RowId};
 ghost use Rattle.cover_core.specs.Past as past;
 
-use rel_base::{ColSet, Target};
+use rel_base::{ColSet, MOST_COLUMNS, Target};
 
 // A place among the candidates of all targets: that of a left side among the candidates of a target.
 #[derive(Clone, Copy)]
@@ -26,7 +26,7 @@ impl Cursor {
 
     // How many targets come before the cursor's.
     pub(crate) fn rank(self) -> u8
-        requires { past.rank self.target ≤ 128 }
+        requires { past.rank self.target ≤ MOST_COLUMNS }
         ensures { result ≡ past.rank self.target }
     {
         match self.target {

@@ -10,7 +10,7 @@ ghost use Rattle.cover_core.specs.Evidences.{IsEvidence, IsNews};
 
 use candidate_cover::{CandidateCover, Draft};
 use negative_cover::{NegativeCover, Witness};
-use rel_base::{ColSet, RowNo, Target};
+use rel_base::{ColSet, MOST_COLUMNS, RowNo, Target};
 use row_log::RowLog;
 use std::alloc::{AllocError, Global};
 
@@ -78,10 +78,11 @@ pub(crate) fn push_evidence(
 
 // Whether some of the evidence refutes this dependency.
 pub(crate) fn is_told(found: &[Evidence], target: Target, left: ColSet) -> bool
-    requires { IsColumnTarget 128 target }
+    requires { IsColumnTarget MOST_COLUMNS target }
 {
-    found.iter().any(|evidence| left.subset_of(evidence.agree)
-        && !evidence.agree.has_target(target))
+    found
+        .iter()
+        .any(|evidence| evidence.agree.refutes(left, target))
 }
 
 // How much of the evidence that was found last is looked at before a verdict.

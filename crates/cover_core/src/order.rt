@@ -1,6 +1,6 @@
 // The order in which candidates are validated.
 
-use rel_base::ColSet;
+use rel_base::{COLUMN_PLACES, ColSet};
 
 // Columns in the order of how many rows they tell apart, those that tell the most first.
 //
@@ -9,18 +9,18 @@ use rel_base::ColSet;
 #[derive(Clone, Copy)]
 pub(crate) struct Order {
     // For each column its place, as the set that has the place alone.
-    places: [ColSet; 128],
+    places: [ColSet; COLUMN_PLACES],
 }
 
 impl Order {
     // The order by these weights of the columns, the lightest first.
-    pub(crate) fn of(weights: &[u32; 128]) -> Order {
-        let mut columns = [(0u32, 0u8); 128];
+    pub(crate) fn of(weights: &[u32; COLUMN_PLACES]) -> Order {
+        let mut columns = [(0u32, 0u8); COLUMN_PLACES];
         for (column, weight) in weights.iter().enumerate() {
             columns[column] = (*weight, column as u8);
         }
         columns.sort_unstable();
-        let mut places = [ColSet::empty(); 128];
+        let mut places = [ColSet::empty(); COLUMN_PLACES];
         for (place, column) in columns.iter().enumerate() {
             if let Some(own) = places.get_mut(column.1 as usize) {
                 *own = ColSet::empty().with(place as u8);

@@ -11,7 +11,7 @@ ghost use Rattle.cover_core.specs.NewLists.{IsPart, AreParts};
 
 use crate::searching::is_refuted;
 use candidate_cover::{CandidateCover, Draft, Part};
-use rel_base::{ColSet, Steps, Target};
+use rel_base::{ColSet, MOST_COLUMNS, Steps, Target};
 use std::alloc::{AllocError, Global};
 use std::sync::ledger::Ledger;
 
@@ -57,7 +57,7 @@ pub(crate) fn specialised(
 
 // Whether one of these agree sets lacks the target.
 fn some_lacks(sets: &[ColSet], target: Target) -> bool
-    requires { IsColumnTarget 128 target }
+    requires { IsColumnTarget MOST_COLUMNS target }
     ensures { result ≡ list_any (λ z. not (has_target z target)) sets.now }
 {
     sets.iter().any(|agree| !agree.has_target(target))

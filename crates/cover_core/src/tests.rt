@@ -3,7 +3,7 @@ ghost use Rattle.std.specs.Prelude.{◌≡◌, ◌<◌, true, length, IfOk, IfSo
 ghost use Rattle.std.specs.List.{All};
 ghost use Rattle.rel_base.specs.Relation.{IsContent};
 ghost use Rattle.rel_base.specs.JobParts.{JobParts};
-ghost use Rattle.rel_base.specs.Laws.{IsAsWide};
+ghost use Rattle.rel_base.specs.Batches.{IsAsWide};
 ghost use Rattle.rel_base.specs.Shows.{holds_in};
 ghost use Rattle.cover_steps.specs.Sound.{Fits};
 ghost use Rattle.validator.specs.Verdicts.{IsFitting};

@@ -17,7 +17,7 @@ use Rattle.rel_base.specs.declared.dependency.Fd.{Fd}
 use Rattle.rel_base.specs.RowState.{RowState, width, next}
 use Rattle.rel_base.specs.Validity.{agree_sets, agree_of, holds, Holds}
 use Rattle.rel_base.specs.Covers.{CoverLists, fds_to, covers}
-use Rattle.rel_base.specs.Laws.{least_covers}
+use Rattle.rel_base.specs.Covers.{least_covers}
 use Rattle.rel_base.proofs.States.{All-listed, live_climbs, live_numbered}
 use Rattle.rel_base.proofs.Valid.{Listed-agree_sets, holds-true, holds-refuted}
 use Rattle.rel_base.proofs.Minima.{covers-least}

@@ -22,7 +22,8 @@ use Rattle.rel_base.specs.RowState.{RowState, IsRowState, width, next}
 use Rattle.rel_base.specs.Validity.{agree_of, HoldsBelow}
 use Rattle.rel_base.specs.Shows.{holds_in}
 use Rattle.rel_base.specs.Batches.{is_live, after}
-use Rattle.rel_base.specs.Laws.{Follows, IsAsWide}
+use Rattle.rel_base.specs.Batches.{IsAsWide}
+use Rattle.rel_base.specs.Laws.{Follows}
 use Rattle.rel_base.proofs.States.{All-listed, All-from, live_positive, live_numbered}
 use Rattle.rel_base.proofs.Changes.{after-follows, agree_of-follows}
 use Rattle.negative_cover.specs.declared.negative_cover.Witness.{Witness}

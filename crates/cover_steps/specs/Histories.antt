@@ -7,7 +7,7 @@ use Rattle.rel_base.specs.JobParts.{JobParts}
 use Rattle.rel_base.specs.RowState.{RowState, width}
 use Rattle.rel_base.specs.Shows.{holds_in}
 use Rattle.rel_base.specs.Batches.{after, kept_or_after}
-use Rattle.rel_base.specs.Laws.{IsAsWide}
+use Rattle.rel_base.specs.Batches.{IsAsWide}
 use Rattle.cover_steps.specs.declared.step.Call.{Call}
 use Rattle.cover_steps.specs.declared.step.Call.TheVariants.{Draw, Refute, Mark, Release, Apply, Settle}
 use Rattle.cover_steps.specs.declared.step.Reply.{Reply}

@@ -48,7 +48,7 @@ impl Candidates {
     /// How many parts a set of these columns has.
     pub(crate) fn parts(&self) -> usize
         ensures parts { result ≡ self.now.parts }
-        ensures room { self.now.columns ≤ 128 * self.now.parts }
+        ensures room { self.now.columns ≤ PART * self.now.parts }
     {
         let _columns = self.columns;
         self.parts

@@ -100,7 +100,7 @@ fn slices_of<'a, 'b>(
 
 // Finds the least of the first values of these lists, and marks the lists that begin with it. Whether some list has one.
 fn mark_least(rests: &[&[Value]], shared: &mut [ColSet]) -> bool
-    requires { length rests.now ≤ 128 * length shared.old }
+    requires { length rests.now ≤ PART * length shared.old }
     ensures { MatchBool result (SharesLeast (has_wide shared.new) (lists_of rests.now) (length rests.now)) (AllEnded (lists_of rests.now) (length rests.now)) }
 {
     clear_wide(shared);
@@ -125,7 +125,7 @@ fn meet<'a, 'b>(
     shared: &mut [ColSet],
 ) -> Option<&'a Value<'b>>
     requires place { place < length rests.now }
-    requires room { length rests.now ≤ 128 * length shared.old }
+    requires room { length rests.now ≤ PART * length shared.old }
     requires so_far { LeastSoFar least (has_wide shared.old) (lists_of rests.now) place }
     ensures { LeastSoFar result (has_wide shared.new) (lists_of rests.now) (place + 1) }
 {

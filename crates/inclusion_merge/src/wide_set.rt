@@ -11,7 +11,7 @@ pub(crate) const PART: usize = 128;
 
 /// How many parts sets of so many columns have.
 pub(crate) fn parts_for(columns: usize) -> usize
-    ensures { columns ≤ 128 * result }
+    ensures { columns ≤ PART * result }
 {
     columns.div_ceil(PART)
 }
@@ -29,7 +29,7 @@ pub(crate) fn parts_of(alloc: Global, part: ColSet, count: usize) -> Result<Vec<
 
 /// Whether a set has a column.
 pub(crate) fn has_wide(parts: &[ColSet], column: usize) -> bool
-    requires { column < 128 * length parts.now }
+    requires { column < PART * length parts.now }
     ensures { result ≡ has_wide parts.now column }
 {
     parts[column / PART].has((column % PART) as u8)
@@ -37,7 +37,7 @@ pub(crate) fn has_wide(parts: &[ColSet], column: usize) -> bool
 
 /// Adds a column to a set.
 pub(crate) fn insert_wide(parts: &mut [ColSet], column: usize)
-    requires { column < 128 * length parts.old }
+    requires { column < PART * length parts.old }
     ensures { (k : ℕ) → has_wide parts.new k ≡ (has_wide parts.old k || k == column) }
 {
     let place = column / PART;

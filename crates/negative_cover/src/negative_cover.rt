@@ -8,7 +8,7 @@ ghost use Rattle.negative_cover.specs.Witnesses as words;
 ghost use Rattle.negative_cover.specs.Witnesses.{sets_of, live_of, dead_of, IsRefutation};
 
 use crate::rows::{is_among, is_ascending};
-use rel_base::{ColSet, RowNo, Target};
+use rel_base::{ColSet, MOST_COLUMNS, RowNo, Target};
 use std::alloc::{AllocError, Global};
 use std::marker::Model;
 
@@ -103,12 +103,12 @@ impl NegativeCover {
 
     /// The rows of a witness that agree on x and not on the target, if there is one. It takes a step a witness.
     pub fn refutes(&self, target: Target, x: ColSet) -> Option<(RowNo, RowNo)>
-        requires { IsColumnTarget 128 target }
+        requires { IsColumnTarget MOST_COLUMNS target }
         ensures none { IsNone result ↔ (refuted (sets_of self.now) target x ≡ false) }
         ensures rows { IfSome result (λ p. IsRefutation self.now target x p.0 p.1) }
     {
         for witness in self.witnesses.as_slice() {
-            if parts(*witness, target, x) {
+            if witness.agree.refutes(x, target) {
                 return Some((witness.i, witness.j));
             }
         }
@@ -150,12 +150,4 @@ fn has_dead(dead: &[RowNo], ascending: bool, witness: Witness) -> bool
     ensures { result ≡ words.has_dead dead.now witness }
 {
     is_among(dead, ascending, witness.i) || is_among(dead, ascending, witness.j)
-}
-
-// Whether its two rows agree on x and not on the target.
-fn parts(witness: Witness, target: Target, x: ColSet) -> bool
-    requires { IsColumnTarget 128 target }
-    ensures { result ≡ (subset x witness.agree && not (has_target witness.agree target)) }
-{
-    x.subset_of(witness.agree) && !witness.agree.has_target(target)
 }

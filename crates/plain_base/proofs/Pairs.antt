@@ -16,7 +16,7 @@ use Rattle.rel_base.specs.Agreement.{agrees, agree}
 use Rattle.rel_base.specs.Validity.{agree_sets, pairs}
 use Rattle.std.specs.Prelude.{IfOk}
 use Rattle.rel_base.specs.Covers.{CoverLists, covers}
-use Rattle.rel_base.specs.Laws.{least_covers}
+use Rattle.rel_base.specs.Covers.{least_covers}
 use Rattle.rel_base.proofs.Minima.{covers-least}
 use Rattle.rel_base.proofs.Agree.{agree-parts, agree-from, agrees-true, true-agrees}
 

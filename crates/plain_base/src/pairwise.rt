@@ -6,7 +6,6 @@ ghost use Rattle.rel_base.specs.Agreement as agreement;
 ghost use Rattle.rel_base.specs.Validity.{pairs};
 ghost use Rattle.rel_base.specs.Covers.{fds_to};
 ghost use Rattle.rel_base.specs.Covers as cover_words;
-ghost use Rattle.rel_base.specs.Laws as laws;
 ghost use Rattle.col_set.specs.declared.target.Target.TheVariants.{Col};
 ghost use Rattle.col_set.specs.ColSet.{upto};
 ghost use Rattle.col_set.specs.Evidence.{least};
@@ -109,10 +108,10 @@ fn least_fds(alloc: Global, columns: u8, agree_sets: &[ColSet]) -> Result<Vec<Fd
 
 /// The keys and dependencies that these agree sets of so many columns leave: for each target those column sets that no agree
 /// set refutes, and of which no part is such a set.
-#[tactic(auto, unfolding(rel_base::specs::Laws::least_covers))]
+#[tactic(auto, unfolding(rel_base::specs::Covers::least_covers))]
 pub fn least_covers(alloc: Global, columns: u8, agree_sets: &[ColSet]) -> Result<Covers, AllocError>
     requires { columns ≤ 128 }
-    ensures { IfOk result (λ found. found ≡ laws.least_covers columns agree_sets.now) }
+    ensures { IfOk result (λ found. found ≡ cover_words.least_covers columns agree_sets.now) }
 {
     let keys = least_sets(alloc, columns, Target::RowId, agree_sets)?;
     let fds = least_fds(alloc, columns, agree_sets)?;

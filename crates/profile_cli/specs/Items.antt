@@ -1,7 +1,7 @@
 -- Which items of a change text can be answered.
 use Rattle.std.specs.Prelude.{◌<◌, ◌+◌, ◌^◌, ℕ, length, ⊤}
 use Rattle.std.specs.List.{All}
-use Rattle.rel_base.specs.Laws.{IsAsWide}
+use Rattle.rel_base.specs.Batches.{IsAsWide}
 use Rattle.batch_update.specs.declared.item.Item.{Item}
 use Rattle.batch_update.specs.declared.item.Item.TheVariants.{Batch, Bad, Report}
 

@@ -3,7 +3,7 @@ ghost use Rattle.std.specs.Prelude.{◌≡◌, ◌++◌, ◌∷◌, [], ◌<◌,
 ghost use Rattle.std.specs.List.{All};
 ghost use Rattle.rel_base.specs.RowState.{opened, width};
 ghost use Rattle.rel_base.specs.Batches.{after, kept_or_after};
-ghost use Rattle.rel_base.specs.Laws.{IsAsWide};
+ghost use Rattle.rel_base.specs.Batches.{IsAsWide};
 ghost use Rattle.profile_cli.specs.Items.{IsAnswerable};
 ghost use Rattle.profile_cli.specs.Reports.{reports};
 ghost use Rattle.profile_cli.specs.Session as spec;

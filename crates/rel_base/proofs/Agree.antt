@@ -36,10 +36,6 @@ pub Agrees-symm : (nulls : Nulls) (a b : Cell) → Agrees nulls a b → Agrees n
 Agrees-symm Equal a b h = sym h
 Agrees-symm Distinct a b h = (sym h.0, λ i. h.1 (h.0 ∙ i))
 
-pub Agrees-trans : (nulls : Nulls) (a b c : Cell) → Agrees nulls a b → Agrees nulls b c → Agrees nulls a c
-Agrees-trans Equal a b c h g = h ∙ g
-Agrees-trans Distinct a b c h g = (h.0 ∙ g.0, h.1)
-
 agrees-symm : (nulls : Nulls) (a b : Cell) → agrees nulls a b ≡ agrees nulls b a
 agrees-symm nulls a b = same_test _ _
     (λ e. true-agrees nulls b a (Agrees-symm nulls a b (agrees-true nulls a b e)))

@@ -16,7 +16,8 @@ use Rattle.rel_base.specs.Agreement.{agree}
 use Rattle.rel_base.specs.RowState.{RowState, IsRowState, width, next}
 use Rattle.rel_base.specs.Validity.{agree_of, agree_sets, holds}
 use Rattle.rel_base.specs.Batches.{is_live, is_full, inserted, deleted, applied, go_on, after_from}
-use Rattle.rel_base.specs.Laws.{IsAsWide, Follows}
+use Rattle.rel_base.specs.Batches.{IsAsWide}
+use Rattle.rel_base.specs.Laws.{Follows}
 use Rattle.rel_base.proofs.States.{All-listed, All-from, increasing-Climbs, Climbs-append, live_climbs, live_positive, live_numbered}
 use Rattle.rel_base.proofs.Valid.{Climbs-filter, Listed-agree_sets, AgreeOf-agree_sets, determined-fewer}
 

@@ -7,3 +7,7 @@ pub mod Changes
 pub mod Shown
 pub mod Examples
 pub mod Parts
+pub mod Ordered
+pub mod Alike
+pub mod Equal
+pub mod Live

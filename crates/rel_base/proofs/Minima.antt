@@ -13,7 +13,7 @@ use Rattle.rel_base.specs.RowState.{RowState, width}
 use Rattle.rel_base.specs.Validity.{agree_sets, holds, unique}
 use Rattle.rel_base.specs.Minimality.{min_fd, MinFd, min_key, MinKey}
 use Rattle.rel_base.specs.Covers.{fds_to, covers}
-use Rattle.rel_base.specs.Laws.{least_covers}
+use Rattle.rel_base.specs.Covers.{least_covers}
 use Rattle.rel_base.proofs.Valid.{Holds-tested, holds-true, holds-refuted}
 
 pub MinFd-tested : (r : RowState) (x a : ℕ) → Climbs r.live → a < width r → x < 2 ^ width r → min_fd r x a ≡ true → MinFd r x a

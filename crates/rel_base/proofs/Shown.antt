@@ -35,7 +35,7 @@ Listed-range n a k l h = by n a l h
         here n a l h rest (inl e) = inl e
         here n a l h rest (inr ne) = inr (rest (omega arith))
 
-Climbs-live_numbers : (s : CodeTable) → Climbs (live_numbers s)
+pub Climbs-live_numbers : (s : CodeTable) → Climbs (live_numbers s)
 unfolding live_numbers
 Climbs-live_numbers s = Climbs-filter (live_at s) (range_with_len 1 (s.to - 1)) (Ascends-Climbs 1 (1 + (s.to - 1)) _ (Ascends-range (s.to - 1) 1 (1 + (s.to - 1)) refl))
 

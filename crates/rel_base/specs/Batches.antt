@@ -1,5 +1,5 @@
 -- What a batch does to a row state (DynFD's batches, Schirmer and others, 2019, with updates as one operation).
-use Rattle.std.specs.Prelude.{if◌then◌else◌, ℕ, ◌+◌, nat_lt, nat_eq, Bool, not, List, [], ◌∷◌, ◌++◌, Result, Ok, Err, true, false, count_by}
+use Rattle.std.specs.Prelude.{if◌then◌else◌, ◌≡◌, ℕ, length, ◌+◌, nat_lt, nat_eq, Bool, not, List, [], ◌∷◌, ◌++◌, Result, Ok, Err, true, false, count_by}
 use Rattle.std.specs.List.{filter, list_any}
 use Rattle.rel_base.specs.declared.batch.Op.{Op}
 use Rattle.rel_base.specs.declared.batch.Op.TheVariants.{Insert, Delete, Update}
@@ -7,6 +7,12 @@ use Rattle.rel_base.specs.declared.why.Why.{Why}
 use Rattle.rel_base.specs.declared.why.Why.TheVariants.{Rows, Missing}
 use Rattle.rel_base.specs.Cells.{Row}
 use Rattle.rel_base.specs.RowState.{RowState, next}
+
+-- An operation's new row is as wide as there are columns.
+abbrev pub IsAsWide : ℕ → Op → Type 0
+IsAsWide n (Insert new) = length new ≡ n
+IsAsWide n (Delete number) = Unit {0}
+IsAsWide n (Update number new) = length new ≡ n
 
 -- whether the row with this number is live
 abbrev pub is_live : RowState → ℕ → Bool

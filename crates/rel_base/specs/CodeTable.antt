@@ -1,6 +1,13 @@
 -- What a snapshot is seen as: the codes of all rows given, by column, and which rows are live.
-use Rattle.std.specs.Prelude.{◌≡◌, ◌<◌, ◌≤◌, ◌+◌, ◌-◌, ℕ, Bool, false, List, [], length, slice_index, slice_index_or}
+use Rattle.std.specs.Prelude.{◌≡◌, ◌<◌, ◌≤◌, ◌+◌, ◌-◌, ℕ, Bool, false, List, [], length, slice_index, slice_index_or, Option, Some, None}
 use Rattle.std.specs.List.{All}
+use Rattle.col_set.specs.declared.col_set.TheConstants.{MOST_COLUMNS}
+use Rattle.rel_base.specs.declared.limits.TheConstants.{MOST_ROWS}
+
+-- the list in a value that may be there, empty where it is not
+abbrev pub list_in : {A : Type 0} → (A → List ℕ) → Option A → List ℕ
+list_in f None = []
+list_in f (Some a) = f a
 
 -- The code and the live flag of row number k stand at place k - 1, and each number is below `to`.
 pub record CodeTable : Type 0 where
@@ -8,12 +15,12 @@ pub record CodeTable : Type 0 where
   pub live : List Bool
   pub to : ℕ
 
--- there are 1 to 128 columns and at most a million rows, and each list has a place for each number below `to`
+-- there are columns, as many rows at most as a relation is ever given, and each list has a place for each number below `to`
 pub record IsCodeTable (s : CodeTable) : Type 0 where
   pub some : 0 < length s.codes
-  pub narrow : length s.codes ≤ 128
+  pub narrow : length s.codes ≤ MOST_COLUMNS
   pub first : 0 < s.to
-  pub short : s.to ≤ 1000001
+  pub short : s.to ≤ MOST_ROWS + 1
   pub coded : All (λ codes. length codes + 1 ≡ s.to) s.codes
   pub flagged : length s.live + 1 ≡ s.to
 

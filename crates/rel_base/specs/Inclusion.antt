@@ -14,7 +14,8 @@ column_cells r k = map (λ number. cell (row r number) k) r.live
 abbrev pub all_columns : List RowState → List (List Cell)
 all_columns rs = flat_map (λ r. map (column_cells r) (upto (width r))) rs
 
--- each cell of the dependent column that is not NULL is a cell of the referenced one, which is another column
+-- each cell of the dependent column that is not NULL is a cell of the referenced one, which is another column.
+-- A test for columns of the list: of others it says nothing that is meant, as the fact below does not hold of them.
 unfoldable pub included : List (List Cell) → ℕ → ℕ → Bool
 included columns c d =
     not (c == d) && list_all (λ a. same_cell a [] || list_any (same_cell a) (slice_index_or columns d [])) (slice_index_or columns c [])

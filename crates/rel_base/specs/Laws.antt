@@ -1,21 +1,25 @@
 -- The laws of the definitions, which functions with an empty body ensure.
 use Rattle.std.specs.Prelude.{◌≡◌, ◌≢◌, ◌<◌, ◌≤◌, ◌^◌, ◌↔◌, ℕ, true, List, length, Ok}
-use Rattle.std.specs.List.{All, AllPairs, Contains, flat_map}
+use Rattle.std.specs.List.{All, AllPairs, Contains}
 use Rattle.col_set.specs.declared.target.Target.{Target}
-use Rattle.col_set.specs.declared.target.Target.TheVariants.{Col, RowId}
-use Rattle.col_set.specs.ColSet.{Columns, IsSubset, upto}
-use Rattle.col_set.specs.Evidence.{least}
+use Rattle.col_set.specs.declared.target.Target.TheVariants.{Col}
+use Rattle.std.specs.Ordering.{nat_cmp, on, then_cmp}
+use Rattle.std.specs.declared.cmp.Ordering.{Ordering}
+use Rattle.std.specs.declared.cmp.Ordering.TheVariants.{Less}
+use Rattle.col_set.specs.ColSet.{Columns, IsSubset, report_cmp}
 use Rattle.rel_base.specs.declared.batch.Op.{Op}
-use Rattle.rel_base.specs.declared.batch.Op.TheVariants.{Insert, Delete, Update}
+use Rattle.rel_base.specs.declared.batch.Op.TheVariants.{Insert, Delete}
 use Rattle.rel_base.specs.Cells.{Cell, Row}
 use Rattle.rel_base.specs.CodeTable.{CodeTable}
 use Rattle.rel_base.specs.RowState.{RowState, IsRowState, width, next, row}
 use Rattle.rel_base.specs.Validity.{agree_sets, holds, Holds, holds_below, HoldsBelow, unique}
 use Rattle.rel_base.specs.Minimality.{min_fd, MinFd, min_key, MinKey}
-use Rattle.rel_base.specs.Covers.{CoverLists, fds_to, covers}
-use Rattle.rel_base.specs.Batches.{applied, after_from}
-use Rattle.rel_base.specs.Shows.{holds_in, HoldsIn, holds_in_below, HoldsInBelow}
-use Rattle.rel_base.specs.Inclusion.{included, Included}
+use Rattle.rel_base.specs.declared.dependency.Fd.{Fd}
+use Rattle.rel_base.specs.Covers.{covers, least_covers}
+use Rattle.rel_base.specs.Batches.{applied, after_from, IsAsWide}
+use Rattle.rel_base.specs.Alike.{Alike}
+use Rattle.rel_base.specs.Shows.{Shows, holds_in, HoldsIn, holds_in_below, HoldsInBelow}
+use Rattle.rel_base.specs.Inclusion.{included, Included, inclusions}
 use Rattle.rel_base.specs.Projection.{part, projection}
 
 -- ---- validity
@@ -35,21 +39,22 @@ abbrev pub KeysDetermine : Type 0
 KeysDetermine = (r : RowState) (x : Columns) (a : ℕ) → unique r x ≡ true → holds r x (Col a) ≡ true
 
 -- ---- covers
--- The covers that a list of agree sets of n columns leaves: its least sets for each target.
-unfoldable pub least_covers : ℕ → List Columns → CoverLists
-least_covers n ws = record { keys = least n ws RowId; fds = flat_map (λ a. fds_to a (least n ws (Col a))) (upto n) }
-
 -- The minimal keys and dependencies are the least sets of the agree sets of the live rows.
 abbrev pub CoversAreLeast : Type 0
 CoversAreLeast = (r : RowState) → covers r ≡ least_covers (width r) (agree_sets r)
 
--- ---- batches
--- An operation's new row is as wide as there are columns.
-abbrev pub IsAsWide : ℕ → Op → Type 0
-IsAsWide n (Insert new) = length new ≡ n
-IsAsWide n (Delete number) = Unit {0}
-IsAsWide n (Update number new) = length new ≡ n
+-- the order of dependencies: by right column, then by left side in report order
+abbrev pub fd_cmp : Fd → Fd → Ordering
+fd_cmp = then_cmp (on (λ f. f.right) nat_cmp) (on (λ f. f.left) report_cmp)
 
+-- The covers have each minimal key and each minimal dependency, each once, in order, and nothing else.
+pub record CoversListed (r : RowState) : Type 0 where
+  pub keys : (x : Columns) → Contains (covers r).keys x ↔ MinKey r x
+  pub keys_in_order : AllPairs (λ x y. report_cmp x y ≡ Less) (covers r).keys
+  pub fds : (f : Fd) → Contains (covers r).fds f ↔ MinFd r f.left f.right
+  pub fds_in_order : AllPairs (λ f g. fd_cmp f g ≡ Less) (covers r).fds
+
+-- ---- batches
 -- s may come after r: rows keep their numbers, no number is used twice, and of the rows that r had, none is live again.
 pub record Follows (r s : RowState) : Type 0 where
   pub names : s.names ≡ r.names
@@ -73,6 +78,15 @@ pub record InsertsAndDeletes : Type 0 where
 abbrev pub InclusionsMean : Type 0
 InclusionsMean = (columns : List (List Cell)) (c d : ℕ) → c < length columns → d < length columns → (included columns c d ≡ true) ↔ Included columns c d
 
+-- the order of inclusions: by dependent column, then by referenced column
+abbrev pub pair_cmp : ℕ × ℕ → ℕ × ℕ → Ordering
+pair_cmp = then_cmp (on (λ p. p.0) nat_cmp) (on (λ p. p.1) nat_cmp)
+
+-- The inclusions of a list of columns have each inclusion, each once, in order, and nothing else.
+pub record InclusionsListed (columns : List (List Cell)) : Type 0 where
+  pub pairs : (c d : ℕ) → Contains (inclusions columns) (c, d) ↔ Included columns c d
+  pub in_order : AllPairs (λ p q. pair_cmp p q ≡ Less) (inclusions columns)
+
 -- A projection has the part of each live row and nothing else, each once.
 pub record ProjectionMeans (r : RowState) (s : Columns) : Type 0 where
   pub parts : (p : Row) → Contains (projection r s) p ↔ ((number : ℕ) × Contains r.live number × (part s (row r number) ≡ p))
@@ -88,3 +102,18 @@ pub record SnapshotsShow (s : CodeTable) (r : RowState) : Type 0 where
 pub record SnapshotTestsMean (s : CodeTable) : Type 0 where
   pub dependency : (x : Columns) (t : Target) → (holds_in s x t ≡ true) ↔ HoldsIn s x t
   pub among : (b : ℕ) (x : Columns) (t : Target) → (holds_in_below b s x t ≡ true) ↔ HoldsInBelow b s x t
+
+-- Alike snapshots hold the same dependencies.
+pub record AlikeHoldTheSame (s u : CodeTable) : Type 0 where
+  pub all : (x : Columns) (t : Target) → holds_in s x t ≡ holds_in u x t
+  pub among : (b : ℕ) (x : Columns) (t : Target) → holds_in_below b s x t ≡ holds_in_below b u x t
+
+-- Two snapshots that show the same row state are alike.
+abbrev pub ShowingTheSameIsAlike : Type 0
+ShowingTheSameIsAlike = (s u : CodeTable) (r : RowState) → IsRowState r → Shows s r → Shows u r → Alike s u
+
+-- To be alike is an equivalence.
+pub record AlikeIsEquivalence : Type 0 where
+  pub itself : (s : CodeTable) → Alike s s
+  pub turned : (s u : CodeTable) → Alike s u → Alike u s
+  pub trans : (s u v : CodeTable) → Alike s u → Alike u v → Alike s v

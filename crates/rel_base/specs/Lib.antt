@@ -8,8 +8,10 @@ pub mod Covers
 pub mod Batches
 pub mod CodeTable
 pub mod Shows
+pub mod Alike
 pub mod Inclusion
 pub mod Projection
+pub mod Hashed
 pub mod JobParts
 pub mod Why
 pub mod Laws

@@ -2,6 +2,8 @@
 use Rattle.std.specs.Prelude.{◌≡◌, ◌<◌, ◌≤◌, ◌+◌, ◌-◌, ℕ, List, [], length, slice_index_or}
 use Rattle.std.specs.List.{All, range_with_len}
 use Rattle.std.specs.List.Sorted.{IsStrictlyIncreasing}
+use Rattle.col_set.specs.declared.col_set.TheConstants.{MOST_COLUMNS}
+use Rattle.rel_base.specs.declared.limits.TheConstants.{MOST_ROWS}
 use Rattle.rel_base.specs.declared.nulls.Nulls.{Nulls}
 use Rattle.rel_base.specs.Cells.{Row}
 use Rattle.rel_base.specs.Relation.{Content}
@@ -27,13 +29,13 @@ next r = length r.given + 1
 abbrev pub row : RowState → ℕ → Row
 row r number = slice_index_or r.given (number - 1) []
 
--- a row state has 1 to 128 columns, rows as wide, at most a million of them, and live numbers among those given
+-- a row state has columns and rows as wide, no more of either than a relation may have, and live numbers among those given
 pub record IsRowState (r : RowState) : Type 0 where
   pub some : 0 < width r
-  pub narrow : width r ≤ 128
+  pub narrow : width r ≤ MOST_COLUMNS
   pub widths : All (λ row. length row ≡ width r) r.given
-  pub short : length r.given ≤ 1000000
-  pub few : r.limit ≤ 1000000
+  pub short : length r.given ≤ MOST_ROWS
+  pub few : r.limit ≤ MOST_ROWS
   pub ascending : IsStrictlyIncreasing r.live
   pub positive : All (λ number. 0 < number) r.live
   pub numbered : All (λ number. number < next r) r.live

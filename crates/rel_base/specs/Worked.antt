@@ -7,6 +7,7 @@ use Rattle.rel_base.specs.declared.batch.Op.TheVariants.{Insert, Delete, Update}
 use Rattle.rel_base.specs.Cells.{Cell, Row}
 use Rattle.rel_base.specs.CodeTable.{CodeTable}
 use Rattle.rel_base.specs.RowState.{RowState}
+use Rattle.rel_base.specs.declared.limits.TheConstants.{MOST_ROWS}
 
 -- a cell of one byte, and NULL
 abbrev pub one : ℕ → Cell
@@ -24,7 +25,7 @@ unfoldable pub letters : RowState
 letters = record {
   names = two (one 107) (one 118);
   nulls = Equal;
-  limit = 1000000;
+  limit = MOST_ROWS;
   given = two (one 49) (one 120) ∷ two (one 49) (one 121) ∷ two (one 50) (one 122) ∷ [];
   live = 1 ∷ 2 ∷ 3 ∷ [];
 }
@@ -38,7 +39,7 @@ unfoldable pub blanks : Nulls → RowState
 blanks nulls = record {
   names = two (one 97) (one 98);
   nulls = nulls;
-  limit = 1000000;
+  limit = MOST_ROWS;
   given = two null (one 49) ∷ two null (one 50) ∷ [];
   live = 1 ∷ 2 ∷ [];
 }
@@ -48,7 +49,7 @@ unfoldable pub parity : RowState
 parity = record {
   names = one 97 ∷ one 98 ∷ one 99 ∷ [];
   nulls = Equal;
-  limit = 1000000;
+  limit = MOST_ROWS;
   given = (one 48 ∷ one 48 ∷ one 48 ∷ []) ∷ (one 48 ∷ one 49 ∷ one 49 ∷ []) ∷ (one 49 ∷ one 48 ∷ one 49 ∷ []) ∷ (one 49 ∷ one 49 ∷ one 48 ∷ []) ∷ [];
   live = 1 ∷ 2 ∷ 3 ∷ 4 ∷ [];
 }

@@ -58,11 +58,4 @@ impl Batch {
     {
         self.ops.is_empty()
     }
-
-    /// The operations back, which takes no memory.
-    pub fn into_ops(self) -> Vec<Op>
-        ensures { result.items ≡ self }
-    {
-        self.ops
-    }
 }

@@ -3,7 +3,10 @@ ghost use Rattle.col_set.specs.ColSet.{Columns};
 ghost use Rattle.rel_base.specs.CodeTable.{CodeTable};
 ghost use Rattle.rel_base.specs.RowState.{RowState, IsRowState};
 ghost use Rattle.rel_base.specs.Shows.{Shows};
-ghost use Rattle.rel_base.specs.Laws.{TestsMean, MoreColumnsKeep, KeysDetermine, CoversAreLeast, BatchesFollow, InsertsAndDeletes, InclusionsMean, ProjectionMeans, SnapshotsShow, SnapshotTestsMean};
+ghost use Rattle.rel_base.specs.Alike.{Alike};
+ghost use Rattle.rel_base.specs.Cells.{Cell};
+ghost use Rattle.std.specs.Prelude.{List};
+ghost use Rattle.rel_base.specs.Laws.{TestsMean, MoreColumnsKeep, KeysDetermine, CoversAreLeast, BatchesFollow, InsertsAndDeletes, InclusionsMean, ProjectionMeans, SnapshotsShow, SnapshotTestsMean, CoversListed, InclusionsListed, AlikeHoldTheSame, ShowingTheSameIsAlike, AlikeIsEquivalence};
 
 /// The tests of a dependency, of one among the rows below a number, of a minimal one and of a minimal key say what the facts say.
 pub fn tests_say_what_the_facts_say()
@@ -23,6 +26,11 @@ pub fn a_key_determines_every_column()
 /// The covers are what the agree sets of all pairs of live rows leave.
 pub fn covers_are_least_sets()
     ensures { CoversAreLeast }
+{}
+
+/// The covers have each minimal key and each minimal dependency once, in order, and nothing else.
+pub fn covers_list_each_once_in_order()
+    ensures { (r : RowState) → IsRowState r → CoversListed r }
 {}
 
 /// A batch keeps the numbers of rows: none is used twice, and no row that ended is live again.
@@ -50,7 +58,27 @@ pub fn inclusions_say_what_the_fact_says()
     ensures { InclusionsMean }
 {}
 
+/// The list of inclusions has each once, in order, and nothing else.
+pub fn inclusions_stand_once_in_order()
+    ensures { (columns : List (List Cell)) → InclusionsListed columns }
+{}
+
 /// A projection has the parts of the live rows, each once.
 pub fn projections_have_each_part_once()
     ensures { (r : RowState) (s : Columns) → ProjectionMeans r s }
+{}
+
+/// Alike snapshots hold the same dependencies, among all their rows and among those below a number.
+pub fn alike_snapshots_hold_the_same()
+    ensures { (s u : CodeTable) → Alike s u → AlikeHoldTheSame s u }
+{}
+
+/// Two snapshots of one row state are alike, though they may number its cells differently.
+pub fn snapshots_of_one_row_state_are_alike()
+    ensures { ShowingTheSameIsAlike }
+{}
+
+/// To be alike is an equivalence.
+pub fn to_be_alike_is_an_equivalence()
+    ensures { AlikeIsEquivalence }
 {}

@@ -22,10 +22,10 @@ mod why;
 
 pub use batch::{Batch, Op};
 pub use cell::Cell;
-pub use col_set::{ColSet, Target};
+pub use col_set::{COLUMN_PLACES, ColSet, MOST_COLUMNS, Target};
 pub use dependency::{Covers, Fd, Table};
 pub use job::Job;
-pub use limits::Limits;
+pub use limits::{Limits, MOST_BYTES, MOST_CELL_BYTES, MOST_ROWS};
 pub use name::Name;
 pub use nulls::Nulls;
 pub use relation::Relation;

@@ -1,14 +1,18 @@
 // How large an input may be.
 ghost use Rattle.std.specs.Prelude.{◌≡◌, ◌<◌, ◌≤◌};
+ghost use Rattle.col_set.specs.declared.col_set.TheConstants.{MOST_COLUMNS};
+ghost use Rattle.rel_base.specs.declared.limits.TheConstants.{MOST_ROWS, MOST_CELL_BYTES, MOST_BYTES};
 
-/// The standard number of columns, which no limit exceeds. Each column set has so many bits.
-pub const STANDARD_COLUMNS: u8 = 128;
-/// The standard number of rows that a relation is ever given.
-pub const STANDARD_ROWS: u32 = 1_000_000;
-/// The standard length of a cell, in bytes.
-pub const STANDARD_CELL: u64 = 65_536;
-/// The standard length of a file or a change text, in bytes.
-pub const STANDARD_BYTES: u64 = 268_435_456;
+use col_set::MOST_COLUMNS;
+
+/// The most rows that a relation is ever given: row numbers go to here.
+pub const MOST_ROWS: u32 = 1_000_000;
+
+/// The most bytes of a cell.
+pub const MOST_CELL_BYTES: u64 = 65_536;
+
+/// The most bytes of a file or of a change text.
+pub const MOST_BYTES: u64 = 268_435_456;
 
 /// How large an input may be: columns, row numbers ever given to a relation, bytes of a cell, bytes of a file or a change text.
 #[derive(Clone, Copy)]
@@ -22,35 +26,35 @@ pub struct Limits {
     /// The most bytes of a file, or of a change text.
     pub bytes: u64,
     ghost some_columns: { 0 < columns },
-    ghost few_columns: { columns ≤ 128 },
-    ghost few_rows: { rows ≤ 1000000 },
-    ghost short_cells: { cell ≤ 65536 },
-    ghost few_bytes: { bytes ≤ 268435456 },
+    ghost few_columns: { columns ≤ MOST_COLUMNS },
+    ghost few_rows: { rows ≤ MOST_ROWS },
+    ghost short_cells: { cell ≤ MOST_CELL_BYTES },
+    ghost few_bytes: { bytes ≤ MOST_BYTES },
 }
 
 impl Limits {
     /// The limits of the program as its users run it.
     pub fn standard() -> Limits
-        ensures columns { result.columns ≡ STANDARD_COLUMNS }
-        ensures rows { result.rows ≡ STANDARD_ROWS }
-        ensures cell { result.cell ≡ STANDARD_CELL }
-        ensures bytes { result.bytes ≡ STANDARD_BYTES }
+        ensures columns { result.columns ≡ MOST_COLUMNS }
+        ensures rows { result.rows ≡ MOST_ROWS }
+        ensures cell { result.cell ≡ MOST_CELL_BYTES }
+        ensures bytes { result.bytes ≡ MOST_BYTES }
     {
         Limits {
-            columns: STANDARD_COLUMNS,
-            rows: STANDARD_ROWS,
-            cell: STANDARD_CELL,
-            bytes: STANDARD_BYTES,
+            columns: MOST_COLUMNS,
+            rows: MOST_ROWS,
+            cell: MOST_CELL_BYTES,
+            bytes: MOST_BYTES,
         }
     }
 
     /// Limits that are no larger than the standard ones.
     pub fn smaller(columns: u8, rows: u32, cell: u64, bytes: u64) -> Limits
         requires some_columns { 0 < columns }
-        requires few_columns { columns ≤ STANDARD_COLUMNS }
-        requires few_rows { rows ≤ STANDARD_ROWS }
-        requires short_cells { cell ≤ STANDARD_CELL }
-        requires few_bytes { bytes ≤ STANDARD_BYTES }
+        requires few_columns { columns ≤ MOST_COLUMNS }
+        requires few_rows { rows ≤ MOST_ROWS }
+        requires short_cells { cell ≤ MOST_CELL_BYTES }
+        requires few_bytes { bytes ≤ MOST_BYTES }
         ensures columns { result.columns ≡ columns }
         ensures rows { result.rows ≡ rows }
         ensures cell { result.cell ≡ cell }

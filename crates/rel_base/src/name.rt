@@ -41,13 +41,6 @@ impl Name {
     {
         self.word.as_bytes()
     }
-
-    /// The word back.
-    pub fn into_word(self) -> String
-        ensures { string_bytes result ≡ self }
-    {
-        self.word
-    }
 }
 
 impl Clone for Name {

@@ -1,9 +1,15 @@
 // The cells of a row, packed.
-ghost use Rattle.std.specs.Prelude.{◌≡◌, ◌<◌, ◌==◌, length, map, slice_index_or, [], IfOk};
+ghost use Rattle.std.specs.Prelude.{◌≡◌, ◌<◌, ◌==◌, ◌++◌, ◌∷◌, length, map, fold, slice_index_or, [], IfOk};
+ghost use Rattle.std.specs.List.{flat_map};
+ghost use Rattle.std.specs.Cmp.Rules.{comparing};
+ghost use Rattle.std.proofs.Common.{rules};
 ghost use Rattle.csv.specs.Records.{fields_of};
+ghost use Rattle.rel_base.specs.Projection.{same_row};
+ghost use Rattle.rel_base.specs.Hashed.{cell_writes, rows_alike};
 
 use csv::ByteRecord;
 use std::alloc::{AllocError, Global};
+use std::hash::{Hash, Hasher};
 use std::marker::Model;
 
 /// The cells of a row, one after another in one buffer beside the places where they end: two allocations a row, whatever its width.
@@ -79,5 +85,55 @@ impl Clone for Row {
         Ok(Row {
             record: self.record.clone()?,
         })
+    }
+}
+
+// Rows are equal where they have equal cells; how an empty cell was quoted is not kept.
+impl PartialEq for Row {
+    ghost eq = { same_row };
+
+    ghost laws = { Prim.search (comparing, rules) };
+
+    fn eq(&self, other: &Row) -> bool {
+        has_same_cells(self, other)
+    }
+}
+
+impl Eq for Row {
+    ghost laws = { Prim.search (comparing, rules) };
+}
+
+fn has_same_cells(one: &Row, other: &Row) -> bool
+    ensures { result ≡ same_row one.now other.now }
+{
+    if one.len() != other.len() {
+        return false;
+    }
+    for place in 0..one.len() {
+        if one.cell(place) != other.cell(place) {
+            return false;
+        }
+    }
+    true
+}
+
+// Each cell after its length, so that rows whose cells only join to the same bytes are told apart.
+impl Hash for Row {
+    ghost hash_input = { flat_map cell_writes };
+
+    ghost respects_eq = { rows_alike.fed };
+
+    fn hash<H: Hasher>(&self, state: &mut H) {
+        write_cells(self, state);
+    }
+}
+
+fn write_cells<H: Hasher>(row: &Row, state: &mut H)
+    ensures { state.new ≡ fold H.write state.old (flat_map cell_writes row.now) }
+{
+    for place in 0..row.len() {
+        let cell = row.cell(place);
+        state.write_usize(cell.len());
+        state.write(cell);
     }
 }

@@ -4,11 +4,16 @@ ghost use Rattle.rel_base.specs.Covers.{covers};
 ghost use Rattle.rel_base.specs.Worked.{letters, blanks};
 
 use crate::{
-    Cell, Codes, Covers, Fd, Job, Limits, Name, Nulls, Relation, Row, RowNo, Snapshot, Why,
+    Batch, Cell, Codes, Covers, Fd, Job, Limits, MOST_BYTES, MOST_CELL_BYTES, MOST_COLUMNS,
+    MOST_ROWS, Name, Nulls, Op, Relation, Row, RowNo, Snapshot, Why,
 };
 use col_set::{ColSet, Target};
+use csv::{ByteRecord, ReaderBuilder};
+use std::alloc::Global;
+use std::hash::{DefaultHasher, Hash, Hasher};
 use std::sync::Arc;
 use std::test::Fail;
+use std::thread::join;
 
 // The one minimal key of the columns k and v with the rows (1, x), (1, y) and (2, z).
 fn letters_key() -> ColSet
@@ -71,6 +76,78 @@ fn a_row_packs_its_cells(rt: HostRuntime) -> Result<(), Fail> {
     Ok(())
 }
 
+// The first record of a text.
+fn first_row(alloc: Global, text: &[u8]) -> Result<Row, Fail> {
+    let mut reader = ReaderBuilder::new()
+        .has_headers(false)
+        .from_reader(alloc, text);
+    let mut record = ByteRecord::new(alloc);
+    match reader.read_byte_record(&mut record) {
+        Ok(_) => Ok(Row::of(record)),
+        Err(_) => Err(Fail::new("no record")),
+    }
+}
+
+fn hash_of(row: &Row) -> u64 {
+    let mut state = DefaultHasher::new();
+    row.hash(&mut state);
+    state.finish()
+}
+
+#[test]
+fn rows_are_equal_by_their_cells(rt: HostRuntime) -> Result<(), Fail> {
+    let alloc = rt.alloc();
+    let cells: [&[u8]; 3] = [b"ab", b"", b"c"];
+    let row = Row::copied(alloc, &cells)?;
+    let quoted = first_row(alloc, b"\"ab\",\"\",c\n")?;
+    assert!(rt; row == quoted && hash_of(&row) == hash_of(&quoted));
+    let cells: [&[u8]; 3] = [b"a", b"", b"bc"];
+    let other = Row::copied(alloc, &cells)?;
+    assert!(rt; row != other && hash_of(&row) != hash_of(&other));
+    assert!(rt; row != Row::copied(alloc, &cells[..2])?);
+    Ok(())
+}
+
+#[test]
+fn codes_stand_behind_shared_ones(rt: HostRuntime) -> Result<(), Fail> {
+    let alloc = rt.alloc();
+    let shared = Arc::new(alloc, vec![in alloc; 7u32, 8]?)?;
+    let codes = Codes::behind(shared, vec![in alloc; 9u32]?);
+    assert!(rt; codes.len() == 3 && !codes.is_empty());
+    assert!(rt; codes.get(0) == 7 && codes.get(1) == 8 && codes.get(2) == 9);
+    assert!(rt; codes.parts().0.len() == 2 && codes.parts().1.len() == 1);
+    Ok(())
+}
+
+// A missing proof that a value may move to another thread shows at a `join`.
+#[test]
+fn values_move_among_threads(rt: HostRuntime) -> Result<(), Fail> {
+    let alloc = rt.alloc();
+    let codes = vec![in alloc; Codes::of(vec![in alloc; 0u32]?)]?;
+    let snapshot = Arc::new(
+        alloc,
+        Snapshot::of(codes, vec![in alloc; true]?, RowNo::of(2)),
+    )?;
+    let job = Job::of(
+        Target::RowId,
+        ColSet::empty(),
+        RowNo::first(),
+        RowNo::of(2),
+        snapshot.clone()?,
+    );
+    let batch = Batch::of(vec![in alloc; Op::Delete(RowNo::first())]?);
+    let names: [&[u8]; 1] = [b"k"];
+    let relation = Relation::of(Row::copied(alloc, &names)?, Vec::new(alloc));
+    let (to, operations) = join(&rt, move || job.to(), move || batch.len());
+    let (live, rows) = join(
+        &rt,
+        move || snapshot.live_count(),
+        move || relation.rows().len(),
+    );
+    assert!(rt; to == RowNo::of(2) && operations == 1 && live == 1 && rows == 0);
+    Ok(())
+}
+
 #[test]
 fn cells_stand_in_byte_order(rt: HostRuntime) -> Result<(), Fail> {
     let alloc = rt.alloc();
@@ -106,8 +183,8 @@ fn causes_have_their_numbers(rt: HostRuntime) {
 fn limits_and_relations_keep_what_they_are_given(rt: HostRuntime) -> Result<(), Fail> {
     let alloc = rt.alloc();
     let standard = Limits::standard();
-    assert!(rt; standard.columns == 128 && standard.rows == 1_000_000);
-    assert!(rt; standard.cell == 65_536 && standard.bytes == 268_435_456);
+    assert!(rt; standard.columns == MOST_COLUMNS && standard.rows == MOST_ROWS);
+    assert!(rt; standard.cell == MOST_CELL_BYTES && standard.bytes == MOST_BYTES);
     let small = Limits::smaller(2, 3, 1, 16);
     assert!(rt; small.columns == 2 && small.rows == 3 && small.cell == 1 && small.bytes == 16);
     let names: [&[u8]; 2] = [b"k", b"v"];
@@ -130,11 +207,12 @@ fn a_job_is_made_again(rt: HostRuntime) -> Result<(), Fail> {
     ]?;
     let live = vec![in alloc; true, false, true]?;
     assert!(rt; codes.len() == 2 && live.len() == 3);
-    assert!(rt; codes[0].as_slice().len() == 3 && codes[1].as_slice().len() == 3);
+    assert!(rt; codes[0].len() == 3 && codes[1].len() == 3);
     let snapshot = Snapshot::of(codes, live, RowNo::of(4));
     assert!(rt; snapshot.columns() == 2 && snapshot.to() == RowNo::of(4));
     assert!(rt; snapshot.is_live(RowNo::first()) && !snapshot.is_live(RowNo::of(2)));
     assert!(rt; snapshot.is_live(RowNo::of(3)) && !snapshot.is_live(RowNo::of(4)));
+    assert!(rt; snapshot.live_count() == 2 && snapshot.column(1).get(2) == 2);
     let job = Job::of(
         Target::RowId,
         ColSet::all(2).without(0),

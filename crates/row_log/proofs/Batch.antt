@@ -15,7 +15,7 @@ use Rattle.rel_base.specs.RowState.{RowState, IsRowState, next, width}
 use Rattle.rel_base.specs.Batches.{is_live, is_full, inserted, deleted, applied, go_on, after_from, after, is_insert, is_delete, insert_count, delete_count}
 use Rattle.rel_base.proofs.States.{All-listed, All-from, increasing-Climbs, Climbs-append}
 use Rattle.rel_base.proofs.Valid.{Climbs-filter}
-use Rattle.rel_base.specs.Laws.{IsAsWide}
+use Rattle.rel_base.specs.Batches.{IsAsWide}
 use Rattle.row_log.specs.declared.applying.Applying.{Applying}
 use Rattle.row_log.specs.declared.applying.Halt.{Halt}
 use Rattle.row_log.specs.declared.applying.Halt.TheVariants.{Failed, Starved}

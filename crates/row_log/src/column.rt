@@ -6,7 +6,7 @@ ghost use Rattle.row_log.specs.Column.{AreCodes};
 ghost use Rattle.row_log.specs.Distinct.{AreFlaggedCells, AreUsed};
 
 use column_dict::Dict;
-use rel_base::{Cell, Nulls, Row};
+use rel_base::{Cell, MOST_ROWS, Nulls, Row};
 use std::alloc::{AllocError, Global};
 use std::marker::Model;
 
@@ -62,7 +62,7 @@ impl Column {
     /// Codes the cells at this place of more rows. After want of memory it has those of some of them.
     pub fn extend(&mut self, rows: &[Row], place: usize) -> Result<(), AllocError>
         requires wide { All (λ row. place < length row) rows.now }
-        requires few { length self.old.cells + length rows.now ≤ 1000000 }
+        requires few { length self.old.cells + length rows.now ≤ MOST_ROWS }
         ensures { OnOk result (self.new ≡ record { nulls = self.old.nulls; cells = self.old.cells ++ map (λ row. cell row place) rows.now }) }
     {
         for row in rows {
@@ -73,7 +73,7 @@ impl Column {
 
     /// Codes the cell of one more row.
     pub fn push(&mut self, bytes: &[u8]) -> Result<(), AllocError>
-        requires { length self.old.cells < 1000000 }
+        requires { length self.old.cells < MOST_ROWS }
         ensures pushed { OnOk result (self.new ≡ record { nulls = self.old.nulls; cells = self.old.cells ++ bytes.now ∷ [] }) }
         ensures refused { OnErr result (self.new ≡ self.old) }
     {

@@ -5,7 +5,7 @@ ghost use Rattle.rel_base.specs.Cells.{cell};
 ghost use Rattle.rel_base.specs.RowState.{RowState, IsRowState, opened, width, next, row};
 ghost use Rattle.rel_base.specs.Validity.{agree_of};
 ghost use Rattle.rel_base.specs.Batches.{is_live, is_full, inserted, deleted, applied};
-ghost use Rattle.rel_base.specs.Laws.{IsAsWide};
+ghost use Rattle.rel_base.specs.Batches.{IsAsWide};
 ghost use Rattle.rel_base.specs.Shows.{Shows};
 ghost use Rattle.rel_base.specs.declared.batch.Op.TheVariants.{Insert, Delete, Update};
 ghost use Rattle.row_log.specs.Distinct.{AreDistinctCells};

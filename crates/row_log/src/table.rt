@@ -8,7 +8,7 @@ ghost use Rattle.row_log.specs.Table.{row_at, HasRow, column_at, with_cells};
 
 use crate::column::Column;
 use agree_sets::agree_codes;
-use rel_base::{Codes, ColSet, Nulls, Row};
+use rel_base::{COLUMN_PLACES, Codes, ColSet, MOST_COLUMNS, MOST_ROWS, Nulls, Row};
 use std::alloc::{AllocError, Global};
 
 // How many rows are coded together: so many stay in a processor's cache while the columns take their cells.
@@ -25,7 +25,7 @@ pub fn columns_of(
     width: usize,
 ) -> Result<Vec<Column>, AllocError>
     requires wide { All (λ row. length row ≡ width) rows.now }
-    requires few { length rows.now ≤ 1000000 }
+    requires few { length rows.now ≤ MOST_ROWS }
     ensures long { IfOk result (λ columns. length columns.items ≡ width) }
     ensures each { IfOk result (λ columns. (j : ℕ) → j < width → column_at columns.items j ≡ record { nulls = nulls; cells = map (λ row. cell row j) rows.now }) }
 {
@@ -59,7 +59,7 @@ fn empty_columns(
 // Codes the cells of more rows. After want of memory some columns have the cells of more rows than others.
 fn push_rows(columns: &mut [Column], rows: &[Row]) -> Result<(), AllocError>
     requires wide { All (λ row. length row ≡ length columns.old) rows.now }
-    requires few { (j : ℕ) → j < length columns.old → length (column_at columns.old j).cells + length rows.now ≤ 1000000 }
+    requires few { (j : ℕ) → j < length columns.old → length (column_at columns.old j).cells + length rows.now ≤ MOST_ROWS }
     ensures long { OnOk result (length columns.new ≡ length columns.old) }
     ensures each { OnOk result ((j : ℕ) → j < length columns.old → column_at columns.new j ≡ with_cells (column_at columns.old j) rows.now j) }
 {
@@ -73,7 +73,7 @@ fn push_rows(columns: &mut [Column], rows: &[Row]) -> Result<(), AllocError>
 pub fn push_row(columns: &mut [Column], rows: usize, row: &Row) -> Result<(), AllocError>
     requires wide { length row.now ≡ length columns.old }
     requires even { All (λ c. length c.cells ≡ rows) columns.old }
-    requires room { rows < 1000000 }
+    requires room { rows < MOST_ROWS }
     ensures pushed { OnOk result (HasRow columns.old row.now columns.new) }
     ensures refused { OnErr result (columns.new ≡ columns.old) }
 {
@@ -97,15 +97,15 @@ pub fn truncate_rows(columns: &mut [Column], rows: usize)
 
 /// The columns in which the rows at these places agree.
 pub fn agreement(columns: &[Column], nulls: Nulls, i: usize, j: usize) -> ColSet
-    requires narrow { length columns.now ≤ 128 }
+    requires narrow { length columns.now ≤ MOST_COLUMNS }
     requires read { All (λ c. c.nulls ≡ nulls) columns.now }
     requires first { All (λ c. i < length c.cells) columns.now }
     requires second { All (λ c. j < length c.cells) columns.now }
     requires apart { i ≢ j }
     ensures { result ≡ agree nulls (length columns.now) (row_at columns.now i) (row_at columns.now j) }
 {
-    let mut first = [0; 128];
-    let mut second = [0; 128];
+    let mut first = [0; COLUMN_PLACES];
+    let mut second = [0; COLUMN_PLACES];
     for (place, column) in columns.iter().enumerate() {
         let codes = column.codes();
         first[place] = codes[i];

@@ -8,7 +8,7 @@ ghost use Rattle.stripped_partition.specs.Groups.{cut, IsCut};
 ghost use Rattle.stripped_partition.specs.SplitBy.{least, differ};
 ghost use Rattle.stripped_partition.specs.Codes.{IsRecoded, IsTable};
 
-use rel_base::{RowNo, Snapshot};
+use rel_base::{MOST_ROWS, RowNo, Snapshot};
 use std::alloc::{AllocError, Global};
 
 // No group's place.
@@ -17,7 +17,7 @@ const NO_PLACE: u32 = u32::MAX;
 // The live rows, ascending.
 pub(crate) fn live_rows(alloc: Global, snapshot: &Snapshot) -> Result<Vec<RowNo>, AllocError>
     ensures rows { IfOk result (λ rows. rows.items ≡ live_numbers snapshot.now) }
-    ensures short { IfOk result (λ rows. vec_len rows ≤ 1000000) }
+    ensures short { IfOk result (λ rows. vec_len rows ≤ MOST_ROWS) }
 {
     let to = snapshot.to().number();
     let mut rows = Vec::with_capacity(alloc, to as usize)?;
@@ -50,7 +50,7 @@ pub(crate) fn codes_of(
 
 // How many of the codes are smaller, for each of them.
 fn ranks(alloc: Global, codes: &[u32]) -> Result<Vec<u32>, AllocError>
-    requires { length codes.now ≤ 1000000 }
+    requires { length codes.now ≤ MOST_ROWS }
     ensures { IfOk result (λ ranks. ranks.items ≡ map (λ c. count_by (λ d. nat_lt d c) codes.now) codes.now) }
 {
     let mut sorted = Vec::from_slice(alloc, codes)?;
@@ -64,7 +64,7 @@ fn ranks(alloc: Global, codes: &[u32]) -> Result<Vec<u32>, AllocError>
 
 // How many of the codes, which are sorted, are smaller than this one.
 fn rank(sorted: &[u32], code: u32) -> u32
-    requires short { length sorted.now ≤ 1000000 }
+    requires short { length sorted.now ≤ MOST_ROWS }
     requires sorted { IsNonDecreasing sorted.now }
     ensures { result ≡ count_by (λ d. nat_lt d code) sorted.now }
 {
@@ -80,7 +80,7 @@ pub(crate) fn greatest_code(codes: &[u32]) -> u32
 
 // Codes that are equal exactly where these are, and a bound of them that is not large for their number.
 pub(crate) fn dense(alloc: Global, codes: Vec<u32>) -> Result<(Vec<u32>, usize), AllocError>
-    requires { length codes.items ≤ 1000000 }
+    requires { length codes.items ≤ MOST_ROWS }
     ensures { IfOk result (λ r. IsRecoded codes.items r.0.items r.1) }
 {
     let greatest = greatest_code(&codes) as usize;
@@ -142,7 +142,7 @@ fn greatest_row(rows: &[RowNo]) -> usize
 fn mark_groups(table: &mut [u32], rows: &[RowNo], ends: &[u32])
     requires cut { IsCut rows.now ends.now }
     requires within { All (λ row. row < length table.old) rows.now }
-    requires none { All (λ place. place ≡ 4294967295) table.old }
+    requires none { All (λ place. place ≡ u32.MAX) table.old }
     ensures { IsTable (cut 0 rows.now ends.now) table.new }
 {
     let mut start = 0;
@@ -159,7 +159,7 @@ pub(crate) fn places_of(
     table: &[u32],
     rows: &[RowNo],
 ) -> Result<Vec<u32>, AllocError>
-    ensures { IfOk result (λ places. places.items ≡ map (λ row. slice_index_or table.now row (4294967295)) rows.now) }
+    ensures { IfOk result (λ places. places.items ≡ map (λ row. slice_index_or table.now row (u32.MAX)) rows.now) }
 {
     let mut places = Vec::with_capacity(alloc, rows.len())?;
     for row in rows {

@@ -4,7 +4,7 @@ ghost use Rattle.std.specs.List.{concat};
 ghost use Rattle.stripped_partition.specs.Groups.{cut, start_at, ends_of, IsCut, IsFlat};
 ghost use Rattle.stripped_partition.specs.Splits.{parts, Places};
 
-use rel_base::RowNo;
+use rel_base::{MOST_ROWS, RowNo};
 use std::alloc::{AllocError, Global};
 
 // Groups of rows, one after another.
@@ -88,7 +88,7 @@ fn split_group(
     rows: &[RowNo],
     codes: &[u32],
 ) -> Result<(), AllocError>
-    requires short { vec_len groups.old.rows + length rows.now ≤ 1000000 }
+    requires short { vec_len groups.old.rows + length rows.now ≤ MOST_ROWS }
     requires coded { length codes.now ≡ length rows.now }
     requires clear { slots.old ≡ replicate (length slots.old) 0 }
     ensures rows { OnOk result (groups.new.rows.items ≡ groups.old.rows.items ++ concat (parts (length slots.old) (zip rows.now codes.now))) }

@@ -7,7 +7,7 @@ ghost use Rattle.stripped_partition.specs.Groups.{cut, IsCut, IsFlat};
 ghost use Rattle.stripped_partition.specs.Order.{Ahead, IsInOrder, key_of, group_at};
 
 use crate::groups::{Groups, start_of};
-use rel_base::RowNo;
+use rel_base::{MOST_ROWS, RowNo};
 use std::alloc::{AllocError, Global};
 
 // A key is a group's first row times this, and its place.
@@ -65,7 +65,7 @@ fn keys_of(alloc: Global, groups: &Groups) -> Result<Vec<u64>, AllocError>
 fn push_group(laid: &mut Groups, groups: &Groups, k: usize) -> Result<(), AllocError>
     requires cut { IsCut groups.now.rows.items groups.now.ends.items }
     requires place { k < vec_len groups.now.ends }
-    requires short { vec_len laid.old.rows + length (slice_index_or (cut 0 groups.now.rows.items groups.now.ends.items) k []) ≤ 1000000 }
+    requires short { vec_len laid.old.rows + length (slice_index_or (cut 0 groups.now.rows.items groups.now.ends.items) k []) ≤ MOST_ROWS }
     ensures rows { OnOk result (laid.new.rows.items ≡ laid.old.rows.items ++ slice_index_or (cut 0 groups.now.rows.items groups.now.ends.items) k []) }
     ensures ends { OnOk result (laid.new.ends.items ≡ laid.old.ends.items ++ (vec_len laid.old.rows + length (slice_index_or (cut 0 groups.now.rows.items groups.now.ends.items) k [])) ∷ []) }
 {
@@ -80,7 +80,7 @@ fn push_group(laid: &mut Groups, groups: &Groups, k: usize) -> Result<(), AllocE
 fn laid_out(alloc: Global, groups: &Groups, keys: &[u64]) -> Result<Groups, AllocError>
     requires cut { IsCut groups.now.rows.items groups.now.ends.items }
     requires places { All (λ key. key % 2 ^ 32 < vec_len groups.now.ends) keys.now }
-    requires short { sum_by (λ key. length (group_at (cut 0 groups.now.rows.items groups.now.ends.items) key)) keys.now ≤ 1000000 }
+    requires short { sum_by (λ key. length (group_at (cut 0 groups.now.rows.items groups.now.ends.items) key)) keys.now ≤ MOST_ROWS }
     ensures { IfOk result (λ laid. IsFlat laid.rows.items laid.ends.items (map (group_at (cut 0 groups.now.rows.items groups.now.ends.items)) keys.now)) }
 {
     let mut laid = Groups {

@@ -11,7 +11,7 @@ ghost use Rattle.validator.specs.declared.shelf.Kept.{Kept};
 use crate::walk::{self, Question};
 use col_set::ColSet;
 use indexmap::IndexMap;
-use rel_base::{Job, RowNo, Snapshot, Steps};
+use rel_base::{COLUMN_PLACES, Job, MOST_COLUMNS, RowNo, Snapshot, Steps};
 use std::alloc::{AllocError, Global};
 use std::hash::{BuildHasherDefault, DefaultHasher};
 use std::sync::ledger::Ledger;
@@ -45,7 +45,7 @@ type Places = IndexMap<ColSet, usize, BuildHasherDefault<DefaultHasher>>;
 #[derive(Drop)]
 pub(crate) struct Shelf {
     pub(crate) kept: Vec<Kept>,
-    pub(crate) weights: [u32; 128],
+    pub(crate) weights: [u32; COLUMN_PLACES],
     places: Places,
     settled: usize,
     rows: usize,
@@ -74,11 +74,11 @@ fn place_of(kept: &[Kept], places: &Places, columns: ColSet) -> Option<usize>
 }
 
 // The column of these that tells the most rows apart, as far as that is known.
-fn lightest(columns: ColSet, first: u8, weights: &[u32; 128]) -> u8
+fn lightest(columns: ColSet, first: u8, weights: &[u32; COLUMN_PLACES]) -> u8
     requires first { has columns first ≡ true }
-    requires bound { first < 128 }
+    requires bound { first < MOST_COLUMNS }
     ensures column { has columns result ≡ true }
-    ensures bound { result < 128 }
+    ensures bound { result < MOST_COLUMNS }
 {
     let mut best = first;
     let mut left = columns;
@@ -104,7 +104,7 @@ fn push_refined(
     requires clear { IsClear slots.old.items }
     requires place { k < vec_len kept.old }
     requires column { column < length snapshot.now.codes }
-    requires bound { column < 128 }
+    requires bound { column < MOST_COLUMNS }
     ensures kept { AreKept snapshot.now kept.new.items }
     ensures len { OnOk result (vec_len kept.new ≡ vec_len kept.old + 1) }
     ensures columns { OnOk result ((d : Kept) → (slice_index_or kept.new.items (vec_len kept.old) d).columns ≡ with (slice_index_or kept.old.items k d).columns column) }
@@ -131,7 +131,7 @@ fn push_column(
 ) -> Result<u32, AllocError>
     requires kept { AreKept snapshot.now kept.old.items }
     requires column { column < length snapshot.now.codes }
-    requires bound { column < 128 }
+    requires bound { column < MOST_COLUMNS }
     ensures kept { AreKept snapshot.now kept.new.items }
     ensures weight { IfOk result (λ weight. weight ≡ weight_of snapshot.now column) }
 {
@@ -169,7 +169,7 @@ fn push_all(alloc: Global, snapshot: &Snapshot, kept: &mut Vec<Kept>) -> Result<
 fn lightest_kept(
     kept: &[Kept],
     places: &Places,
-    weights: &[u32; 128],
+    weights: &[u32; COLUMN_PLACES],
     columns: ColSet,
 ) -> Option<usize>
     ensures place { IfSome result (λ k. k < length kept.now) }
@@ -221,7 +221,7 @@ fn refine_kept(
     alloc: Global,
     snapshot: &Snapshot,
     kept: &mut Vec<Kept>,
-    weights: &[u32; 128],
+    weights: &[u32; COLUMN_PLACES],
     slots: &mut Vec<u32>,
     base: usize,
     columns: ColSet,
@@ -257,10 +257,10 @@ fn note(places: &mut Places, columns: ColSet, k: usize) -> bool {
 }
 
 // No column's weight is known.
-fn no_weights() -> [u32; 128]
+fn no_weights() -> [u32; COLUMN_PLACES]
     ensures { (s : CodeTable) → AreWeights s result }
 {
-    [UNKNOWN; 128]
+    [UNKNOWN; COLUMN_PLACES]
 }
 
 impl Shelf {
@@ -314,7 +314,7 @@ impl Shelf {
         &mut self,
         alloc: Global,
         snapshot: &Snapshot,
-    ) -> Result<[u32; 128], AllocError>
+    ) -> Result<[u32; COLUMN_PLACES], AllocError>
         requires kept { AreKept snapshot.now self.old.kept.items }
         requires weights { AreWeights snapshot.now self.old.weights }
         ensures kept { AreKept snapshot.now self.new.kept.items }
@@ -359,7 +359,7 @@ impl Shelf {
         requires kept { AreKept snapshot.now self.old.kept.items }
         requires weights { AreWeights snapshot.now self.old.weights }
         requires column { column < length snapshot.now.codes }
-        requires bound { column < 128 }
+        requires bound { column < MOST_COLUMNS }
         ensures kept { AreKept snapshot.now self.new.kept.items }
         ensures weights { AreWeights snapshot.now self.new.weights }
         ensures known { OnOk result (self.new.weights ≡ slice_set self.old.weights column (weight_of snapshot.now column)) }

@@ -9,7 +9,7 @@ ghost use Rattle.validator.specs.declared.verdict.Verdict.TheVariants.{Holds, Br
 
 use crate::shelf::Shelf;
 use crate::{Verdict, judge};
-use rel_base::{Job, RowNo, Snapshot, Steps};
+use rel_base::{COLUMN_PLACES, Job, RowNo, Snapshot, Steps};
 use std::alloc::{AllocError, Global};
 use std::marker::Model;
 use std::sync::Arc;
@@ -122,7 +122,7 @@ impl Store {
     /// It makes the partition by each column that no verdict asked for yet, by a pass over all live rows, and keeps those that may
     /// stay; a second call makes none. It lets go of the path if it makes any. After want of memory the store is as useful as
     /// before.
-    pub fn weights(&mut self, alloc: Global) -> Result<[u32; 128], AllocError>
+    pub fn weights(&mut self, alloc: Global) -> Result<[u32; COLUMN_PLACES], AllocError>
         ensures weights { IfOk result (λ weights. (column : ℕ) → column < length self.old.codes → slice_index weights column ≡ error_of (stripped self.old (with empty column))) }
         ensures store { self.new ≡ self.old }
     {

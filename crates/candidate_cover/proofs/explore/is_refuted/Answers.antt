@@ -5,8 +5,8 @@ use Rattle.candidate_cover.proofs.explore.is_refuted.Goals as goal
 pub loop-w-init : goal.loop-w-init
 loop-w-init g c = nothing_refuted c.args.target c.args.x
 
-pub returns-then-tells : goal.returns-then-tells
-returns-then-tells g c = is_told c.args.agree_sets.now c.args.target c.args.x c.loop-w.w-index c.w-item.result c.loop-w-test.true c.w-item.is (sym c.if-tells.ensures)
+pub returns-then-refutes : goal.returns-then-refutes
+returns-then-refutes g c = is_told c.args.agree_sets.now c.args.target c.args.x c.loop-w.w-index c.w-item.result c.loop-w-test.true c.w-item.is (sym c.if-refutes.ensures)
 
 pub loop-w-preserved : goal.loop-w-preserved
-loop-w-preserved g c = still_stands c.args.agree_sets.now c.args.target c.args.x c.loop-w.w-index c.w-item.result c.loop-w-test.true c.w-item.is (sym c.if-tells.ensures) c.loop-w.invariant
+loop-w-preserved g c = still_stands c.args.agree_sets.now c.args.target c.args.x c.loop-w.w-index c.w-item.result c.loop-w-test.true c.w-item.is (sym c.if-refutes.ensures) c.loop-w.invariant

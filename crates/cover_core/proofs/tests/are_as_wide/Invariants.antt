@@ -1,6 +1,6 @@
 use Rattle.std.proofs.Common.{◌<◌, ℕ, get_or}
 use Rattle.rel_base.specs.declared.batch.Op.{Op}
-use Rattle.rel_base.specs.Laws.{IsAsWide}
+use Rattle.rel_base.specs.Batches.{IsAsWide}
 use Rattle.cover_core.proofs.tests.are_as_wide.Given as goal
 
 abbrev pub invariant-loop-op : goal.invariant-loop-op

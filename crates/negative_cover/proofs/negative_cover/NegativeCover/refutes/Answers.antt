@@ -5,10 +5,10 @@ use Rattle.negative_cover.specs.Witnesses.{sets_of}
 use Rattle.negative_cover.proofs.Parting.{told_refuted, untold}
 use Rattle.negative_cover.proofs.negative_cover.NegativeCover.refutes.Goals as goal
 
-pub returns-then-parts-clause-none : goal.returns-then-parts-clause-none
-returns-then-parts-clause-none c =
+pub returns-then-refutes-clause-none : goal.returns-then-refutes-clause-none
+returns-then-refutes-clause-none c =
     let e = ap (λ ws. refuted (sets_of ws) c.args.target c.args.x) (sym (c.as_slice-witness-items.ensures.value ∙ c.self.view_is))
-    ∙ told_refuted c.args.target c.args.x c.as_slice-witness-items.result.now c.loop-witness.witness-index c.witness-item.result c.loop-witness-test.true c.witness-item.is (sym c.if-parts.ensures) in
+    ∙ told_refuted c.args.target c.args.x c.as_slice-witness-items.result.now c.loop-witness.witness-index c.witness-item.result c.loop-witness-test.true c.witness-item.is (sym c.if-refutes.ensures) in
     ((λ h. absurd (true≢false h)), (λ h. absurd (true≢false (sym e ∙ h))))
 
 pub returns-clause-none : goal.returns-clause-none

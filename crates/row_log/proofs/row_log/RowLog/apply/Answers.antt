@@ -1,7 +1,7 @@
 use Rattle.std.proofs.Common.{◌∙◌, List, take, Ok, sym, ap, subst, arith}
 use Rattle.std.specs.List.{All}
 use Rattle.rel_base.specs.declared.batch.Op.{Op}
-use Rattle.rel_base.specs.Laws.{IsAsWide}
+use Rattle.rel_base.specs.Batches.{IsAsWide}
 use Rattle.rel_base.specs.RowState.{width}
 use Rattle.rel_base.specs.Batches.{applied}
 use Rattle.row_log.specs.Applying.{LeadsFrom}
