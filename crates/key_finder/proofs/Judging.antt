@@ -1,17 +1,18 @@
 -- Rounds of candidates: what a round finds, that later rounds have fewer sets left, and that the last one has the keys.
-use Rattle.std.proofs.Common.{inl, inr, ◌≡◌, ◌≢◌, ◌⊎◌, ℕ, suc, ◌+◌, ◌^◌, ◌<◌, ◌≤◌, Bool, true, false, cond, not, ◌&&◌, ◌||◌, eqb, refl, sym, ap, ◌∙◌, subst, arith, List, [], ◌∷◌, ◌++◌, length, get_or, take, Option, Some, None, option_map, find, unwrap_or}
-use Rattle.std.specs.List.{All, filter, list_any, Contains}
+use Rattle.std.proofs.Common.{inl, inr, ◌≡◌, ◌≢◌, ◌⊎◌, ℕ, suc, ◌+◌, ◌^◌, ◌<◌, ◌≤◌, Bool, true, false, cond, not, ◌&&◌, ◌||◌, eqb, refl, sym, ap, ◌∙◌, subst, arith, List, [], ◌∷◌, ◌++◌, length, get_or, take, Equal, Result, Ok, Err, is_ok, IfOk, Option, Some, None, option_map, find, unwrap_or}
+use Rattle.std.specs.List.{All, filter, list_any, Contains, HoldsAt}
+use Rattle.std.specs.List.Sorted.{IsSearchInRange}
 use Rattle.std.proofs.lemmas.Bool.{and_parts, and_from, true≢false, false≢true, not-true, not_from_false, false_from_ne_true, or_left, cases_eq, eq-eqb, eqb-true, ne_eqb}
 use Rattle.std.proofs.lemmas.Option.{same_Some, none-some}
 use Rattle.std.proofs.lemmas.List.{take_more, take_all}
 use Rattle.col_set.specs.declared.target.Target.TheVariants.{Col}
-use Rattle.col_set.specs.ColSet.{IsSubset, has, without, minus, first, columns, subset, all_sets}
+use Rattle.col_set.specs.ColSet.{IsSubset, has, without, minus, first, columns, subset, report_cmp, all_sets}
 use Rattle.col_set.specs.Target.{has_target}
 use Rattle.col_set.specs.Minimal.{is_minimal, IsMinimal}
 use Rattle.col_set.specs.Members.{has-minus, has-without}
 use Rattle.col_set.specs.Subsets.{IsSubset-trans, same_test, subset-true, true-subset, subset_below, has_within}
 use Rattle.col_set.specs.Lists.{Listed, Listed-append_left, Listed-append_right, Listed-append_cases, Listed-filter, Listed-filter_parts, filter_same, list_any_at, list_any_which}
-use Rattle.col_set.specs.AllSets.{Listed-all_sets, all_sets_below}
+use Rattle.col_set.specs.AllSets.{Listed-all_sets, all_sets_below, report_cmp-same}
 use Rattle.col_set.proofs.EachColumn.{first-Some, first-None, Listed-columns}
 use Rattle.col_set.proofs.Minimal.{IsMinimal-from_test, test_from_IsMinimal, minimal_below}
 use Rattle.col_set.proofs.Places.{Contains-listed, Listed-contained, Listed-get_or}
@@ -47,6 +48,19 @@ module _ {X : Type 0} where
       by : (b : Bool) → p y ≡ b → (b || list_any p xs) ≡ true → (list_any p xs ≡ true → (x : X) × (find p xs ≡ Some x)) → (x : X) × (cond b (Some y) (find p xs) ≡ Some x)
       by true i g rest = (y, refl)
       by false i g rest = rest g
+
+-- ---- what a search by halves finds
+pub found-held : (held : List ℕ) (set : ℕ) (found : Result ℕ ℕ) → is_ok found ≡ true → IsSearchInRange found (length held) → IfOk found (HoldsAt (λ y. report_cmp y set ≡ Equal) held) → Contains held set
+found-held held set (Ok k) e b h = (k, b, report_cmp-same (get_or held k set) set (h set))
+found-held held set (Err k) e b h = absurd (false≢true e)
+
+-- what the length says of a list
+pub none_left : (n : ℕ) (xs : List ℕ) → n ≡ length xs → eqb n 0 ≡ true → xs ≡ []
+none_left n [] e f = refl
+none_left n (x ∷ xs) e f = let i : n ≡ 0 = eqb-true n 0 f in absurd (omega arith)
+
+pub some_left : (n : ℕ) (xs : List ℕ) → n ≡ length xs → eqb n 0 ≡ false → xs ≡ [] → ⊥
+some_left n xs e f i = let z : length xs ≡ 0 = ap length i in true≢false (sym (eq-eqb n 0 (omega arith)) ∙ f)
 
 -- ---- a pair that a column splits off
 module _ (s : CodeTable) (x a : ℕ) where

@@ -5,11 +5,25 @@ use Rattle.std.proofs.lemmas.Bool.{and_parts, and_from, true≢false, false≢tr
 use Rattle.col_set.specs.ColSet.{IsSubset, has, with, without, minus, first, columns, empty}
 use Rattle.col_set.specs.Members.{has-empty, has-minus, has-with, has-without, same_set}
 use Rattle.col_set.specs.Subsets.{IsSubset-with, has-with_itself, same_test, has_within}
-use Rattle.col_set.specs.Lists.{Listed}
+use Rattle.col_set.specs.Lists.{Listed, Listed-append_left, Listed-append_cases}
 use Rattle.col_set.proofs.EachColumn.{first-Some, first-None, Listed-columns}
 use Rattle.rel_base.specs.CodeTable.{CodeTable}
+use Rattle.rel_base.proofs.States.{All-listed, All-from}
 use Rattle.key_finder.specs.declared.levels.Level.{Level}
 use Rattle.key_finder.specs.Levels.{IsLevel}
+
+-- ---- lists of levels
+module _ {X : Type 0} (P : X → Type 0) where
+  pub All-front : (xs ys zs : List X) → zs ≡ xs ++ ys → All P zs → All P xs
+  All-front xs ys zs e a = All-from P xs (λ x l. All-listed P x zs a (subst (Listed x) (sym e) (Listed-append_left x xs ys l)))
+
+  pub All-back : (xs : List X) (x : X) (zs : List X) → zs ≡ xs ++ x ∷ [] → All P xs → P x → All P zs
+  All-back xs x zs e a p = All-from P zs (λ y l. at y (Listed-append_cases y xs (x ∷ []) (subst (Listed y) e l)))
+    where
+      at : (y : X) → Listed y xs ⊎ Listed y (x ∷ []) → P y
+      at y (inl l) = All-listed P y xs a l
+      at y (inr (inl i)) = subst P (sym i) p
+      at y (inr (inr l)) = absurd l
 
 -- a level on the way to these columns
 pub record Underway (s : CodeTable) (columns : ℕ) (level : Level) (left : ℕ) (levels : List Level) : Type 0 where
@@ -20,8 +34,8 @@ pub record Underway (s : CodeTable) (columns : ℕ) (level : Level) (left : ℕ)
   pub rest : IsSubset left columns
   pub whole : (k : ℕ) → has columns k ≡ true → (has level.columns k ≡ true) ⊎ (has left k ≡ true)
 
-pub no_columns : (s : CodeTable) (x columns : ℕ) → x ≡ empty → IsSubset x columns
-no_columns s x columns e = record { each = λ k h. absurd (false≢true (sym (has-empty k) ∙ ap (λ (z : ℕ). has z k) (sym e) ∙ h)) }
+pub no_columns : (x columns : ℕ) → x ≡ empty → IsSubset x columns
+no_columns x columns e = record { each = λ k h. absurd (false≢true (sym (has-empty k) ∙ ap (λ (z : ℕ). has z k) (sym e) ∙ h)) }
 
 module _ (s : CodeTable) (columns : ℕ) where
   pub underway_start : (level : Level) (left : ℕ) (path : List Level) → IsLevel s level → IsSubset level.columns columns → All (IsLevel s) path → columns < 2 ^ length s.codes → left ≡ minus columns level.columns → Underway s columns level left path

@@ -18,9 +18,9 @@ use Rattle.rel_base.specs.declared.dependency.Fd.{Fd}
 use Rattle.rel_base.specs.CodeTable.{CodeTable}
 use Rattle.rel_base.specs.RowState.{RowState, IsRowState, width}
 use Rattle.rel_base.specs.Validity.{agree_sets, holds, determined}
-use Rattle.rel_base.specs.Covers.{CoverLists, fds_to, covers}
+use Rattle.rel_base.specs.Covers.{CoverLists, fds_to, covers, least_covers}
 use Rattle.rel_base.specs.Shows.{Shows, code_agree_sets}
-use Rattle.rel_base.specs.Laws.{least_covers}
+
 use Rattle.rel_base.proofs.Minima.{covers-least}
 use Rattle.rel_base.proofs.Shown.{code_agree_sets-shown}
 use Rattle.rel_base.proofs.Valid.{determined-at, determined-from}

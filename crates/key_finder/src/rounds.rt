@@ -46,8 +46,8 @@ fn disproofs(
     let mut found = Vec::new(alloc);
     let mut left = columns.minus(level.columns);
     while let Some(column) = left.first() {
-        if let Some((i, j)) = level.partition.splits_by(snapshot, column) {
-            found.push(agree(snapshot, i, j))?;
+        if let Some(pair) = level.partition.splits_by(snapshot, column) {
+            found.push(agree(snapshot, pair.0, pair.1))?;
         }
         left = left.without(column);
     }
