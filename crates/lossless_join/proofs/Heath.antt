@@ -132,7 +132,7 @@ matched-left ts us p m = record { each = λ u l. m.each u (Contains-listed u (ts
 matched-right : (ts us : List TableRows) (p : Row) → IsMatched (ts ++ us) p → IsMatched us p
 matched-right ts us p m = record { each = λ u l. m.each u (Contains-listed u (ts ++ us) (Listed-append_right u ts us (Listed-contained u us l))) }
 
-columns_of-append : (ts us : List TableRows) → columns_of (ts ++ us) ≡ union (columns_of ts) (columns_of us)
+pub columns_of-append : (ts us : List TableRows) → columns_of (ts ++ us) ≡ union (columns_of ts) (columns_of us)
 unfolding columns_of
 columns_of-append [] us = same_set _ _ (λ k. sym (has-union empty (columns_of us) k ∙ ap (λ b. b || has (columns_of us) k) (has-empty k)))
 columns_of-append (t ∷ ts) us = ap (union t.columns) (columns_of-append ts us) ∙ same_set _ _ (λ k.
@@ -144,7 +144,7 @@ columns_of-append (t ∷ ts) us = ap (union t.columns) (columns_of-append ts us)
     regroup true b c = refl
     regroup false b c = refl
 
-columns_of-one : (t : TableRows) → columns_of (t ∷ []) ≡ t.columns
+pub columns_of-one : (t : TableRows) → columns_of (t ∷ []) ≡ t.columns
 unfolding columns_of
 columns_of-one t = same_set _ _ (λ k. has-union t.columns empty k ∙ ap (λ b. has t.columns k || b) (has-empty k) ∙ or_false (has t.columns k))
   where
@@ -157,7 +157,7 @@ map-append f [] ys = refl
 map-append f (x ∷ xs) ys = ap (λ (ts : List TableRows). f x ∷ ts) (map-append f xs ys)
 
 -- ---- all columns
-reads : (q rest : Row) (a : ℕ) → ((k : ℕ) → get_or q (a + k) [] ≡ get_or rest k []) → map (λ k. get_or q k []) (range_with_len a (length rest)) ≡ rest
+pub reads : (q rest : Row) (a : ℕ) → ((k : ℕ) → get_or q (a + k) [] ≡ get_or rest k []) → map (λ k. get_or q k []) (range_with_len a (length rest)) ≡ rest
 reads q [] a h = refl
 reads q (c ∷ rest) a h = ap₂ (λ (x : Cell) (xs : Row). x ∷ xs)
     (let e : a ≡ a + 0 = omega arith in ap (λ (k : ℕ). get_or q k []) e ∙ h 0)

@@ -41,7 +41,7 @@ pub projection-part : (r : RowState) (s i : ℕ) → Contains r.live i → Conta
 projection-part r s i h = ((ProjectionMeans-projection r s).parts (part s (row r i))).1 (i, h, refl)
 
 -- ---- each two of a list
-abbrev Apart : List Row → Type 0
+abbrev pub Apart : List Row → Type 0
 Apart [] = Unit {0}
 Apart (x ∷ xs) = ((y : Row) → Listed y xs → x ≢ y) × Apart xs
 
@@ -65,14 +65,14 @@ Apart-projection : (r : RowState) (s : ℕ) → Apart (projection r s)
 Apart-projection r s = Apart-from _ (ProjectionMeans-projection r s).once
 
 -- two rows are equal or not
-same_row-true : (a b : Row) → same_row a b ≡ true → a ≡ b
+pub same_row-true : (a b : Row) → same_row a b ≡ true → a ≡ b
 same_row-true [] [] e = refl
 same_row-true [] (y ∷ ys) e = absurd (false≢true e)
 same_row-true (x ∷ xs) [] e = absurd (false≢true e)
 same_row-true (x ∷ xs) (y ∷ ys) e = let w = and_parts (same_cell x y) (same_row xs ys) e in
     ap₂ (λ (z : Cell) (zs : Row). z ∷ zs) (same_cell-true x y w.0) (same_row-true xs ys w.1)
 
-same_row-itself : (a : Row) → same_row a a ≡ true
+pub same_row-itself : (a : Row) → same_row a a ≡ true
 same_row-itself [] = refl
 same_row-itself (x ∷ xs) = and_from _ _ (true-same_cell x x refl) (same_row-itself xs)
 

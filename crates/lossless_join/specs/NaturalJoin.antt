@@ -1,7 +1,7 @@
 -- The natural join of tables, as a relation on rows (Codd, 1970).
-use Rattle.std.specs.Prelude.{◌≡◌, ◌≢◌, ◌↔◌, ℕ, List, [], ◌∷◌, length}
+use Rattle.std.specs.Prelude.{◌≡◌, ◌≢◌, ◌↔◌, ◌<◌, ℕ, List, [], ◌∷◌, length}
 use Rattle.std.specs.List.{All, AllPairs, Contains}
-use Rattle.col_set.specs.ColSet.{Columns, empty, union, size}
+use Rattle.col_set.specs.ColSet.{Columns, empty, all, union, size}
 use Rattle.rel_base.specs.Cells.{Row}
 use Rattle.rel_base.specs.Projection.{part}
 
@@ -22,6 +22,11 @@ columns_of (t ∷ ts) = union t.columns (columns_of ts)
 -- how many columns they have together
 abbrev pub width_of : List TableRows → ℕ
 width_of tables = size (columns_of tables)
+
+-- they are the first so many columns, at least one
+pub record AreWhole (tables : List TableRows) : Type 0 where
+  pub some : 0 < width_of tables
+  pub columns : columns_of tables ≡ all (width_of tables)
 
 -- the row's part on each table's columns is a row of that table
 pub record IsMatched (tables : List TableRows) (row : Row) : Type 0 where
