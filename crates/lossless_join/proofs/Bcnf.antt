@@ -1,10 +1,10 @@
 -- The split to BCNF is one lossless split after another.
-use Rattle.std.proofs.Common.{inl, inr, ◌≡◌, ◌⊎◌, ℕ, zero, suc, ◌+◌, ◌<◌, ◌≤◌, ◌^◌, eqb, Bool, true, false, not, ◌&&◌, ◌||◌, refl, sym, ap, ◌∙◌, subst, arith, List, [], ◌∷◌, ◌++◌, Option, Some, None}
-use Rattle.std.specs.List.{filter, find, list_any}
+use Rattle.std.proofs.Common.{◌≡◌, ℕ, zero, suc, true, false, not, ◌&&◌, refl, sym, ◌∙◌, [], ◌∷◌, ◌++◌, Option, Some, None}
+use Rattle.std.specs.List.{list_any}
 use Rattle.std.proofs.lemmas.Bool.{and_parts, true≢false, not-true}
 use Rattle.col_set.specs.declared.target.Target.TheVariants.{Col}
-use Rattle.col_set.specs.ColSet.{Columns, IsSubset, empty, has, all, inter, minus, union, subset, set_of, upto, columns, all_sets}
-use Rattle.col_set.specs.Lists.{Listed, Listed-filter_parts}
+use Rattle.col_set.specs.ColSet.{IsSubset, has, all, inter, minus, union, subset, upto, columns, all_sets}
+use Rattle.col_set.specs.Lists.{Listed-filter_parts}
 use Rattle.col_set.specs.Members.{has-empty, has-inter, has-minus, same_set}
 use Rattle.col_set.specs.Subsets.{same_test, subset-true}
 use Rattle.col_set.specs.AllSets.{set_of-has}
@@ -12,7 +12,7 @@ use Rattle.rel_base.specs.declared.nulls.Nulls.TheVariants.{Equal}
 use Rattle.rel_base.specs.RowState.{RowState, IsRowState, width}
 use Rattle.rel_base.proofs.States.{live_climbs}
 use Rattle.rel_base.specs.Validity.{holds}
-use Rattle.fd_closure.specs.Determined.{determined_columns, determines_all}
+use Rattle.fd_closure.specs.Determined.{determined_columns}
 use Rattle.bcnf_split.specs.Bcnf.{violates, first_violation}
 use Rattle.bcnf_split.proofs.Found.{find_passes}
 use Rattle.bcnf_split.proofs.Splitting.{SplitMeans-splits}

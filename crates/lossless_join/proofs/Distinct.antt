@@ -1,7 +1,7 @@
 -- Rows that are added to a set one after another are the distinct ones.
-use Rattle.std.proofs.Common.{inl, inr, ◌≡◌, ◌≢◌, ◌⊎◌, ℕ, zero, suc, arith, Bool, true, false, cond, not, ◌&&◌, ◌||◌, refl, sym, ap, ap₂, ◌∙◌, subst, List, [], ◌∷◌, ◌++◌, map, length, get_or, take, ◌+◌, ◌<◌, append_assoc, append-nil}
+use Rattle.std.proofs.Common.{◌≡◌, ◌≢◌, ℕ, zero, suc, arith, Bool, true, false, cond, not, ◌||◌, refl, sym, ap, ap₂, ◌∙◌, subst, List, [], ◌∷◌, ◌++◌, map, length, get_or, take, ◌+◌, ◌<◌, append_assoc, append-nil}
 use Rattle.std.specs.List.{filter, flat_map, list_any, AllPairs}
-use Rattle.std.proofs.lemmas.Bool.{and_parts, and_from, true≢false, false≢true, or_cases, or_left, or_right, false_from_ne_true, not-true}
+use Rattle.std.proofs.lemmas.Bool.{true≢false, false_from_ne_true, not-true}
 use Rattle.std.proofs.lemmas.List.Elements.{filter-append}
 use Rattle.std.proofs.lemmas.List.{map-append, take_more}
 use Rattle.std.proofs.lemmas.List.Concat.{flat_map-append}
@@ -9,10 +9,8 @@ use Rattle.std.proofs.lemmas.List.Sums.{fold-append}
 use Rattle.indexmap.specs.IndexSet.{insert_key, insert_all}
 use Rattle.col_set.specs.Lists.{Listed, Listed-filter, Listed-filter_parts, list_any_at, list_any_which}
 use Rattle.col_set.proofs.Places.{Listed-get_or}
-use Rattle.rel_base.specs.Cells.{Cell, Row}
-use Rattle.rel_base.specs.Agreement.{same_cell}
+use Rattle.rel_base.specs.Cells.{Row}
 use Rattle.rel_base.specs.Projection.{part, same_row, distinct, projected}
-use Rattle.rel_base.proofs.Parts.{distinct-listed, Listed-distinct}
 use Rattle.lossless_join.proofs.Projected.{Apart, same_row-true, same_row-itself}
 
 pub same_row-symm : (a b : Row) → same_row a b ≡ true → same_row b a ≡ true

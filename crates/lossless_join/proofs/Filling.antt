@@ -1,8 +1,8 @@
 -- Rows that are filled cell by cell.
-use Rattle.std.proofs.Common.{inl, inr, ◌≡◌, ◌≢◌, ◌⊎◌, ℕ, zero, suc, ◌+◌, ◌-◌, ◌<◌, ◌≤◌, ◌^◌, eqb, ltb, Bool, true, false, cond, not, ◌&&◌, ◌||◌, refl, sym, ap, ap₂, ◌∙◌, subst, arith, List, [], ◌∷◌, ◌++◌, length, map, get_or, take, append_assoc, append-nil, replicate, Some, None}
+use Rattle.std.proofs.Common.{inl, inr, ◌≡◌, ℕ, zero, suc, ◌+◌, ◌<◌, ◌≤◌, eqb, ltb, Bool, true, false, cond, not, refl, sym, ap, ap₂, ◌∙◌, subst, arith, List, [], ◌∷◌, ◌++◌, length, map, get_or, append_assoc, append-nil, replicate, Some, None}
 use Rattle.std.specs.List.{filter, range_with_len}
-use Rattle.std.proofs.lemmas.Bool.{and_parts, and_from, true≢false, lt-ltb, le-ltb, ltb-true}
-use Rattle.std.proofs.lemmas.List.{map-append, take_more}
+use Rattle.std.proofs.lemmas.Bool.{and_parts, and_from, true≢false, le-ltb}
+use Rattle.std.proofs.lemmas.List.{map-append}
 use Rattle.std.proofs.lemmas.Cmp.{nat_cmp_total}
 use Rattle.col_set.specs.ColSet.{IsSubset, has, all, inter, without, size, first, columns, upto}
 use Rattle.col_set.specs.Lists.{Listed, Listed-filter, Listed-filter_parts}
@@ -10,7 +10,7 @@ use Rattle.col_set.specs.Members.{has-all, has-inter, has-without}
 use Rattle.col_set.specs.AllSets.{Ascends, Ascends_within}
 use Rattle.col_set.proofs.EachColumn.{first-Some, first-None, Listed-columns, columns-listed, Ascends-columns}
 use Rattle.col_set.proofs.Places.{Climbs, same_rising}
-use Rattle.rel_base.specs.Cells.{Cell, Row, cell}
+use Rattle.rel_base.specs.Cells.{Cell, Row}
 use Rattle.rel_base.proofs.States.{Rises-Climbs}
 use Rattle.rel_base.proofs.Valid.{Climbs-filter}
 use Rattle.lossless_join.specs.Parts.{part_cell}

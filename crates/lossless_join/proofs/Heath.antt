@@ -1,26 +1,26 @@
 -- Lossless splits: a projection is the natural join of the projections that it is split into.
-use Rattle.std.proofs.Common.{inl, inr, ◌≡◌, ◌≢◌, ◌⊎◌, ◌↔◌, ℕ, zero, suc, ◌^◌, ◌<◌, ◌+◌, ◌-◌, Bool, true, false, not, ◌&&◌, ◌||◌, refl, sym, ap, ap₂, ◌∙◌, subst, arith, List, [], ◌∷◌, ◌++◌, length, map, get_or, cond}
+use Rattle.std.proofs.Common.{inl, inr, ◌≡◌, ◌≢◌, ◌⊎◌, ℕ, suc, ◌^◌, ◌<◌, ◌+◌, ◌-◌, Bool, true, false, not, ◌||◌, refl, sym, ap, ap₂, ◌∙◌, subst, arith, List, [], ◌∷◌, ◌++◌, length, map, get_or, cond}
 use Rattle.std.specs.List.{Contains, filter, range_with_len}
 use Rattle.std.proofs.lemmas.Bool.{and_parts, and_from, true≢false, or_cases, or_left, or_right, cases_eq, lt-ltb}
 use Rattle.std.proofs.lemmas.Nat.{pow_pos}
 use Rattle.col_set.specs.declared.target.Target.TheVariants.{Col}
-use Rattle.col_set.specs.ColSet.{IsSubset, empty, has, all, inter, minus, union, columns, upto}
+use Rattle.col_set.specs.ColSet.{IsSubset, empty, has, all, minus, union, columns, upto}
 use Rattle.col_set.specs.Columns.{columns_below}
 use Rattle.col_set.specs.Target.{has_target}
 use Rattle.col_set.specs.Lists.{Listed, Listed-append_left, Listed-append_right, Listed-append_cases}
 use Rattle.col_set.specs.Members.{has-empty, has-all, has-inter, has-minus, has-union, same_set}
-use Rattle.col_set.specs.Subsets.{IsSubset-refl, same_test, subset_below, has_within}
+use Rattle.col_set.specs.Subsets.{same_test, subset_below, has_within}
 use Rattle.col_set.specs.AllSets.{Listed-upto_within}
 use Rattle.col_set.proofs.Places.{Contains-listed, Listed-contained}
 use Rattle.rel_base.specs.declared.nulls.Nulls.TheVariants.{Equal}
 use Rattle.rel_base.specs.Cells.{Cell, Row, cell}
 use Rattle.rel_base.specs.RowState.{RowState, IsRowState, width, row}
-use Rattle.rel_base.specs.Validity.{agree_of, holds, Holds}
+use Rattle.rel_base.specs.Validity.{agree_of}
 use Rattle.rel_base.specs.Projection.{part, projection, distinct_rows}
 use Rattle.rel_base.proofs.Parts.{ProjectionMeans-projection}
 use Rattle.rel_base.proofs.States.{live_positive, live_numbered}
 use Rattle.rel_base.proofs.Valid.{Holds-tested}
-use Rattle.lossless_join.specs.NaturalJoin.{TableRows, columns_of, IsMatched, IsJoined, IsNaturalJoin}
+use Rattle.lossless_join.specs.NaturalJoin.{TableRows, columns_of, IsMatched, IsNaturalJoin}
 use Rattle.lossless_join.specs.Lossless.{projection_table, IsJoinOf, IsLossless, SplitsInto}
 use Rattle.lossless_join.specs.Lossless.SplitsInto.{whole, parted}
 use Rattle.lossless_join.proofs.PartCells.{part-same, part-cells}
@@ -121,10 +121,12 @@ matched-rest : (t : TableRows) (ts : List TableRows) (p : Row) → IsMatched (t 
 matched-rest t ts p m = record { each = λ u l. m.each u (Contains-listed u (t ∷ ts) (inr (Listed-contained u ts l))) }
 
 matched-append : (ts us : List TableRows) (p : Row) → IsMatched ts p → IsMatched us p → IsMatched (ts ++ us) p
-matched-append ts us p m n = record { each = λ u l. elim (Listed-append_cases u ts us (Listed-contained u (ts ++ us) l)) as (λ _. Contains u.rows (part u.columns p)) [
-  | inl g ↦ m.each u (Contains-listed u ts g)
-  | inr g ↦ n.each u (Contains-listed u us g)
-] }
+matched-append ts us p m n = record {
+  each = λ u l. elim (Listed-append_cases u ts us (Listed-contained u (ts ++ us) l)) as (λ _. Contains u.rows (part u.columns p)) [
+    | inl g ↦ m.each u (Contains-listed u ts g)
+    | inr g ↦ n.each u (Contains-listed u us g)
+  ];
+}
 
 matched-left : (ts us : List TableRows) (p : Row) → IsMatched (ts ++ us) p → IsMatched ts p
 matched-left ts us p m = record { each = λ u l. m.each u (Contains-listed u (ts ++ us) (Listed-append_left u ts us (Listed-contained u ts l))) }

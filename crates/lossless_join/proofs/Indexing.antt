@@ -1,21 +1,21 @@
 -- One row more of an index.
-use Rattle.std.proofs.Common.{inl, inr, ◌≡◌, ◌≢◌, ◌⊎◌, ℕ, zero, suc, ◌+◌, ◌<◌, ◌≤◌, Bool, true, false, cond, not, ◌&&◌, ◌||◌, refl, sym, ap, ap₂, ◌∙◌, subst, arith, List, [], ◌∷◌, ◌++◌, length, map, get_or, append-nil, take, Option, Some, None}
+use Rattle.std.proofs.Common.{inl, inr, ◌≡◌, ◌≢◌, ℕ, zero, suc, ◌+◌, ◌<◌, ◌≤◌, Bool, true, false, cond, not, refl, sym, ap, ap₂, ◌∙◌, subst, arith, List, [], ◌∷◌, ◌++◌, length, map, get_or, append-nil, take, Some}
 use Rattle.std.proofs.Math.ListN.{set}
 use Rattle.std.specs.List.{filter, list_any, position, position_or_len}
-use Rattle.std.proofs.lemmas.Bool.{true≢false, false≢true, false_from_ne_true, eq-eqb}
+use Rattle.std.proofs.lemmas.Bool.{true≢false, false_from_ne_true}
 use Rattle.std.proofs.lemmas.List.{map-append, length-map, take_all}
 use Rattle.std.proofs.lemmas.List.Elements.{filter-append}
 use Rattle.std.proofs.lemmas.List.Quantifiers.{position-Some}
 use Rattle.indexmap.specs.IndexSet.{insert_key}
 use Rattle.col_set.specs.ColSet.{upto}
-use Rattle.col_set.specs.Lists.{Listed, Listed-map, Listed-filter_parts, list_any_at}
+use Rattle.col_set.specs.Lists.{Listed, Listed-map, Listed-filter_parts}
 use Rattle.col_set.specs.AllSets.{Listed-upto_within}
 use Rattle.col_set.proofs.Places.{Listed-get_or}
 use Rattle.rel_base.specs.Cells.{Row}
 use Rattle.rel_base.specs.Projection.{part, same_row, distinct}
 use Rattle.rel_base.proofs.Parts.{Listed-distinct}
 use Rattle.lossless_join.specs.NaturalJoin.{TableRows}
-use Rattle.lossless_join.specs.Joining.{row_at, places_of, merged_at, matches}
+use Rattle.lossless_join.specs.Joining.{places_of, merged_at, matches}
 use Rattle.lossless_join.specs.Indexed.{key_of, places_below, IsIndex}
 use Rattle.lossless_join.proofs.PartCells.{map_same}
 use Rattle.lossless_join.proofs.Projected.{Apart, same_row-true, same_row-itself}

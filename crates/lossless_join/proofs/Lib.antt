@@ -6,3 +6,4 @@ pub mod Filling
 pub mod Distinct
 pub mod Indexing
 pub mod Steps
+pub mod Plain

@@ -1,8 +1,8 @@
 -- The cells of parts of rows, when two parts are equal, and their agree sets.
-use Rattle.std.proofs.Common.{inl, inr, ◌≡◌, ◌≢◌, ℕ, suc, ◌+◌, ◌<◌, ◌≤◌, ltb, Bool, true, false, cond, refl, sym, ap, ap₂, ◌∙◌, subst, arith, List, [], ◌∷◌, length, map, get_or}
+use Rattle.std.proofs.Common.{inl, inr, ◌≡◌, ℕ, ◌+◌, ◌≤◌, ltb, true, false, cond, refl, sym, ap, ap₂, ◌∙◌, arith, List, [], ◌∷◌, length, map, get_or}
 use Rattle.std.specs.List.{filter}
 use Rattle.std.proofs.lemmas.Bool.{lt-ltb, le-ltb}
-use Rattle.col_set.specs.ColSet.{has, columns, set_of}
+use Rattle.col_set.specs.ColSet.{has, columns}
 use Rattle.col_set.specs.Lists.{Listed, Listed-filter, Listed-filter_parts}
 use Rattle.col_set.specs.AllSets.{Ascends, Ascends_within, set_of-has, has-set_of}
 use Rattle.col_set.proofs.EachColumn.{Listed-columns, columns-listed, Ascends-columns}

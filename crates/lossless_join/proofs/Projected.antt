@@ -1,31 +1,30 @@
 -- Dependencies and keys of a projection: what the tests mean, and what they have to do with the rows.
-use Rattle.std.proofs.Common.{inl, inr, ◌≡◌, ◌≢◌, ◌⊎◌, ◌↔◌, ℕ, ◌^◌, ◌<◌, suc, Bool, true, false, not, ◌&&◌, refl, sym, ap, ap₂, ◌∙◌, subst, arith, List, [], ◌∷◌, map}
-use Rattle.std.specs.List.{filter, Contains, AllPairs}
+use Rattle.std.proofs.Common.{inl, inr, ◌≡◌, ◌≢◌, ◌⊎◌, ℕ, ◌^◌, ◌<◌, suc, Bool, true, false, ◌&&◌, refl, sym, ap, ap₂, ◌∙◌, subst, arith, List, [], ◌∷◌, map}
+use Rattle.std.specs.List.{Contains, AllPairs}
 use Rattle.std.proofs.lemmas.Bool.{and_parts, and_from, true≢false, false≢true}
 use Rattle.col_set.specs.declared.target.Target.{Target}
 use Rattle.col_set.specs.declared.target.Target.TheVariants.{Col, RowId}
-use Rattle.col_set.specs.ColSet.{IsSubset, has, subset, columns, set_of, all_sets}
+use Rattle.col_set.specs.ColSet.{IsSubset, has, subset, all_sets}
 use Rattle.col_set.specs.Target.{has_target}
-use Rattle.col_set.specs.Minimal.{is_minimal, IsMinimal}
+use Rattle.col_set.specs.Minimal.{is_minimal}
 use Rattle.col_set.specs.Lists.{Listed, Listed-append_cases, Listed-map, Listed-map_which, Listed-filter, Listed-filter_parts}
 use Rattle.col_set.specs.Members.{same_set}
-use Rattle.col_set.specs.Subsets.{same_test, subset-true, true-subset, subset_below, has_within}
+use Rattle.col_set.specs.Subsets.{same_test, subset-true, true-subset, has_within}
 use Rattle.col_set.specs.AllSets.{Listed-all_sets}
 use Rattle.col_set.proofs.Minimal.{IsMinimal-from_test, test_from_IsMinimal}
 use Rattle.col_set.proofs.Places.{Contains-listed, Listed-contained}
 use Rattle.rel_base.specs.declared.nulls.Nulls.{Nulls}
 use Rattle.rel_base.specs.declared.nulls.Nulls.TheVariants.{Equal}
 use Rattle.rel_base.specs.Cells.{Cell, Row, cell}
-use Rattle.rel_base.specs.Agreement.{same_cell, Agrees, agree}
+use Rattle.rel_base.specs.Agreement.{same_cell, Agrees}
 use Rattle.rel_base.specs.RowState.{RowState, IsRowState, width, row}
-use Rattle.rel_base.specs.Validity.{agree_of, pairs, determined, holds, Holds}
-use Rattle.rel_base.specs.Projection.{part, same_row, distinct, projected, projection}
+use Rattle.rel_base.specs.Validity.{agree_of, pairs, holds, Holds}
+use Rattle.rel_base.specs.Projection.{part, same_row, projection}
 use Rattle.rel_base.proofs.Agree.{agree-parts, agree-from, same_cell-true, true-same_cell, Listed-pairs}
 use Rattle.rel_base.proofs.Parts.{ProjectionMeans-projection}
 use Rattle.rel_base.proofs.States.{live_climbs}
 use Rattle.rel_base.proofs.Valid.{determined-at, determined-from, Holds-tested, holds-true}
-use Rattle.lossless_join.specs.Parts.{part_cell, part_agree, part_agree_sets, projection_holds, ProjectionHolds, projection_keys, IsProjectionKey}
-use Rattle.lossless_join.specs.Lossless.{ProjectionTestsMean}
+use Rattle.lossless_join.specs.Parts.{part_agree, part_agree_sets, projection_holds, ProjectionHolds, projection_keys, IsProjectionKey}
 use Rattle.lossless_join.proofs.PartCells.{part-same, part-cells, part_agree-parts, part_agree-from, rows_agree-parts, rows_agree-from}
 
 -- ---- the parts of the live rows

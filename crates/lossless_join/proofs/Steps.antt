@@ -1,25 +1,24 @@
 -- One table more of a join.
-use Rattle.std.proofs.Common.{inl, inr, ◌≡◌, ◌≢◌, ◌⊎◌, ◌↔◌, ℕ, zero, suc, ◌+◌, ◌<◌, ◌≤◌, ◌^◌, Bool, true, false, cond, not, ◌&&◌, ◌||◌, ltb, refl, sym, ap, ap₂, ◌∙◌, subst, arith, List, [], ◌∷◌, ◌++◌, length, map, get_or, take, drop, replicate, Result, Ok, Err, IfOk, append_assoc, append-nil, if◌then◌else◌}
-use Rattle.std.specs.List.{All, AllPairs, Contains, filter, flat_map, range_with_len}
-use Rattle.std.proofs.lemmas.Bool.{and_parts, and_from, true≢false, false≢true, or_cases, or_left, or_right, cases_lt, lt-ltb, le-ltb}
+use Rattle.std.proofs.Common.{inl, inr, ◌≡◌, ◌≢◌, ◌⊎◌, ℕ, zero, suc, ◌+◌, ◌<◌, ◌≤◌, ◌^◌, Bool, true, false, cond, ◌||◌, ltb, refl, sym, ap, ap₂, ◌∙◌, subst, arith, List, [], ◌∷◌, ◌++◌, length, map, get_or, take, drop, replicate, Result, Ok, Err, IfOk, if◌then◌else◌}
+use Rattle.std.specs.List.{AllPairs, Contains, filter, flat_map, range_with_len}
+use Rattle.std.proofs.lemmas.Bool.{and_parts, and_from, true≢false, or_left, or_right, cases_lt, lt-ltb, le-ltb}
 use Rattle.std.proofs.lemmas.List.{length-map, take_more, take_all, take-append-drop}
-use Rattle.col_set.specs.ColSet.{IsSubset, empty, has, all, inter, union, size, columns, upto}
+use Rattle.col_set.specs.ColSet.{IsSubset, has, all, inter, union, size, columns, upto}
 use Rattle.col_set.specs.Lists.{Listed, Listed-append_cases, Listed-append_left, Listed-append_right, Listed-filter, Listed-filter_parts, Listed-flat_map, Listed-flat_map_which, Listed-map, Listed-map_which}
 use Rattle.col_set.specs.Members.{has-empty, has-all, has-inter, has-union}
-use Rattle.col_set.specs.Subsets.{has_within, below_from, subset_below}
+use Rattle.col_set.specs.Subsets.{has_within, subset_below}
 use Rattle.col_set.specs.AllSets.{Ascends, Ascends_within, Listed-upto, Listed-upto_within}
 use Rattle.col_set.proofs.EachColumn.{Listed-columns, columns-listed, Ascends-columns}
 use Rattle.col_set.proofs.Places.{Contains-listed, Listed-contained, Listed-get_or}
 use Rattle.rel_base.specs.Cells.{Cell, Row, cell}
-use Rattle.rel_base.specs.Projection.{part, same_row, distinct}
+use Rattle.rel_base.specs.Projection.{part, same_row}
 use Rattle.rel_base.proofs.Parts.{distinct-listed, Listed-distinct}
-use Rattle.rel_base.proofs.States.{All-listed, All-from}
-use Rattle.lossless_join.specs.NaturalJoin.{TableRows, IsFilled, columns_of, width_of, AreWhole, IsMatched, IsJoined, IsNaturalJoin}
+use Rattle.lossless_join.specs.NaturalJoin.{TableRows, IsFilled, columns_of, width_of, AreWhole, IsMatched, IsNaturalJoin}
 use Rattle.lossless_join.specs.Parts.{part_cell}
 use Rattle.lossless_join.specs.Joining.{part_within, merged_cell, merged, merged_at, row_at, places_of, matches, joined_with}
 use Rattle.lossless_join.proofs.PartCells.{map_same, map_at, part_cell-part}
 use Rattle.lossless_join.proofs.Projected.{same_row-true, same_row-itself}
-use Rattle.lossless_join.proofs.Heath.{columns_of-append, columns_of-one, all-below, part-all, reads}
+use Rattle.lossless_join.proofs.Heath.{columns_of-append, columns_of-one, all-below, reads}
 use Rattle.lossless_join.proofs.Distinct.{Apart-distinct, AllPairs-apart}
 
 -- ---- rows of n columns
@@ -220,9 +219,11 @@ module _ (n : ℕ) (ts : List TableRows) (t : TableRows) (filled : IsFilled t) (
 
     earlier-listed : Listed earlier rows
     unfolding part
-    earlier-listed = u.every earlier (length-laid (λ k. if has done k then cell row k else []) n) earlier-blank (record { each = λ v l.
-        subst (λ (p : Row). Contains v.rows p) (sym (map_same (cell earlier) (cell row) (columns v.columns) (λ k h. earlier-done k ((columns-in ts v (Listed-contained v ts l)).each k (columns-listed v.columns k h)))))
-        (m.each v (Contains-listed v (ts ++ t ∷ []) (Listed-append_left v ts (t ∷ []) (Listed-contained v ts l)))) })
+    earlier-listed = u.every earlier (length-laid (λ k. if has done k then cell row k else []) n) earlier-blank (record {
+      each = λ v l.
+          subst (λ (p : Row). Contains v.rows p) (sym (map_same (cell earlier) (cell row) (columns v.columns) (λ k h. earlier-done k ((columns-in ts v (Listed-contained v ts l)).each k (columns-listed v.columns k h)))))
+          (m.each v (Contains-listed v (ts ++ t ∷ []) (Listed-append_left v ts (t ∷ []) (Listed-contained v ts l))));
+    })
 
     own-part : Contains t.rows (part t.columns row)
     own-part = m.each t (Contains-listed t (ts ++ t ∷ []) (Listed-append_right t ts (t ∷ []) (inl refl)))

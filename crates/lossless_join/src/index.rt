@@ -79,11 +79,7 @@ fn add(
 }
 
 // The index of a table's rows by their parts on these of its columns. It takes a hash of each part.
-pub(crate) fn index_of(
-    alloc: Global,
-    table: &Filled,
-    columns: ColSet,
-) -> Result<Index, AllocError>
+pub(crate) fn index_of(alloc: Global, table: &Filled, columns: ColSet) -> Result<Index, AllocError>
     requires { IsSubset columns table.now.columns }
     ensures { IfOk result (λ index. IsIndex table.now columns (length table.now.rows) index.keys.keys index.groups.items) }
 {

@@ -6,6 +6,8 @@ mod index;
 pub mod laws;
 mod natural_join;
 mod parts;
+#[cfg(test)]
+mod tests;
 
 pub use filled::Filled;
 pub use natural_join::join;

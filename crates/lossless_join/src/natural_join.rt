@@ -65,7 +65,7 @@ fn joined_with(
 }
 
 // The columns of all tables.
-fn columns_of(tables: &[Filled]) -> ColSet
+pub(crate) fn columns_of(tables: &[Filled]) -> ColSet
     ensures { result ≡ words.columns_of tables.now }
 {
     let mut columns = ColSet::empty();

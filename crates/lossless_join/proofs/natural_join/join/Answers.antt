@@ -4,7 +4,7 @@ use Rattle.col_set.specs.ColSet.{size, union}
 use Rattle.rel_base.specs.Cells.{Row}
 use Rattle.rel_base.proofs.States.{All-from}
 use Rattle.lossless_join.specs.NaturalJoin.{columns_of}
-use Rattle.lossless_join.proofs.Steps.{IsPartlyJoined, joined_none, columns_more, first_within, joined_next, joined_end}
+use Rattle.lossless_join.proofs.Steps.{joined_none, columns_more, first_within, joined_next, joined_end}
 use Rattle.lossless_join.proofs.natural_join.join.Goals as goal
 
 pub loop-table-init : goal.loop-table-init

@@ -1,6 +1,5 @@
-use Rattle.std.proofs.Common.{◌∙◌, List, sym, ap}
+use Rattle.std.proofs.Common.{◌∙◌, sym, ap}
 use Rattle.indexmap.specs.IndexSet.{insert_all}
-use Rattle.rel_base.specs.Cells.{Row}
 use Rattle.rel_base.specs.Projection.{same_row}
 use Rattle.lossless_join.proofs.Indexing.{no_matches, all_matches, place_given, group_found}
 use Rattle.lossless_join.proofs.natural_join.push_matches.Goals as goal

@@ -1,4 +1,4 @@
-use Rattle.std.proofs.Common.{◌∙◌, ◌≡◌, sym, ap, arith, cond}
+use Rattle.std.proofs.Common.{◌∙◌, sym, ap, arith, cond}
 use Rattle.csv.specs.Records.{fields_of, partial_of}
 use Rattle.rel_base.specs.Cells.{cell}
 use Rattle.lossless_join.specs.Parts.{part_cell}

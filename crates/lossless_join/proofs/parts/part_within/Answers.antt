@@ -1,4 +1,4 @@
-use Rattle.std.proofs.Common.{◌∙◌, length}
+use Rattle.std.proofs.Common.{◌∙◌}
 use Rattle.csv.specs.Records.{fields_of, partial_of}
 use Rattle.lossless_join.specs.Parts.{part_cell}
 use Rattle.lossless_join.specs.Joining.{part_within}
