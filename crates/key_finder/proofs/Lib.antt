@@ -6,3 +6,4 @@ pub mod Tells
 pub mod Agreeing
 pub mod Levelling
 pub mod Judging
+pub mod PlainTests

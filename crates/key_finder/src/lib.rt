@@ -5,6 +5,8 @@ mod hitting;
 pub mod laws;
 mod levels;
 mod rounds;
+#[cfg(test)]
+mod tests;
 mod witnessed;
 
 pub use rounds::table_keys;
