@@ -71,8 +71,8 @@ module _ (s : ℕ) (ws es : List ℕ) (members : HasMembers (missed s ws) es) wh
   hitting-inside : (x : ℕ) → IsMinimal (hits_all es) x → IsSubset x s
   hitting-inside x m =
       let e : inter x s ≡ x = m.smallest (inter x s) (record { each = λ k h. (and_parts (has x k) (has s k) (sym (has-inter x s k) ∙ h)).0 })
-          (hits_all-from es (inter x s) (λ e l. let g = hits_all-at es x e m.passes l in let w = edge-of e l in
-          record { column = g.column; edge = g.edge; set = has-inter x s g.column ∙ and_from _ _ g.set (minus-parts s w.0 g.column (sym (ap (λ (z : ℕ). has z g.column) w.3) ∙ g.edge)).0 })) in
+      (hits_all-from es (inter x s) (λ e l. let g = hits_all-at es x e m.passes l in let w = edge-of e l in
+      record { column = g.column; edge = g.edge; set = has-inter x s g.column ∙ and_from _ _ g.set (minus-parts s w.0 g.column (sym (ap (λ (z : ℕ). has z g.column) w.3) ∙ g.edge)).0 })) in
       record { each = λ k h. (and_parts (has x k) (has s k) (sym (has-inter x s k) ∙ ap (λ (z : ℕ). has z k) e ∙ h)).1 }
 
   hitting-key : (x : ℕ) → IsMinimal (hits_all es) x → IsMinimal (λ y. not (told_apart ws s y)) x

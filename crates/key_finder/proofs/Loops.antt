@@ -46,8 +46,10 @@ shortened_within columns c rest es a r sets i = All-from (λ (e : ℕ). IsSubset
   where
     at : (e : ℕ) → (d : ℕ) × Listed d es × (e ≡ without d c) → IsSubset e rest
     at e w = subst (λ (y : ℕ). IsSubset e y) (sym r) (subst (λ (x : ℕ). IsSubset x (without columns c)) (sym w.2)
-        (record { each = λ k h. let q = and_parts (has w.0 k) (not (eqb k c)) (sym (has-without w.0 c k) ∙ h) in
-        has-without columns c k ∙ and_from _ _ ((All-listed (λ (e : ℕ). IsSubset e columns) w.0 es a w.1).each k q.0) q.1 }))
+        (record {
+          each = λ k h. let q = and_parts (has w.0 k) (not (eqb k c)) (sym (has-without w.0 c k) ∙ h) in
+              has-without columns c k ∙ and_from _ _ ((All-listed (λ (e : ℕ). IsSubset e columns) w.0 es a w.1).each k q.0) q.1;
+        }))
 
 pub lacking_within : (columns c rest : ℕ) (es : List ℕ) → All (λ (e : ℕ). IsSubset e columns) es → rest ≡ without columns c → (sets : List ℕ) → sets ≡ lacking c es → All (λ (e : ℕ). IsSubset e rest) sets
 lacking_within columns c rest es a r sets i = All-from (λ (e : ℕ). IsSubset e rest) sets (λ e l.

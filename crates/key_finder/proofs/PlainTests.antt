@@ -63,8 +63,10 @@ module _ (ws : List ℕ) (s x : ℕ) where
         by : (y : ℕ) → IsSubset y x → told_apart ws s y ≡ false → (k : ℕ) → (b : Bool) → has y k ≡ b → (has left k ≡ true) ⊎ (told_apart ws s (without x k) ≡ true) → has y k ≡ true
         by y i t k true j h = j
         by y i t k false j (inl h) = absurd (subst (Listed k) (first-None left e) (Listed-columns left k h))
-        by y i t k false j (inr h) = absurd (true≢false (sym (told-less ws s (without x k) y (record { each = λ l g.
-            has-without x k l ∙ and_from _ _ (i.each l g) (ap not (ne_eqb l k (λ m. true≢false (sym g ∙ ap (has y) m ∙ j)))) }) h) ∙ t))
+        by y i t k false j (inr h) = absurd (true≢false (sym (told-less ws s (without x k) y (record {
+          each = λ l g.
+              has-without x k l ∙ and_from _ _ (i.each l g) (ap not (ne_eqb l k (λ m. true≢false (sym g ∙ ap (has y) m ∙ j))));
+        }) h) ∙ t))
 
 pub within-true : (columns n whole : ℕ) → whole ≡ all n → subset columns whole ≡ true → columns < 2 ^ n
 within-true columns n whole e s = subset_below n (subset-true (ap (subset columns) (sym e) ∙ s)) (all-below n)

@@ -20,7 +20,6 @@ use Rattle.rel_base.specs.RowState.{RowState, IsRowState, width}
 use Rattle.rel_base.specs.Validity.{agree_sets, holds, determined}
 use Rattle.rel_base.specs.Covers.{CoverLists, fds_to, covers, least_covers}
 use Rattle.rel_base.specs.Shows.{Shows, code_agree_sets}
-
 use Rattle.rel_base.proofs.Minima.{covers-least}
 use Rattle.rel_base.proofs.Shown.{code_agree_sets-shown}
 use Rattle.rel_base.proofs.Valid.{determined-at, determined-from}

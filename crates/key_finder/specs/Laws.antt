@@ -7,7 +7,6 @@ use Rattle.rel_base.specs.RowState.{RowState, IsRowState, width}
 use Rattle.rel_base.specs.Shows.{Shows, code_agree_sets}
 use Rattle.rel_base.specs.Validity.{agree_sets}
 use Rattle.rel_base.specs.Covers.{covers, least_covers}
-
 use Rattle.lossless_join.specs.Parts.{projection_keys}
 use Rattle.key_finder.specs.Keys.{keys_within}
 

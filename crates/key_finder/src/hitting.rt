@@ -55,10 +55,7 @@ fn shortened(alloc: Global, edges: &[ColSet], column: u8) -> Result<Vec<ColSet>,
     requires { column < 128 }
     ensures { IfOk result (λ sets. sets.items ≡ words.shortened column edges.now) }
 {
-    edges
-        .iter()
-        .map(|edge| edge.without(column))
-        .collect(alloc)
+    edges.iter().map(|edge| edge.without(column)).collect(alloc)
 }
 
 // Edges, by whether they have a column.

@@ -10,9 +10,7 @@ use rel_base::{ColSet, Snapshot};
 fn is_told_apart(agree_sets: &[ColSet], columns: ColSet, x: ColSet) -> bool
     ensures { result ≡ told_apart agree_sets.now columns x }
 {
-    agree_sets
-        .iter()
-        .any(|agreed| x.subset_of(*agreed) && !columns.subset_of(*agreed))
+    agree_sets.iter().any(|agreed| x.subset_of(*agreed) && !columns.subset_of(*agreed))
 }
 
 // Whether x lies inside the columns, no agree set that lacks one of them contains it, and one contains each part of x.
