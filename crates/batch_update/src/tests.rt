@@ -1,6 +1,6 @@
 // Where an allocation fails, a call is made once more, so that these tests also pass where any one fails.
 use crate::{Item, read_changes};
-use rel_base::{Limits, Op, Row};
+use rel_base::{Limits, MOST_COLUMNS, MOST_ROWS, Op, Row};
 use std::alloc::{AllocError, Global};
 use std::test::Fail;
 
@@ -126,7 +126,7 @@ fn malformed_records(rt: HostRuntime) -> Result<(), Fail> {
 
 #[test]
 fn limits_of_numbers_and_cells(rt: HostRuntime) -> Result<(), Fail> {
-    let short = Limits::smaller(128, 1_000_000, 1, 1_000);
+    let short = Limits::smaller(MOST_COLUMNS, MOST_ROWS, 1, 1_000);
     let cases: [(&[u8], &[u8]); 7] = [
         (b"-,4294967295\n!\n", b"1:1/-,4294967295 "),
         (b"-,4294967296\n!\n", b"1:1:Number "),

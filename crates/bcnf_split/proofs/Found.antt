@@ -1,16 +1,12 @@
 -- The first element that passes a test, of a list that rises, and where a set lies inside another.
-use Rattle.std.proofs.Common.{inl, inr, ◌≡◌, ◌≢◌, ◌⊎◌, ℕ, suc, ◌+◌, ◌<◌, ◌≤◌, ◌^◌, Bool, true, false, cond, refl, sym, ap, ◌∙◌, arith, List, [], ◌∷◌, length, Ordering, Less, Option, Some, None}
-use Rattle.std.specs.List.{filter, find}
-use Rattle.std.specs.Ordering.{ordering_then}
-use Rattle.std.specs.Cmp.Lexicographic.{slice_cmp}
-use Rattle.std.specs.Ordering.{nat_cmp}
-use Rattle.std.proofs.lemmas.Bool.{true≢false, false≢true, cases_Bool}
+use Rattle.std.proofs.Common.{inl, inr, ◌≡◌, ◌⊎◌, ℕ, ◌<◌, ◌^◌, Bool, true, false, cond, refl, sym, ap, ◌∙◌, List, [], ◌∷◌, Ordering, Less, Option, Some, None}
+use Rattle.std.specs.List.{find}
+use Rattle.std.proofs.lemmas.Bool.{true≢false, false≢true}
 use Rattle.std.proofs.lemmas.Option.{same_Some, none-some}
-use Rattle.col_set.specs.ColSet.{Columns, IsSubset, has, columns, size, report_cmp, upto}
-use Rattle.col_set.specs.Columns.{nat_cmp-lt, columns_below}
+use Rattle.col_set.specs.ColSet.{Columns, IsSubset, has, upto}
 use Rattle.col_set.specs.Lists.{Listed, Rises}
 use Rattle.col_set.specs.AllSets.{Listed-upto}
-use Rattle.col_set.specs.Subsets.{IsSubset-antisymm, subset_below, has_within}
+use Rattle.col_set.specs.Subsets.{IsSubset-antisymm, has_within}
 
 module _ {X : Type 0} where
   pub find_passes : (p : X → Bool) (xs : List X) (x : X) → find p xs ≡ Some x → Listed x xs × (p x ≡ true)

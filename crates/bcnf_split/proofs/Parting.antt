@@ -1,13 +1,13 @@
 -- The two parts of a table that a violation parts: each lies inside the table and lacks a column of it.
-use Rattle.std.proofs.Common.{inl, inr, ◌≡◌, ◌≢◌, ◌⊎◌, ℕ, ◌<◌, ◌≤◌, ◌^◌, Bool, true, false, not, ◌&&◌, ◌||◌, refl, sym, ap, ◌∙◌, arith}
-use Rattle.std.proofs.lemmas.Bool.{true≢false, false≢true, and_parts, and_from, or_cases, or_left, or_right, not-true, not_from_false, cases_Bool}
+use Rattle.std.proofs.Common.{inl, inr, ◌≡◌, ◌≢◌, ◌⊎◌, ℕ, ◌<◌, ◌^◌, true, false, sym, ap, ◌∙◌, arith}
+use Rattle.std.proofs.lemmas.Bool.{true≢false, and_parts, and_from, or_cases, or_left, or_right, not-true, not_from_false, cases_Bool}
 use Rattle.col_set.specs.declared.target.Target.TheVariants.{Col}
 use Rattle.col_set.specs.ColSet.{Columns, IsSubset, has, union, inter, minus}
 use Rattle.col_set.specs.Members.{has-union, has-inter, has-minus}
-use Rattle.col_set.specs.Subsets.{IsSubset-le, has_within, subset_below}
+use Rattle.col_set.specs.Subsets.{IsSubset-le, has_within}
 use Rattle.rel_base.specs.RowState.{RowState, width}
 use Rattle.rel_base.specs.Validity.{holds}
-use Rattle.fd_closure.specs.Determined.{determined_columns, determines_all}
+use Rattle.fd_closure.specs.Determined.{determined_columns}
 use Rattle.fd_closure.proofs.Determined.{determined-holds, holds-determined, holds-all, holds-own}
 use Rattle.bcnf_split.specs.Split.{dependents}
 use Rattle.bcnf_split.proofs.Violating.{Violating}

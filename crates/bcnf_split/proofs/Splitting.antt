@@ -1,7 +1,6 @@
 -- The split of a set of columns: an induction over it, that it is what its definition says, and its tables.
-use Rattle.std.proofs.Common.{inl, inr, ◌≡◌, ◌⊎◌, ℕ, zero, suc, ◌<◌, ◌≤◌, ◌^◌, true, refl, sym, ap₂, ◌∙◌, subst, arith, List, [], ◌∷◌, ◌++◌, Option, Some, None}
+use Rattle.std.proofs.Common.{inl, inr, ◌≡◌, ℕ, zero, suc, ◌<◌, ◌≤◌, ◌^◌, true, refl, sym, ap₂, subst, arith, List, [], ◌∷◌, ◌++◌, Option, Some, None}
 use Rattle.std.specs.Prelude.{MatchOption}
-use Rattle.std.specs.List.{Contains}
 use Rattle.col_set.specs.ColSet.{Columns, IsSubset, has, union, minus}
 use Rattle.col_set.specs.Lists.{Listed, Listed-append_left, Listed-append_right, Listed-append_cases}
 use Rattle.col_set.specs.Subsets.{IsSubset-refl, IsSubset-trans, subset_below}
@@ -11,7 +10,7 @@ use Rattle.rel_base.proofs.States.{All-from}
 use Rattle.bcnf_split.specs.Bcnf.{IsBcnf, first_violation}
 use Rattle.bcnf_split.specs.Split.{dependents, splits_within, splits}
 use Rattle.bcnf_split.specs.Laws.{SplitsAsSaid, SplitMeans}
-use Rattle.bcnf_split.proofs.Violating.{Violating, first-violating, IsBcnf-none}
+use Rattle.bcnf_split.proofs.Violating.{first-violating, IsBcnf-none}
 use Rattle.bcnf_split.proofs.Parting.{rest-inside, moved-inside, rest-less, moved-less, parted}
 
 module _ (r : RowState) where
@@ -40,7 +39,7 @@ module _ (r : RowState) where
     splits_by s b = within_by s s (omega arith) b
 
   -- ---- as the definition says
-  more_steps : (m n s : ℕ) → s ≤ m → s ≤ n → s < 2 ^ width r → splits_within m r s ≡ splits_within n r s
+  pub more_steps : (m n s : ℕ) → s ≤ m → s ≤ n → s < 2 ^ width r → splits_within m r s ≡ splits_within n r s
   unfolding splits_within
   more_steps zero zero s l k b = refl
   more_steps zero (suc n) s l k b = by (first_violation r s) refl

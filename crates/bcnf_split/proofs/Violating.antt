@@ -1,24 +1,23 @@
 -- What the test of a violation means, that there is none exactly where a table is in BCNF, and that the first one is a minimal left side.
-use Rattle.std.proofs.Common.{inl, inr, ◌≡◌, ◌⊎◌, ℕ, ◌<◌, ◌^◌, Bool, true, false, not, ◌&&◌, refl, sym, ap, ◌∙◌, subst, Less, Greater, Option, Some, None}
-use Rattle.std.specs.Prelude.{MatchOption, IfSome}
+use Rattle.std.proofs.Common.{inl, inr, ◌≡◌, ◌⊎◌, ℕ, ◌<◌, ◌^◌, true, false, not, ◌&&◌, refl, sym, ap, ◌∙◌, subst, Less, Greater, Option, Some, None}
+use Rattle.std.specs.Prelude.{IfSome}
 use Rattle.std.specs.List.{list_any}
 use Rattle.std.specs.Ordering.{ordering_reverse}
 use Rattle.std.proofs.lemmas.Bool.{true≢false, and_parts, and_from, not-true, not_from_false, cases_Bool, false_from_ne_true}
-use Rattle.std.proofs.lemmas.Option.{none-some}
 use Rattle.col_set.specs.declared.target.Target.TheVariants.{Col}
 use Rattle.col_set.specs.ColSet.{Columns, IsSubset, has, subset, columns, report_cmp, all_sets}
 use Rattle.col_set.specs.Columns.{report_total}
-use Rattle.col_set.specs.Lists.{Listed, list_any_at, list_any_which}
-use Rattle.col_set.specs.AllSets.{Listed-all_sets, all_sets_below, Rises-all_sets}
+use Rattle.col_set.specs.Lists.{list_any_at, list_any_which}
+use Rattle.col_set.specs.AllSets.{Listed-all_sets, Rises-all_sets}
 use Rattle.col_set.specs.Subsets.{IsSubset-trans, subset-true, true-subset, subset_below, has_within}
 use Rattle.col_set.proofs.EachColumn.{Listed-columns, columns-listed}
 use Rattle.col_set.proofs.Places.{Climbs}
 use Rattle.rel_base.specs.RowState.{RowState, width}
-use Rattle.rel_base.specs.Validity.{holds, Holds}
+use Rattle.rel_base.specs.Validity.{holds}
 use Rattle.rel_base.specs.Minimality.{min_fd}
 use Rattle.rel_base.proofs.Valid.{Holds-tested, holds-true}
 use Rattle.rel_base.proofs.Minima.{MinFd-tested}
-use Rattle.fd_closure.specs.Determined.{determines_all, Determines}
+use Rattle.fd_closure.specs.Determined.{determines_all}
 use Rattle.fd_closure.proofs.Determined.{all-more, Determines-tested, determines-true}
 use Rattle.fd_closure.proofs.Closing.{minimal_inside, minimal-holds}
 use Rattle.bcnf_split.specs.Bcnf.{IsBcnf, violates, Violates, first_violation}

@@ -1,8 +1,8 @@
 -- The laws of the definitions, which functions with an empty body ensure.
-use Rattle.std.specs.Prelude.{◌≡◌, ◌<◌, ◌^◌, ℕ, true, List, [], ◌∷◌, ◌++◌, ◌↔◌, Option, Some, None, MatchOption, IfSome}
+use Rattle.std.specs.Prelude.{◌≡◌, ℕ, true, [], ◌∷◌, ◌++◌, ◌↔◌, None, MatchOption, IfSome}
 use Rattle.std.specs.List.{All, Contains}
-use Rattle.col_set.specs.ColSet.{Columns, IsSubset, has, all, union, minus}
-use Rattle.rel_base.specs.RowState.{RowState, width}
+use Rattle.col_set.specs.ColSet.{Columns, IsSubset, has, union, minus}
+use Rattle.rel_base.specs.RowState.{RowState}
 use Rattle.rel_base.specs.Minimality.{MinFd}
 use Rattle.bcnf_split.specs.Bcnf.{IsBcnf, violates, Violates, first_violation}
 use Rattle.bcnf_split.specs.Split.{dependents, splits}

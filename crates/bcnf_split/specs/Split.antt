@@ -1,8 +1,8 @@
 -- The split of a row state's columns into tables.
-use Rattle.std.specs.Prelude.{ℕ, zero, suc, List, [], ◌∷◌, ◌++◌, map, Option, Some, None}
-use Rattle.col_set.specs.ColSet.{Columns, all, union, inter, minus}
+use Rattle.std.specs.Prelude.{ℕ, zero, suc, List, [], ◌∷◌, ◌++◌, map, Some, None}
+use Rattle.col_set.specs.ColSet.{Columns, union, inter, minus}
 use Rattle.rel_base.specs.declared.dependency.Table.{Table}
-use Rattle.rel_base.specs.RowState.{RowState, width}
+use Rattle.rel_base.specs.RowState.{RowState}
 use Rattle.fd_closure.specs.Determined.{determined_columns}
 use Rattle.fd_closure.specs.Keys.{table_key}
 use Rattle.bcnf_split.specs.Bcnf.{first_violation}
@@ -25,5 +25,5 @@ abbrev pub splits : RowState → Columns → List Columns
 splits r s = splits_within s r s
 
 -- the tables, each with its key
-abbrev pub tables_of : RowState → List Table
-tables_of r = map (λ s. record { columns = s; key = table_key r s }) (splits r (all (width r)))
+abbrev pub tables_of : RowState → Columns → List Table
+tables_of r s = map (λ t. record { columns = t; key = table_key r t }) (splits r s)

@@ -5,7 +5,7 @@ ghost use Rattle.col_set.specs.Evidence.{least};
 ghost use Rattle.candidate_cover.specs.Cands.{width, cands_of, lefts, kept_or_fresh};
 
 use crate::{Cand, CandidateCover, Draft, Marking, Part};
-use rel_base::{ColSet, RowNo, Steps, Target};
+use rel_base::{ColSet, MOST_COLUMNS, RowNo, Steps, Target};
 use std::alloc::{AllocError, Global};
 use std::marker::Brand;
 use std::process::Abort;
@@ -15,7 +15,7 @@ use std::test::Fail;
 fn set(columns: &[u8]) -> ColSet {
     let mut found = ColSet::empty();
     for column in columns {
-        if *column < 128 {
+        if *column < MOST_COLUMNS {
             found = found.with(*column);
         }
     }
@@ -63,7 +63,7 @@ fn booked(
     target: Target,
     sets: &[ColSet],
 ) -> Result<CandidateCover, AllocError>
-    requires columns { columns ≤ 128 }
+    requires columns { columns ≤ MOST_COLUMNS }
     requires target { IsColumnTarget columns target }
     ensures width { IfOk result (λ cover. width cover ≡ columns) }
     ensures least { IfOk result (λ cover. lefts (cands_of cover target) ≡ least columns sets.now target) }
@@ -102,7 +102,7 @@ fn regained(
     rest: &[ColSet],
     gone: &[ColSet],
 ) -> Result<CandidateCover, AllocError>
-    requires columns { columns ≤ 128 }
+    requires columns { columns ≤ MOST_COLUMNS }
     requires target { IsColumnTarget columns target }
     ensures { IfOk result (λ cover. width cover ≡ columns) }
 {
@@ -218,7 +218,7 @@ fn withdrawn_sets_leave_what_the_rest_makes(rt: HostRuntime) -> Result<(), Fail>
 
 // The draft of a new cover after these sets, one after another.
 fn draft_of(alloc: Global, columns: u8, sets: &[ColSet]) -> Result<Draft, AllocError>
-    requires { columns ≤ 128 }
+    requires { columns ≤ MOST_COLUMNS }
     ensures { IfOk result (λ draft. draft.width ≡ columns) }
 {
     let cover = CandidateCover::new(alloc, columns)?;
@@ -236,7 +236,7 @@ fn drafted(
     target: Target,
     sets: &[ColSet],
 ) -> Result<CandidateCover, AllocError>
-    requires columns { columns ≤ 128 }
+    requires columns { columns ≤ MOST_COLUMNS }
     requires target { IsColumnTarget columns target }
     ensures { IfOk result (λ cover. width cover ≡ columns) }
 {

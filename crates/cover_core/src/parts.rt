@@ -76,7 +76,7 @@ fn generalised_part<L: Ledger>(
     requires least { lefts (cands_of candidates.now target) ≡ least (width candidates.now) (rest.now ++ withdrawn.now) target }
     ensures { IfOk result (λ part. IsPart (width candidates.now) rest.now candidates.now target part) }
 {
-    // `columns` is called for its clause that there are at most 128.
+    // `columns` is called for its clause that there are at most `MOST_COLUMNS`.
     let _count = candidates.columns();
     if !some_lacks(withdrawn, target) {
         return Ok(None);
@@ -150,7 +150,7 @@ pub(crate) fn put_all(candidates: &mut CandidateCover, parts: Parts)
     ensures { (ws : List Columns) → AreParts (width candidates.old) ws candidates.old parts.rows parts.columns.items → candidates.new ≡ renewed (width candidates.old) ws candidates.old }
 {
     let Parts { rows, mut columns } = parts;
-    // `columns` is called for its clause that there are at most 128.
+    // `columns` is called for its clause that there are at most `MOST_COLUMNS`.
     let _count = candidates.columns();
     if let Some(part) = rows {
         candidates.put(Target::RowId, part);

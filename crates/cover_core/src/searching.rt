@@ -92,7 +92,7 @@ pub(crate) fn is_refuted(candidates: &CandidateCover, target: Target, agree: Col
     requires { IsColumnTarget (width candidates.now) target }
     ensures { result ≡ list_any (λ c. subset c.left agree && not (has_target agree target)) (cands_of candidates.now target) }
 {
-    // `columns` is called for its clause that there are at most 128.
+    // `columns` is called for its clause that there are at most `MOST_COLUMNS`.
     let _count = candidates.columns();
     !agree.has_target(target)
         && candidates

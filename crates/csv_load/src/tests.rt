@@ -1,7 +1,7 @@
 // Where an allocation fails, a call is made once more, so that these tests also pass where any one fails.
 use crate::{Reading, RecordReader, read_relation, records};
 use csv::ByteRecord;
-use rel_base::{Limits, Row};
+use rel_base::{Limits, MOST_CELL_BYTES, MOST_COLUMNS, MOST_ROWS, Row};
 use std::alloc::{AllocError, Global};
 use std::test::Fail;
 
@@ -111,8 +111,16 @@ fn relations_and_refusals(rt: HostRuntime) -> Result<(), Fail> {
         (b"", standard, b"0 NoHeader"),
         (b"\xEF\xBB\xBF\n\n", standard, b"0 NoHeader"),
         (b"a,b\n1,x\n2\n", standard, b"3 Fields"),
-        (CITIES, Limits::smaller(128, 1_000_000, 5, 1_000), b"2 Cell"),
-        (CITIES, Limits::smaller(128, 2, 65_536, 1_000), b"4 Rows"),
+        (
+            CITIES,
+            Limits::smaller(MOST_COLUMNS, MOST_ROWS, 5, 1_000),
+            b"2 Cell",
+        ),
+        (
+            CITIES,
+            Limits::smaller(MOST_COLUMNS, 2, MOST_CELL_BYTES, 1_000),
+            b"4 Rows",
+        ),
         (CITIES, Limits::smaller(3, 3, 7, 1), whole),
         (b"a,b,c\n1\n", Limits::smaller(2, 9, 9, 9), b"1 Columns"),
         (b"a,b\n11\n", Limits::smaller(9, 9, 1, 9), b"2 Fields"),

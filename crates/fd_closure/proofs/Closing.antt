@@ -1,10 +1,9 @@
 -- The one pass over the covers of a row state finds what a column set determines.
-use Rattle.std.proofs.Common.{inl, inr, ◌≡◌, ◌⊎◌, ℕ, ◌<◌, ◌^◌, Bool, true, false, not, ◌&&◌, ◌||◌, eqb, refl, sym, ap, ◌∙◌, subst, List, [], ◌∷◌, map}
-use Rattle.std.specs.List.{filter, list_any, flat_map}
+use Rattle.std.proofs.Common.{inl, inr, ◌≡◌, ◌⊎◌, ℕ, ◌<◌, ◌^◌, true, false, not, ◌&&◌, ◌||◌, eqb, refl, sym, ap, ◌∙◌, subst, List, map}
+use Rattle.std.specs.List.{filter}
 use Rattle.std.proofs.lemmas.Bool.{true≢false, and_parts, and_from, or_cases, or_left, or_right, not-true, not_from_false, false_from_ne_true, cases_Bool, eqb-true, eq-eqb}
 use Rattle.col_set.specs.declared.target.Target.TheVariants.{Col}
-use Rattle.col_set.specs.ColSet.{Columns, IsSubset, has, subset, union, set_of, upto, all_sets}
-use Rattle.col_set.specs.Minimal.{is_minimal}
+use Rattle.col_set.specs.ColSet.{IsSubset, has, subset, upto, all_sets}
 use Rattle.col_set.specs.Members.{has-union, same_set}
 use Rattle.col_set.specs.Lists.{Listed, Listed-filter, Listed-filter_parts, Listed-map, Listed-map_which, Listed-flat_map, Listed-flat_map_which, list_any_at, list_any_which}
 use Rattle.col_set.specs.AllSets.{set_of-has, has-set_of, Listed-upto, Listed-upto_within, Listed-all_sets, all_sets_below}
@@ -78,9 +77,10 @@ module _ (r : RowState) where
       let w = list_any_which (λ (fd : Fd). eqb fd.right a && subset fd.left x) (covers r).fds e in
       let v = and_parts _ _ w.2 in
       let m = covers-minimal w.0 w.1 in
-      let i = eqb-true _ a v.0 in
-      (subst (λ (k : ℕ). k < width r) i m.column,
-      subst (λ (k : ℕ). holds r x (Col k) ≡ true) i (holds-more r w.0.left x (Col w.0.right) (subset-true v.1) (minimal-holds w.0.left w.0.right m.below m.minimal).1))
+      let i = eqb-true _ a v.0 in (
+        subst (λ (k : ℕ). k < width r) i m.column,
+        subst (λ (k : ℕ). holds r x (Col k) ≡ true) i (holds-more r w.0.left x (Col w.0.right) (subset-true v.1) (minimal-holds w.0.left w.0.right m.below m.minimal).1),
+      )
 
   holds-left_inside : (x a : ℕ) → x < 2 ^ width r → a < width r → has x a ≡ false → holds r x (Col a) ≡ true → has_left_inside (covers r).fds x a ≡ true
   unfolding has_left_inside

@@ -1,9 +1,8 @@
 -- What the tests of what a column set determines mean, and the usual laws of it: a set determines its own columns, more columns
 -- determine more, and what determines all of Y determines what Y does.
-use Rattle.std.proofs.Common.{◌≡◌, ℕ, ◌<◌, ◌^◌, Bool, true, false, refl, sym, ap, ◌∙◌}
-use Rattle.std.specs.List.{filter, list_all}
+use Rattle.std.proofs.Common.{◌≡◌, ℕ, ◌<◌, ◌^◌, true}
 use Rattle.col_set.specs.declared.target.Target.TheVariants.{Col}
-use Rattle.col_set.specs.ColSet.{IsSubset, has, subset, set_of, columns, upto}
+use Rattle.col_set.specs.ColSet.{IsSubset, has, subset, columns, upto}
 use Rattle.col_set.specs.Target.{has_target}
 use Rattle.col_set.specs.Lists.{Listed-filter, Listed-filter_parts, list_all_at, list_all_from}
 use Rattle.col_set.specs.AllSets.{set_of-has, has-set_of, Listed-upto, Listed-upto_within}
@@ -11,7 +10,7 @@ use Rattle.col_set.specs.Subsets.{same_test, subset-true, true-subset, has_withi
 use Rattle.col_set.proofs.EachColumn.{Listed-columns, columns-listed}
 use Rattle.col_set.proofs.Places.{Climbs}
 use Rattle.rel_base.specs.RowState.{RowState, width}
-use Rattle.rel_base.specs.Validity.{agree_sets, holds, Holds}
+use Rattle.rel_base.specs.Validity.{agree_sets, holds}
 use Rattle.rel_base.proofs.Valid.{determined-at, determined-from, holds-more, Holds-tested, holds-true}
 use Rattle.fd_closure.specs.Determined.{determined_columns, determines_all, Determines}
 

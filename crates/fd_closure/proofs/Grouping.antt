@@ -1,9 +1,8 @@
 -- Dependencies in order: where those of a column begin, where those with few columns on the left end, and what lies between.
-use Rattle.std.proofs.Common.{inl, inr, ◌≡◌, ◌⊎◌, ℕ, ◌<◌, ◌≤◌, Bool, true, false, ◌&&◌, ◌||◌, eqb, ltb, leb, refl, sym, ap, ◌∙◌, subst, arith, List, length, get_or, Ordering, Less, Equal, Greater}
-use Rattle.std.specs.List.{AllWithin}
+use Rattle.std.proofs.Common.{inl, inr, ◌≡◌, ◌⊎◌, ℕ, ◌<◌, ◌≤◌, Bool, true, false, ◌&&◌, eqb, ltb, leb, refl, sym, ap, ◌∙◌, subst, arith, List, length, get_or, Ordering, Less, Equal, Greater}
 use Rattle.std.specs.List.Sorted.{IsPartitionedBy, IsPartitionPoint}
 use Rattle.std.specs.Ordering.{nat_cmp, ordering_then}
-use Rattle.std.proofs.lemmas.Bool.{true≢false, false≢true, cases_eq, cases_lt, cases_order, cases_Bool, and_parts, and_from, or_cases, or_left, or_right, or_parts, eqb-true, eq-eqb, ltb-true, lt-ltb, le-ltb, leb-true, le-leb, false_from_ne_true}
+use Rattle.std.proofs.lemmas.Bool.{true≢false, cases_eq, cases_lt, cases_order, and_parts, and_from, or_cases, or_left, or_right, eqb-true, eq-eqb, ltb-true, lt-ltb, leb-true, le-leb, false_from_ne_true}
 use Rattle.std.proofs.lemmas.Cmp.{nat_cmp_total, tied_itself}
 use Rattle.col_set.specs.ColSet.{Columns, IsSubset, subset, size, report_cmp}
 use Rattle.col_set.specs.Lists.{Listed, list_any_at, list_any_which}
@@ -12,7 +11,8 @@ use Rattle.col_set.specs.Subsets.{IsSubset-refl, subset-true, true-subset}
 use Rattle.col_set.proofs.Places.{Contains-listed, Listed-get_or}
 use Rattle.std.specs.FinSet.{nat_cmp-IsAntisymmetric}
 use Rattle.rel_base.specs.declared.dependency.Fd.{Fd}
-use Rattle.fd_closure.specs.Closure.{has_left_inside, fd_cmp, IsInOrder, is_before, is_short}
+use Rattle.rel_base.specs.Laws.{fd_cmp}
+use Rattle.fd_closure.specs.Closure.{has_left_inside, IsInOrder, is_before, is_short}
 use Rattle.fd_closure.proofs.Sizes.{size-le, size-in_order, nat_cmp-gt}
 
 -- ---- two in order

@@ -1,17 +1,18 @@
 -- The loops over columns: what is reached so far, and what is yet to be looked at.
-use Rattle.std.proofs.Common.{inl, inr, ◌≡◌, ◌≢◌, ◌⊎◌, ℕ, ◌<◌, Bool, true, false, cond, not, ◌&&◌, ◌||◌, eqb, refl, sym, ap, ◌∙◌, subst, arith, List, [], length, get_or, Option, Some, None, Result, Ok, Err}
+use Rattle.std.proofs.Common.{inl, inr, ◌≡◌, ◌≢◌, ◌⊎◌, ℕ, ◌<◌, Bool, true, false, not, ◌&&◌, eqb, sym, ap, ◌∙◌, subst, arith, List, length, get_or, Some, None, Result, Ok, Err}
 use Rattle.std.specs.Result.{is_ok}
 use Rattle.std.specs.List.Sorted.{IsBinarySearchResult, IsSearchInRange}
 use Rattle.std.proofs.lemmas.Bool.{true≢false, false≢true, cases_eq, cases_Bool, and_parts, and_from, or_cases, or_left, or_right, not-true, not_from_false, lt-ltb, ne_eqb, eqb-true, eq-eqb, false_from_ne_true}
-use Rattle.col_set.specs.ColSet.{Columns, IsSubset, has, all, subset, minus, with, without, columns, first}
+use Rattle.col_set.specs.ColSet.{Columns, IsSubset, has, all, subset, minus, with, without, first}
 use Rattle.col_set.specs.Members.{has-all, has-minus, has-with, has-without}
-use Rattle.col_set.specs.Subsets.{IsSubset-refl, IsSubset-antisymm, IsSubset-with, with_subset, subset-true, true-subset}
+use Rattle.col_set.specs.Subsets.{IsSubset-refl, IsSubset-antisymm, IsSubset-with, with_subset, subset-true}
 use Rattle.col_set.specs.Lists.{Listed, list_any_which}
 use Rattle.col_set.proofs.EachColumn.{Listed-columns, first-Some, first-None}
 use Rattle.col_set.proofs.Places.{Listed-get_or}
 use Rattle.rel_base.specs.declared.dependency.Fd.{Fd}
 use Rattle.rel_base.proofs.States.{All-listed}
-use Rattle.fd_closure.specs.Closure.{closure_of, has_left_inside, fd_cmp, IsInOrder}
+use Rattle.rel_base.specs.Laws.{fd_cmp}
+use Rattle.fd_closure.specs.Closure.{closure_of, has_left_inside, IsInOrder}
 use Rattle.fd_closure.proofs.Closing.{has-closure_of}
 use Rattle.fd_closure.proofs.Grouping.{inside-some, fd_equal}
 
@@ -71,9 +72,9 @@ module _ (fds : List Fd) (x : Columns) where
     every = λ order k h. elim (cases_Bool (has x k)) as (λ _. (has x k ≡ true) ⊎ (has rest k ≡ true)) [
       | inl g ↦ inl g
       | inr g ↦ elim (closure-cases k h) as (λ _. (has x k ≡ true) ⊎ (has rest k ≡ true)) [
-          | inl own ↦ inl own
-          | inr left ↦ inr (ap (λ (z : ℕ). has z k) e ∙ has-minus (all 128) x k ∙ and_from _ _ (has-all 128 k ∙ lt-ltb k 128 (closure-narrow k order left)) (not_from_false _ g))
-        ]
+        | inl own ↦ inl own
+        | inr left ↦ inr (ap (λ (z : ℕ). has z k) e ∙ has-minus (all 128) x k ∙ and_from _ _ (has-all 128 k ∙ lt-ltb k 128 (closure-narrow k order left)) (not_from_false _ g))
+      ]
     ];
   }
 
@@ -105,9 +106,9 @@ module _ (fds : List Fd) (x : Columns) where
       next order k g (inl e) = inl e
       next order k g (inr e) = elim (rest_cases rest less c k i e) as (λ _. (has reached k ≡ true) ⊎ (has less k ≡ true)) [
         | inl same ↦ elim (closure-cases k g) as (λ _. (has reached k ≡ true) ⊎ (has less k ≡ true)) [
-            | inl own ↦ inl (p.own.each k own)
-            | inr left ↦ absurd (true≢false (sym left ∙ ap (has_left_inside fds x) same ∙ h order))
-          ]
+          | inl own ↦ inl (p.own.each k own)
+          | inr left ↦ absurd (true≢false (sym left ∙ ap (has_left_inside fds x) same ∙ h order))
+        ]
         | inr other ↦ inr other
       ]
 

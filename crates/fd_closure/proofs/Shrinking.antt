@@ -1,10 +1,10 @@
 -- What is left of a column set where columns are dropped while the rest passes a test.
-use Rattle.std.proofs.Common.{inl, inr, ◌≡◌, ◌⊎◌, ℕ, zero, suc, ◌<◌, ◌≤◌, ◌^◌, Bool, true, false, cond, not, ◌&&◌, eqb, refl, sym, ap, ◌∙◌, subst, arith}
-use Rattle.std.proofs.lemmas.Bool.{true≢false, false≢true, and_parts, and_from, cases_Bool, cases_eq, cases_lt, ne_eqb, eq-eqb, false_from_ne_true}
+use Rattle.std.proofs.Common.{inl, inr, ◌≡◌, ℕ, zero, suc, ◌<◌, ◌≤◌, ◌^◌, Bool, true, false, cond, not, ◌&&◌, eqb, refl, sym, ap, ◌∙◌, subst, arith}
+use Rattle.std.proofs.lemmas.Bool.{true≢false, and_parts, and_from, cases_eq, eq-eqb, false_from_ne_true}
 use Rattle.col_set.specs.ColSet.{IsSubset, has, without}
 use Rattle.col_set.specs.Members.{has-without, has_above}
 use Rattle.col_set.specs.Minimal.{IsMinimal}
-use Rattle.col_set.specs.Subsets.{IsSubset-refl, IsSubset-trans, subset_below, has_within}
+use Rattle.col_set.specs.Subsets.{IsSubset-refl, IsSubset-trans, has_within}
 use Rattle.col_set.proofs.More.{IsMinimal-from_dropped}
 use Rattle.fd_closure.specs.Keys.{shrunk}
 

@@ -5,7 +5,7 @@ use Rattle.col_set.specs.Subsets.{subset_below}
 use Rattle.col_set.proofs.Places.{Climbs}
 use Rattle.rel_base.specs.RowState.{RowState, width}
 use Rattle.rel_base.specs.Covers.{covers}
-use Rattle.fd_closure.specs.Determined.{determines_all, Determines}
+use Rattle.fd_closure.specs.Determined.{determines_all}
 use Rattle.fd_closure.specs.Closure.{closure_of}
 use Rattle.fd_closure.specs.Keys.{shrunk, table_key}
 use Rattle.fd_closure.specs.Laws.{KeyMeans}

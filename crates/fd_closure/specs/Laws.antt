@@ -1,5 +1,6 @@
 -- The laws of the definitions, which functions with an empty body ensure.
 use Rattle.std.specs.Prelude.{◌≡◌, ◌<◌, ◌^◌, ℕ, true, ◌↔◌}
+use Rattle.col_set.specs.declared.col_set.TheConstants.{MOST_COLUMNS}
 use Rattle.col_set.specs.ColSet.{Columns, IsSubset, has, subset}
 use Rattle.rel_base.specs.RowState.{RowState, width}
 use Rattle.rel_base.specs.Validity.{Holds}
@@ -19,7 +20,7 @@ pub record CoversTell (r : RowState) : Type 0 where
   pub order : IsInOrder (covers r).fds
   pub closure : (x : Columns) → x < 2 ^ width r → closure_of (covers r).fds x ≡ determined_columns r x
   pub determines : (x s : Columns) → x < 2 ^ width r → s < 2 ^ width r → subset s (closure_of (covers r).fds x) ≡ determines_all r x s
-  pub key : (s : Columns) → s < 2 ^ width r → shrunk (λ x. subset s (closure_of (covers r).fds x)) 128 s ≡ table_key r s
+  pub key : (s : Columns) → s < 2 ^ width r → shrunk (λ x. subset s (closure_of (covers r).fds x)) MOST_COLUMNS s ≡ table_key r s
 
 -- The key of a table lies in it, determines it, and no smaller set inside the key does.
 pub record KeyMeans (r : RowState) (s : Columns) : Type 0 where

@@ -3,7 +3,8 @@ ghost use Rattle.std.specs.Prelude.{◌≡◌, ◌<◌, ◌≤◌, ◌==◌, ◌
 ghost use Rattle.std.specs.List.Sorted.{IsPartitionPoint};
 ghost use Rattle.col_set.specs.ColSet.{subset};
 ghost use Rattle.fd_closure.specs.Closure as words;
-ghost use Rattle.fd_closure.specs.Closure.{fd_cmp, IsInOrder, is_before, is_short};
+ghost use Rattle.rel_base.specs.Laws.{fd_cmp};
+ghost use Rattle.fd_closure.specs.Closure.{IsInOrder, is_before, is_short};
 
 use rel_base::{ColSet, Fd};
 use std::cmp::Ordering;

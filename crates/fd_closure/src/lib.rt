@@ -4,5 +4,7 @@
 mod group;
 pub mod laws;
 mod reach;
+#[cfg(test)]
+mod tests;
 
 pub use reach::{closure, determines, shrink_key};

@@ -5,7 +5,7 @@ ghost use Rattle.fd_closure.specs.Closure.{closure_of, has_left_inside, IsInOrde
 ghost use Rattle.fd_closure.specs.Keys.{shrunk};
 
 use crate::group::has_left_inside;
-use rel_base::{ColSet, Covers};
+use rel_base::{ColSet, Covers, MOST_COLUMNS};
 
 /// The columns that x determines, by the minimal dependencies of a relation: x, and each column that has a left side inside x.
 ///
@@ -19,7 +19,7 @@ pub fn closure(covers: &Covers, x: ColSet) -> ColSet
     ensures every { IsInOrder covers.now.fds → result ≡ closure_of covers.now.fds x }
 {
     let mut reached = x;
-    let mut rest = ColSet::all(128).minus(x);
+    let mut rest = ColSet::all(MOST_COLUMNS).minus(x);
     while let Some(column) = rest.first() {
         if has_left_inside(covers.fds(), x, column) {
             reached = reached.with(column);
@@ -51,10 +51,10 @@ pub fn determines(covers: &Covers, x: ColSet, s: ColSet) -> bool
 /// It takes a call of `determines` for each column of s.
 pub fn shrink_key(covers: &Covers, s: ColSet) -> ColSet
     ensures inside { IsSubset result s }
-    ensures every { IsInOrder covers.now.fds → result ≡ shrunk (λ x. subset s (closure_of covers.now.fds x)) 128 s }
+    ensures every { IsInOrder covers.now.fds → result ≡ shrunk (λ x. subset s (closure_of covers.now.fds x)) MOST_COLUMNS s }
 {
     let mut key = s;
-    for column in (0..128).rev() {
+    for column in (0..MOST_COLUMNS).rev() {
         if key.has(column) && determines(covers, key.without(column), s) {
             key = key.without(column);
         }

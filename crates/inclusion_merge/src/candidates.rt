@@ -4,7 +4,7 @@ ghost use Rattle.col_set.specs.ColSet.{inter};
 ghost use Rattle.inclusion_merge.specs.WideSet.{has_wide};
 
 use crate::wide_set::{PART, has_wide, parts_for, parts_of};
-use rel_base::ColSet;
+use rel_base::{ColSet, MOST_COLUMNS};
 use std::alloc::{AllocError, Global};
 
 /// Which inclusions among so many columns are still possible: for each column, the set of those that it may be included in.
@@ -30,7 +30,7 @@ impl Candidates {
         let Some(count) = columns.checked_mul(parts) else {
             return Err(AllocError);
         };
-        let kept = parts_of(alloc, ColSet::all(PART as u8), count)?;
+        let kept = parts_of(alloc, ColSet::all(MOST_COLUMNS), count)?;
         Ok(Candidates {
             columns,
             parts,

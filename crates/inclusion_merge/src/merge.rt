@@ -7,7 +7,7 @@ ghost use Rattle.inclusion_merge.specs.Sharing.{AllRise, AllEnded, IsFirstOf, Le
 
 use crate::candidates::Candidates;
 use crate::value::Value;
-use crate::wide_set::{clear_wide, has_wide, insert_wide, parts_of};
+use crate::wide_set::{PART, clear_wide, has_wide, insert_wide, parts_of};
 use rel_base::ColSet;
 use std::alloc::{AllocError, Global};
 use std::cmp::Ordering;

@@ -1,13 +1,13 @@
-// Sets of any number of columns, in parts of 128.
+// Sets of any number of columns, in parts of as many columns as a column set has.
 ghost use Rattle.std.specs.Prelude.{◌≡◌, ◌||◌, ◌==◌, ◌<◌, ◌≤◌, ◌*◌, ℕ, false, length, replicate, IfOk};
 ghost use Rattle.col_set.specs.ColSet.{Columns};
 ghost use Rattle.inclusion_merge.specs.WideSet.{has_wide};
 
-use rel_base::ColSet;
+use rel_base::{COLUMN_PLACES, ColSet};
 use std::alloc::{AllocError, Global};
 
 /// How many columns a part has.
-pub(crate) const PART: usize = 128;
+pub(crate) const PART: usize = COLUMN_PLACES;
 
 /// How many parts sets of so many columns have.
 pub(crate) fn parts_for(columns: usize) -> usize

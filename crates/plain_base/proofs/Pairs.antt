@@ -63,7 +63,7 @@ map_map : {X Y Z : Type 0} (f : Y → Z) (g : X → Y) (xs : List X) → map f (
 map_map f g [] = refl
 map_map f g (x ∷ xs) = ap (λ ys. f (g x) ∷ ys) (map_map f g xs)
 
-pairs-map : (g : ℕ → Row) (f : Row × Row → ℕ) (ns : List ℕ) → map f (pairs (map g ns)) ≡ map (λ p. f (g p.0, g p.1)) (pairs ns)
+pub pairs-map : (g : ℕ → Row) (f : Row × Row → ℕ) (ns : List ℕ) → map f (pairs (map g ns)) ≡ map (λ p. f (g p.0, g p.1)) (pairs ns)
 unfolding pairs
 pairs-map g f [] = refl
 pairs-map g f (n ∷ ns) =

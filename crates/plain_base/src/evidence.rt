@@ -6,24 +6,22 @@ ghost use Rattle.col_set.specs.Target.{IsColumnTarget, has_target, is_target};
 ghost use Rattle.col_set.specs.Minimal.{proper_subset};
 ghost use Rattle.col_set.specs.Evidence.{refuted, least, extensions, replaced, minimal_of};
 
-use col_set::{ColSet, Target};
+use col_set::{ColSet, MOST_COLUMNS, Target};
 use std::alloc::{AllocError, Global};
 use std::collections::BTreeSet;
 
 /// Whether some agree set of the list contains x and lacks the target.
 #[tactic(auto, unfolding(col_set::specs::Evidence::refuted))]
 pub fn refutes(agree_sets: &[ColSet], target: Target, x: ColSet) -> bool
-    requires { IsColumnTarget 128 target }
+    requires { IsColumnTarget MOST_COLUMNS target }
     ensures { result ≡ refuted agree_sets.now target x }
 {
-    agree_sets
-        .iter()
-        .any(|w| x.subset_of(*w) && !w.has_target(target))
+    agree_sets.iter().any(|w| w.refutes(x, target))
 }
 
 // Whether the column is outside z and not the target.
 fn is_outside(z: ColSet, target: Target, column: u8) -> bool
-    requires { column < 128 }
+    requires { column < MOST_COLUMNS }
     ensures { result ≡ (not (has z column) && not (is_target column target)) }
 {
     !z.has(column) && !target.is_column(column)
@@ -37,7 +35,7 @@ fn push_extensions(
     z: ColSet,
     x: ColSet,
 ) -> Result<(), AllocError>
-    requires { columns ≤ 128 }
+    requires { columns ≤ MOST_COLUMNS }
     ensures { OnOk result (grown.new.items ≡ grown.old.items ++ extensions columns target z x) }
 {
     for column in 0..columns {
@@ -56,7 +54,7 @@ fn grown(
     z: ColSet,
     candidates: &[ColSet],
 ) -> Result<Vec<ColSet>, AllocError>
-    requires { columns ≤ 128 }
+    requires { columns ≤ MOST_COLUMNS }
     ensures { IfOk result (λ sets. sets.items ≡ replaced columns target z candidates.now) }
 {
     let mut sets = Vec::new(alloc);
@@ -105,7 +103,7 @@ pub fn specialise(
     z: ColSet,
     candidates: &[ColSet],
 ) -> Result<Vec<ColSet>, AllocError>
-    requires columns { columns ≤ 128 }
+    requires columns { columns ≤ MOST_COLUMNS }
     requires apart { has_target z target ≡ false }
     ensures { IfOk result (λ part. (ws : List ℕ) → candidates.now ≡ least columns ws target → part.items ≡ least columns (ws ++ z ∷ []) target) }
 {
@@ -121,8 +119,8 @@ pub fn least_sets(
     target: Target,
     agree_sets: &[ColSet],
 ) -> Result<Vec<ColSet>, AllocError>
-    requires columns { columns ≤ 128 }
-    requires target { IsColumnTarget 128 target }
+    requires columns { columns ≤ MOST_COLUMNS }
+    requires target { IsColumnTarget MOST_COLUMNS target }
     ensures { IfOk result (λ found. found.items ≡ least columns agree_sets.now target) }
 {
     let mut candidates = Vec::new(alloc);

@@ -11,7 +11,7 @@ ghost use Rattle.col_set.specs.ColSet.{upto};
 ghost use Rattle.col_set.specs.Evidence.{least};
 
 use crate::least_sets;
-use col_set::{ColSet, Target};
+use col_set::{ColSet, MOST_COLUMNS, Target};
 use rel_base::{Covers, Fd, Nulls, Relation, Row};
 use std::alloc::{AllocError, Global};
 
@@ -26,7 +26,7 @@ fn cells_agree(nulls: Nulls, one: &[u8], other: &[u8]) -> bool
 
 /// The columns, of the first ones, in which two rows agree. It takes a comparison of two cells a column.
 pub fn agree(nulls: Nulls, columns: u8, one: &Row, other: &Row) -> ColSet
-    requires most { columns ≤ 128 }
+    requires most { columns ≤ MOST_COLUMNS }
     requires own { columns ≤ length one.now }
     requires others { columns ≤ length other.now }
     ensures { result ≡ agreement.agree nulls columns one.now other.now }
@@ -52,7 +52,7 @@ fn push_agree_sets(
     one: &Row,
     others: &[Row],
 ) -> Result<(), AllocError>
-    requires most { columns ≤ 128 }
+    requires most { columns ≤ MOST_COLUMNS }
     requires own { columns ≤ length one.now }
     requires wide { All (λ row. length row ≡ columns) others.now }
     ensures { OnOk result (sets.new.items ≡ sets.old.items ++ map (λ other. agreement.agree nulls columns one.now other) others.now) }
@@ -70,7 +70,7 @@ pub fn agree_sets(
     columns: u8,
     rows: &[Row],
 ) -> Result<Vec<ColSet>, AllocError>
-    requires most { columns ≤ 128 }
+    requires most { columns ≤ MOST_COLUMNS }
     requires wide { All (λ row. length row ≡ columns) rows.now }
     ensures { IfOk result (λ sets. sets.items ≡ map (λ p. agreement.agree nulls columns p.0 p.1) (pairs rows.now)) }
 {
@@ -95,7 +95,7 @@ fn push_fds(fds: &mut Vec<Fd>, right: u8, lefts: &[ColSet]) -> Result<(), AllocE
 
 // The dependencies that these agree sets of so many columns leave, by right column.
 fn least_fds(alloc: Global, columns: u8, agree_sets: &[ColSet]) -> Result<Vec<Fd>, AllocError>
-    requires { columns ≤ 128 }
+    requires { columns ≤ MOST_COLUMNS }
     ensures { IfOk result (λ fds. fds.items ≡ flat_map (λ a. fds_to a (least columns agree_sets.now (Col a))) (upto columns)) }
 {
     let mut fds = Vec::new(alloc);
@@ -110,7 +110,7 @@ fn least_fds(alloc: Global, columns: u8, agree_sets: &[ColSet]) -> Result<Vec<Fd
 /// set refutes, and of which no part is such a set.
 #[tactic(auto, unfolding(rel_base::specs::Covers::least_covers))]
 pub fn least_covers(alloc: Global, columns: u8, agree_sets: &[ColSet]) -> Result<Covers, AllocError>
-    requires { columns ≤ 128 }
+    requires { columns ≤ MOST_COLUMNS }
     ensures { IfOk result (λ found. found ≡ cover_words.least_covers columns agree_sets.now) }
 {
     let keys = least_sets(alloc, columns, Target::RowId, agree_sets)?;

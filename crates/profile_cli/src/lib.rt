@@ -4,8 +4,6 @@
 mod columns;
 mod command;
 mod ending;
-#[cfg(test)]
-mod fault_tests;
 pub mod laws;
 mod outcome;
 mod profile_run;
@@ -14,10 +12,6 @@ mod reports;
 mod request;
 mod session;
 mod session_run;
-#[cfg(test)]
-mod session_tests;
-#[cfg(test)]
-mod sure_tests;
 #[cfg(test)]
 mod tests;
 mod top_call;

@@ -1,367 +1,201 @@
-// Batches on small relations, under both readings of NULL, and after each allocation that fails.
-ghost use Rattle.std.specs.Prelude.{◌≡◌, true, length};
-ghost use Rattle.std.specs.List.{All};
-ghost use Rattle.rel_base.specs.Relation.{IsContent};
-ghost use Rattle.rel_base.specs.RowState.{width};
-ghost use Rattle.rel_base.specs.Batches.{IsAsWide};
+// The log beside the plain rows, on small drawn relations and batches.
+ghost use Rattle.std.specs.Prelude.{◌≡◌};
 
-use crate::column::Column;
 use crate::{Applying, RowLog};
-use rel_base::{Batch, ColSet, Limits, Nulls, Op, Relation, Row, RowNo, Why};
-use std::alloc::{AllocError, Global};
+use plain_base::{PlainRows, Samples, agree, are_as_wide, relation_of};
+use rel_base::{Batch, ColSet, Limits, Nulls, Relation, Row, RowNo};
+use std::alloc::Global;
 use std::process::Abort;
 use std::test::Fail;
 
-// Whether these are a relation's names and rows.
-fn is_content(names: &Row, rows: &[Row]) -> bool
-    ensures { result ≡ true → IsContent (record { names = names.now; rows = rows.now }) }
-{
-    let width = names.len();
-    0 < width && width <= 128 && rows.len() <= 1_000_000 && are_wide(rows, width)
+// A relation of three columns and four rows.
+fn drawn(alloc: Global, seed: u64) -> Result<Relation, Fail> {
+    let mut samples = Samples::from_seed(seed);
+    let names = samples.row(alloc, 3)?;
+    let rows = samples.rows(alloc, 4, 3)?;
+    Ok(relation_of(names, rows).ok_or("no relation")?)
 }
 
-// Whether all rows have this width.
-fn are_wide(rows: &[Row], width: usize) -> bool
-    ensures { result ≡ true → All (λ row. length row ≡ width) rows.now }
-{
-    for row in rows {
-        if row.len() != width {
+// Such a relation as a log and as plain rows, where no number above 6 is given.
+fn opened(alloc: Global, seed: u64, nulls: Nulls) -> Result<(RowLog, PlainRows), Fail> {
+    let limits = Limits::smaller(3, 6, 9, 99);
+    let log = RowLog::open_with(alloc, drawn(alloc, seed)?, limits, nulls)?;
+    let rows = PlainRows::opened(alloc, nulls, limits, drawn(alloc, seed)?)?;
+    Ok((log, rows))
+}
+
+fn is_same(log: &RowLog, rows: &PlainRows) -> bool {
+    let given = rows.given();
+    let live = rows.live();
+    if log.next().number() as usize != given.len() + 1 || log.live_len() as usize != live.len() {
+        return false;
+    }
+    for (place, row) in given.iter().enumerate() {
+        let number = RowNo::of(place as u32 + 1);
+        if log.is_live(number) != live.contains(&number.number())
+            || !has_same_cells(log, number, row)
+        {
             return false;
         }
     }
     true
 }
 
-// Whether the operation brings no row of another width.
-fn is_as_wide(op: &Op, width: usize) -> bool
-    ensures { result ≡ true → IsAsWide width op.now }
-{
-    match op {
-        Op::Insert(row) => row.len() == width,
-        Op::Delete(_) => true,
-        Op::Update(_, row) => row.len() == width,
+fn has_same_cells(log: &RowLog, number: RowNo, row: &Row) -> bool {
+    if number >= log.next() || row.len() != log.names().len() {
+        return false;
     }
-}
-
-// Whether no operation brings a row of another width.
-fn are_as_wide(ops: &[Op], width: usize) -> bool
-    ensures { result ≡ true → All (IsAsWide width) ops.now }
-{
-    for op in ops {
-        if !is_as_wide(op, width) {
+    for column in 0..log.names().len() {
+        if log.cell(number, column as u8).bytes() != row.cell(column) {
             return false;
         }
     }
     true
 }
 
-// The columns k and v with the rows (1, x), (1, y) and (2, z).
-fn letters(rt: &impl Abort, alloc: Global) -> Result<Relation, AllocError> {
-    let names = Row::copied(alloc, &[b"k", b"v"])?;
-    let mut rows = Vec::with_capacity(alloc, 3)?;
-    for (k, v) in [(b"1", b"x"), (b"1", b"y"), (b"2", b"z")] {
-        rows.push(Row::copied(alloc, &[k.as_slice(), v])?)?;
-    }
-    assert!(rt; is_content(&names, &rows));
-    Ok(Relation::of(names, rows))
-}
-
-// The columns a and b with the rows (NULL, 1) and (NULL, 2).
-fn blanks(rt: &impl Abort, alloc: Global) -> Result<Relation, AllocError> {
-    let names = Row::copied(alloc, &[b"a", b"b"])?;
-    let rows = vec![in alloc; two(alloc, b"", b"1")?, two(alloc, b"", b"2")?]?;
-    assert!(rt; is_content(&names, &rows));
-    Ok(Relation::of(names, rows))
-}
-
-// The columns k and v with the rows (1, x), (1, y) and (2, z), where no more rows are given than this.
-fn letters_log(rt: &impl Abort, alloc: Global, rows: u32) -> Result<RowLog, AllocError> {
-    assert!(rt; rows <= 1_000_000);
-    RowLog::open(alloc, letters(rt, alloc)?, Limits::smaller(2, rows, 9, 99))
-}
-
-// The row of these two cells.
-fn two(alloc: Global, k: &[u8], v: &[u8]) -> Result<Row, AllocError> {
-    Row::copied(alloc, &[k, v])
-}
-
-// The cells of all rows given, each row with a mark of whether it is live, and the next number.
-fn text_of(alloc: Global, log: &RowLog) -> Result<Vec<u8>, AllocError> {
-    let mut text = Vec::new(alloc);
-    let next = log.next();
-    for number in 1..next.number() {
-        let row = RowNo::of(number);
-        for column in 0..log.names().len() as u8 {
-            text.extend_from_slice(log.cell(row, column).bytes())?;
-        }
-        text.push(if log.is_live(row) { b'+' } else { b'-' })?;
-    }
-    text.push(b'0' + (next.number() % 10) as u8)?;
-    Ok(text)
-}
-
-// Whether the log reads so.
-fn is_text(alloc: Global, log: &RowLog, wanted: &[u8]) -> Result<bool, AllocError> {
-    Ok(text_of(alloc, log)?.as_slice() == wanted)
-}
-
-// Applies a batch of rows as wide as the relation. Where memory runs out, the log is as before, and the batch is tried again.
-fn apply(
+// Whether the log answers a batch as the plain rows do, and has their rows afterwards. Where memory ran out, nothing changed.
+fn answers_the_same(
     rt: &impl Abort,
     alloc: Global,
     log: &mut RowLog,
+    rows: &PlainRows,
     batch: &Batch,
-) -> Result<Applying, AllocError> {
-    assert!(rt;
-        are_as_wide(batch.ops(), log.names().len()),
-        "a row of another width"
-    );
-    let before = text_of(alloc, log)?;
-    match log.apply(batch) {
-        Applying::NoMemory => {
-            assert!(rt;
-                text_of(alloc, log)? == before,
-                "a want of memory changed the log"
-            );
-            assert!(rt;
-                are_as_wide(batch.ops(), log.names().len()),
-                "a row of another width"
-            );
-            Ok(log.apply(batch))
+) -> Result<bool, Fail> {
+    assert!(rt; are_as_wide(batch, rows.names().len()));
+    let outcome = rows.after(alloc, batch)?;
+    assert!(rt; are_as_wide(batch, log.names().len()));
+    Ok(match (log.apply(batch), outcome) {
+        (Applying::Applied { .. }, Ok(after)) => is_same(log, &after),
+        (Applying::Refused { at, why }, Err((place, cause))) => {
+            at == place as u64 && why == cause && is_same(log, rows)
         }
-        answer => Ok(answer),
+        (Applying::NoMemory, _) => is_same(log, rows),
+        _ => false,
+    })
+}
+
+#[test]
+fn batches_are_applied_as_plainly(rt: HostRuntime) -> Result<(), Fail> {
+    for seed in 0..60 {
+        let (mut log, rows) = opened(rt.alloc(), seed, Nulls::Equal)?;
+        let batch = Samples::from_seed(seed + 100).batch(rt.alloc(), 3, 3, 5)?;
+        assert!(rt;
+            answers_the_same(&rt, rt.alloc(), &mut log, &rows, &batch)?,
+            "seed {seed}"
+        );
     }
+    Ok(())
 }
 
 // Applies a batch and takes it back.
-fn apply_and_undo(rt: &impl Abort, log: &mut RowLog, batch: &Batch) -> Applying
+fn apply_and_undo(rt: &impl Abort, log: &mut RowLog, batch: &Batch)
     ensures { log.new ≡ log.old }
 {
-    assert!(rt;
-        are_as_wide(batch.ops(), log.names().len()),
-        "a row of another width"
-    );
-    let answer = log.apply(batch);
-    if let Applying::Applied { .. } = answer {
+    assert!(rt; are_as_wide(batch, log.names().len()));
+    if let Applying::Applied { .. } = log.apply(batch) {
         log.undo(batch);
     }
-    answer
 }
 
-#[test]
-fn an_insert_and_a_delete_are_applied(rt: HostRuntime) -> Result<(), Fail> {
-    let alloc = rt.alloc();
-    let mut log = letters_log(&rt, alloc, 1_000_000)?;
-    assert!(rt; is_text(alloc, &log, b"1x+1y+2z+4")?);
-    let batch = Batch::of(vec![in alloc;
-        Op::Delete(RowNo::of(2)),
-        Op::Insert(two(alloc, b"5", b"q")?),
-    ]?);
-    let answer = apply(&rt, alloc, &mut log, &batch)?;
-    assert!(rt;
-        answer
-            == (Applying::Applied {
-                inserted: 1,
-                deleted: 1
-            })
-    );
-    assert!(rt; is_text(alloc, &log, b"1x+1y-2z+5q+5")?);
-    assert!(rt; log.live_len() == 3 && log.limit() == 1_000_000 && log.nulls() == Nulls::Equal);
-    let snapshot = log.snapshot(alloc)?;
-    assert!(rt; snapshot.to() == RowNo::of(5) && snapshot.columns() == 2);
-    for (number, live) in [(1u32, true), (2, false), (3, true), (4, true), (5, false)] {
-        assert!(rt; snapshot.is_live(RowNo::of(number)) == live, "{number}");
-        assert!(rt; log.is_live(RowNo::of(number)) == live, "{number}");
+// Whether two rows, by their places, agree as they plainly do.
+fn agrees(log: &RowLog, rows: &PlainRows, first: usize, second: usize) -> bool {
+    let given = rows.given();
+    if first >= second || second >= given.len() || given.len() as u32 >= log.next().number() {
+        return false;
     }
-    assert!(rt; !log.is_live(RowNo::of(u32::MAX)));
-    Ok(())
+    let (i, j) = (RowNo::of(first as u32 + 1), RowNo::of(second as u32 + 1));
+    given[first].len() == 3
+        && given[second].len() == 3
+        && log.agree(i, j) == agree(rows.nulls(), 3, &given[first], &given[second])
 }
 
-#[test]
-fn a_refused_batch_leaves_no_trace(rt: HostRuntime) -> Result<(), Fail> {
-    let alloc = rt.alloc();
-    let mut log = letters_log(&rt, alloc, 1_000_000)?;
-    let batch = Batch::of(vec![in alloc;
-        Op::Insert(two(alloc, b"3", b"w")?),
-        Op::Delete(RowNo::of(9)),
-    ]?);
-    let answer = apply(&rt, alloc, &mut log, &batch)?;
-    assert!(rt;
-        answer
-            == (Applying::Refused {
-                at: 2,
-                why: Why::Missing
-            })
-    );
-    assert!(rt; is_text(alloc, &log, b"1x+1y+2z+4")?);
-    let twice = Batch::of(vec![in alloc;
-        Op::Update(RowNo::of(2), two(alloc, b"7", b"7")?),
-        Op::Delete(RowNo::of(4)),
-        Op::Delete(RowNo::of(4)),
-    ]?);
-    let answer = apply(&rt, alloc, &mut log, &twice)?;
-    assert!(rt;
-        answer
-            == (Applying::Refused {
-                at: 3,
-                why: Why::Missing
-            })
-    );
-    assert!(rt; is_text(alloc, &log, b"1x+1y+2z+4")?);
-    assert!(rt; log.live_len() == 3);
-    Ok(())
-}
-
-#[test]
-fn a_missing_row_is_found_before_the_limit(rt: HostRuntime) -> Result<(), Fail> {
-    let alloc = rt.alloc();
-    let mut log = letters_log(&rt, alloc, 3)?;
-    for (op, why) in [
-        (
-            Op::Update(RowNo::of(9), two(alloc, b"1", b"x")?),
-            Why::Missing,
-        ),
-        (Op::Update(RowNo::of(1), two(alloc, b"1", b"x")?), Why::Rows),
-        (Op::Insert(two(alloc, b"3", b"w")?), Why::Rows),
-    ] {
-        let batch = Batch::of(vec![in alloc; op]?);
-        let answer = apply(&rt, alloc, &mut log, &batch)?;
-        assert!(rt; answer == (Applying::Refused { at: 1, why }), "{why:?}");
+// Whether each two of the first four rows do.
+fn all_agree(log: &RowLog, rows: &PlainRows) -> bool {
+    for second in 1..4 {
+        for first in 0..second {
+            if !agrees(log, rows, first, second) {
+                return false;
+            }
+        }
     }
-    let empty = Batch::of(Vec::new(alloc));
-    let answer = apply(&rt, alloc, &mut log, &empty)?;
-    assert!(rt;
-        answer
-            == (Applying::Applied {
-                inserted: 0,
-                deleted: 0
-            })
-    );
-    // More rows than the limit: no row can come.
-    let mut full = letters_log(&rt, alloc, 1)?;
-    let batch = Batch::of(vec![in alloc;
-        Op::Delete(RowNo::of(3)),
-        Op::Insert(two(alloc, b"3", b"w")?),
-    ]?);
-    let answer = apply(&rt, alloc, &mut full, &batch)?;
-    assert!(rt;
-        answer
-            == (Applying::Refused {
-                at: 2,
-                why: Why::Rows
-            })
-    );
-    assert!(rt; is_text(alloc, &full, b"1x+1y+2z+4")?);
+    true
+}
+
+#[test]
+fn rows_agree_as_plainly(rt: HostRuntime) -> Result<(), Fail> {
+    for nulls in [Nulls::Equal, Nulls::Distinct] {
+        for seed in 0..20 {
+            let (log, rows) = opened(rt.alloc(), seed, nulls)?;
+            assert!(rt; all_agree(&log, &rows), "{nulls:?}, seed {seed}");
+        }
+    }
     Ok(())
 }
 
 #[test]
-fn an_update_counts_twice_and_is_taken_back(rt: HostRuntime) -> Result<(), Fail> {
-    let alloc = rt.alloc();
-    let mut log = letters_log(&rt, alloc, 1_000_000)?;
-    let batch = Batch::of(vec![in alloc;
-        Op::Update(RowNo::of(2), two(alloc, b"1", b"x")?),
-        Op::Delete(RowNo::of(4)),
-        Op::Insert(two(alloc, b"8", b"y")?),
-    ]?);
-    let answer = apply_and_undo(&rt, &mut log, &batch);
-    assert!(rt;
-        answer == Applying::NoMemory
-            || answer
-                == (Applying::Applied {
-                    inserted: 2,
-                    deleted: 2
-                })
-    );
-    assert!(rt; is_text(alloc, &log, b"1x+1y+2z+4")?);
-    assert!(rt; log.live_len() == 3);
-    let answer = apply(&rt, alloc, &mut log, &batch)?;
-    assert!(rt;
-        answer
-            == (Applying::Applied {
-                inserted: 2,
-                deleted: 2
-            })
-    );
-    assert!(rt; is_text(alloc, &log, b"1x+1y-2z+1x-8y+6")?);
-    assert!(rt; log.live_len() == 3);
-    Ok(())
-}
-
-#[test]
-fn rows_agree_as_null_is_read(rt: HostRuntime) -> Result<(), Fail> {
-    let alloc = rt.alloc();
-    for (nulls, wanted) in [
-        (Nulls::Equal, ColSet::empty().with(0)),
-        (Nulls::Distinct, ColSet::empty()),
-    ] {
-        let names = Row::copied(alloc, &[b"a", b"b"])?;
-        let rows = vec![in alloc; two(alloc, b"", b"1")?, two(alloc, b"", b"2")?]?;
-        assert!(rt; is_content(&names, &rows));
-        let mut log = RowLog::open_with(
-            alloc,
-            Relation::of(names, rows),
-            Limits::standard(),
-            nulls,
-        )?;
-        let batch = Batch::of(vec![in alloc; Op::Insert(two(alloc, b"", b"1")?)]?);
-        let answer = apply(&rt, alloc, &mut log, &batch)?;
+fn a_batch_is_taken_back_with_its_codes(rt: HostRuntime) -> Result<(), Fail> {
+    for seed in 0..60 {
+        let (mut log, rows) = opened(rt.alloc(), seed, Nulls::Distinct)?;
+        let mut samples = Samples::from_seed(seed + 200);
+        apply_and_undo(&rt, &mut log, &samples.batch(rt.alloc(), 2, 3, 3)?);
         assert!(rt;
-            answer
-                == (Applying::Applied {
-                    inserted: 1,
-                    deleted: 0
-                })
+            is_same(&log, &rows) && all_agree(&log, &rows),
+            "seed {seed}"
         );
-        let (first, second, third) = (RowNo::of(1), RowNo::of(2), RowNo::of(3));
-        assert!(rt; third < log.next());
-        assert!(rt; log.agree(first, second) == wanted, "{nulls:?}");
-        assert!(rt; log.agree(third, first) == wanted.with(1), "{nulls:?}");
+        let batch = samples.batch(rt.alloc(), 2, 3, 3)?;
+        assert!(rt;
+            answers_the_same(&rt, rt.alloc(), &mut log, &rows, &batch)?,
+            "seed {seed}"
+        );
     }
     Ok(())
 }
 
 #[test]
-fn rows_that_go_take_their_codes(rt: HostRuntime) -> Result<(), Fail> {
-    let mut column = Column::new(rt.alloc(), Nulls::Distinct);
-    for bytes in [b"a".as_slice(), b"b", b"", b"b", b"c"] {
-        assert!(rt; column.codes().len() < 9);
-        column.push(bytes)?;
+fn a_snapshot_has_the_live_rows(rt: HostRuntime) -> Result<(), Fail> {
+    let (log, rows) = opened(rt.alloc(), 7, Nulls::Equal)?;
+    let snapshot = log.snapshot(rt.alloc())?;
+    assert!(rt; snapshot.to() == log.next() && snapshot.columns() == 3);
+    for number in 1..6u32 {
+        assert!(rt; snapshot.is_live(RowNo::of(number)) == rows.live().contains(&number));
     }
-    assert!(rt; column.codes() == [0u32, 1, 2, 1, 3].as_slice());
-    column.truncate(2);
-    assert!(rt; column.codes() == [0u32, 1].as_slice());
-    for bytes in [b"c".as_slice(), b"b", b""] {
-        assert!(rt; column.codes().len() < 9);
-        column.push(bytes)?;
-    }
-    assert!(rt; column.codes() == [0u32, 1, 2, 1, 3].as_slice());
-    column.truncate(0);
-    assert!(rt; column.codes().is_empty());
     Ok(())
 }
 
+fn has_cell(cells: &Row, cell: &[u8]) -> bool {
+    for place in 0..cells.len() {
+        if cells.cell(place) == cell {
+            return true;
+        }
+    }
+    false
+}
+
+// Whether the cells are those of these parts of one cell that are not NULL.
+fn are_cells_of(cells: &Row, parts: &[Row]) -> bool {
+    let mut filled = 0usize;
+    for part in parts {
+        if part.len() != 1 {
+            return false;
+        }
+        if !part.cell(0).is_empty() {
+            if !has_cell(cells, part.cell(0)) {
+                return false;
+            }
+            filled = filled.saturating_add(1);
+        }
+    }
+    filled == cells.len()
+}
+
 #[test]
-fn the_distinct_cells_are_those_of_live_rows(rt: HostRuntime) -> Result<(), Fail> {
-    let alloc = rt.alloc();
-    let mut log = letters_log(&rt, alloc, 1_000_000)?;
-    let batch = Batch::of(vec![in alloc;
-        Op::Delete(RowNo::of(2)),
-        Op::Insert(two(alloc, b"1", b"")?),
-    ]?);
-    let answer = apply(&rt, alloc, &mut log, &batch)?;
-    assert!(rt;
-        answer
-            == (Applying::Applied {
-                inserted: 1,
-                deleted: 1
-            })
-    );
-    assert!(rt; log.names().len() == 2);
-    let keys = log.distinct_cells(alloc, 0)?;
-    let values = log.distinct_cells(alloc, 1)?;
-    assert!(rt; keys.len() == 2 && values.len() == 2);
-    assert!(rt; keys.cell(0) == b"1".as_slice() && keys.cell(1) == b"2".as_slice());
-    assert!(rt; values.cell(0) == b"x".as_slice() && values.cell(1) == b"z".as_slice());
+fn distinct_cells_are_the_parts_of_live_rows(rt: HostRuntime) -> Result<(), Fail> {
+    for seed in 0..20 {
+        let (log, rows) = opened(rt.alloc(), seed, Nulls::Equal)?;
+        assert!(rt; log.names().len() == 3 && rows.names().len() == 3);
+        let cells = log.distinct_cells(rt.alloc(), 0)?;
+        let parts = rows.projection(rt.alloc(), ColSet::of_bits(1))?;
+        assert!(rt; are_cells_of(&cells, &parts), "seed {seed}");
+    }
     Ok(())
 }

@@ -5,13 +5,15 @@ use Rattle.std.specs.List.Sorted.{IsStrictlyIncreasing}
 use Rattle.col_set.specs.declared.target.Target.TheVariants.{Col, RowId}
 use Rattle.col_set.specs.ColSet.{Columns, with}
 use Rattle.rel_base.specs.CodeTable.{CodeTable}
-use Rattle.rel_base.specs.Shows.{live_numbers, holds_in}
+use Rattle.rel_base.specs.RowState.{RowState, IsRowState}
+use Rattle.rel_base.specs.Validity.{holds}
+use Rattle.rel_base.specs.Shows.{Shows, live_numbers, holds_in}
 use Rattle.stripped_partition.specs.Stripped.{stripped, error_of}
 use Rattle.stripped_partition.specs.SplitBy.{least, split_by}
 
--- X determines a column exactly where adding the column to X leaves e as it is.
+-- In a row state that a snapshot shows, X determines a column exactly where adding the column to X leaves e as it is.
 abbrev pub ErrorsTell : Type 0
-ErrorsTell = (s : CodeTable) (x : Columns) (a : ℕ) → (holds_in s x (Col a) ≡ true) ↔ (error_of (stripped s x) ≡ error_of (stripped s (with x a)))
+ErrorsTell = (s : CodeTable) (r : RowState) → IsRowState r → Shows s r → (x : Columns) (a : ℕ) → (holds r x (Col a) ≡ true) ↔ (error_of (stripped s x) ≡ error_of (stripped s (with x a)))
 
 -- X is unique exactly where its stripped partition has no group.
 abbrev pub NoGroupsTell : Type 0

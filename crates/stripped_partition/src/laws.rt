@@ -3,7 +3,8 @@ ghost use Rattle.col_set.specs.ColSet.{Columns};
 ghost use Rattle.rel_base.specs.CodeTable.{CodeTable};
 ghost use Rattle.stripped_partition.specs.Laws.{ErrorsTell, NoGroupsTell, SplitsTell, RowsStandOnce};
 
-/// Columns determine a column exactly where adding it leaves the error count as it is.
+/// In a row state that a snapshot shows, columns determine a column exactly where adding it leaves the error count as it is
+/// (TANE, Huhtala, Kärkkäinen, Porkka and Toivonen, 1999).
 pub fn equal_errors_tell_dependencies()
     ensures { ErrorsTell }
 {}

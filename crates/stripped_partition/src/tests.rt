@@ -1,94 +1,161 @@
+// Partitions beside what plainly holds among drawn rows.
 use crate::Partition;
-use rel_base::{Codes, RowNo, Snapshot};
+use plain_base::{PlainRows, Samples, relation_of};
+use rel_base::{Codes, ColSet, Limits, Nulls, Row, RowNo, Snapshot, Target};
 use std::alloc::{AllocError, Global};
-use std::process::Abort;
 use std::test::Fail;
 
-// The snapshot of two columns over six rows.
-fn six_rows(alloc: Global, rt: &impl Abort, live: Vec<bool>) -> Result<Snapshot, AllocError> {
-    let first = Codes::of(vec![in alloc; 1u32, 1, 2, 2, 2, 3]?);
-    let second = Codes::of(vec![in alloc; 7u32, 8, 8, 8, 9, 9]?);
-    let codes = vec![in alloc; first, second]?;
-    assert!(rt; codes.len() == 2 && live.len() == 6);
-    assert!(rt; codes[0].as_slice().len() == 6 && codes[1].as_slice().len() == 6);
-    Ok(Snapshot::of(codes, live, RowNo::of(7)))
+// The codes of a column over six rows.
+type Column = [u32; 6];
+
+fn drawn(seed: u64) -> [Column; 3] {
+    let mut samples = Samples::from_seed(seed);
+    let mut columns = [[0u32; 6]; 3];
+    for column in columns.iter_mut() {
+        for code in column.iter_mut() {
+            *code = samples.below(3);
+        }
+    }
+    columns
 }
 
-fn is_group(partition: &Partition, k: usize, rows: &[u32]) -> bool {
-    if k >= partition.group_count() {
+// The snapshot of these columns, of which the rows with a number below the bound are live.
+fn snapshot_of(alloc: Global, columns: &[Column; 3], bound: usize) -> Result<Snapshot, AllocError> {
+    let mut codes = Vec::new(alloc);
+    codes.push(Codes::of(Vec::from_slice(alloc, &columns[0])?))?;
+    codes.push(Codes::of(Vec::from_slice(alloc, &columns[1])?))?;
+    codes.push(Codes::of(Vec::from_slice(alloc, &columns[2])?))?;
+    let mut live = [false; 6];
+    for place in 0..6 {
+        live[place] = place + 1 < bound;
+    }
+    Ok(Snapshot::of(codes, Vec::from_slice(alloc, &live)?, RowNo::of(7)))
+}
+
+fn cell_of(code: u32) -> &'static [u8] {
+    match code {
+        0 => b"0",
+        1 => b"1",
+        _ => b"2",
+    }
+}
+
+// The same rows, plainly.
+fn rows_of(alloc: Global, columns: &[Column; 3], bound: u32) -> Result<PlainRows, Fail> {
+    let mut rows = Vec::new(alloc);
+    for place in 0..6 {
+        rows.push(Row::copied(
+            alloc,
+            &[
+                cell_of(columns[0][place]),
+                cell_of(columns[1][place]),
+                cell_of(columns[2][place]),
+            ],
+        )?)?;
+    }
+    let names = Row::copied(alloc, &[b"a", b"b", b"c"])?;
+    let relation = relation_of(names, rows).ok_or("no relation")?;
+    let rows = PlainRows::opened(alloc, Nulls::Equal, Limits::standard(), relation)?;
+    Ok(rows.below(alloc, bound)?)
+}
+
+// Whether the partitions by a column and by one more tell what plainly holds.
+fn tells(
+    alloc: Global,
+    snapshot: &Snapshot,
+    rows: &PlainRows,
+    left: u8,
+    right: u8,
+) -> Result<bool, AllocError> {
+    if left >= snapshot.columns() || right >= snapshot.columns() {
+        return Ok(false);
+    }
+    let x = ColSet::empty().with(left);
+    let holds = rows.holds(alloc, x, Target::Col(right))?;
+    let unique = rows.holds(alloc, x.with(right), Target::RowId)?;
+    let one = Partition::of_column(alloc, snapshot, left)?;
+    let two = one.refine(alloc, snapshot, right)?;
+    Ok(
+        (one.error_count() == two.error_count()) == holds
+            && one.splits_by(snapshot, right).is_none() == holds
+            && (two.group_count() == 0) == unique,
+    )
+}
+
+#[test]
+fn partitions_tell_what_holds(rt: HostRuntime) -> Result<(), Fail> {
+    for seed in 0..20u64 {
+        let columns = drawn(seed);
+        let bound = 4 + (seed % 4) as u32;
+        let snapshot = snapshot_of(rt.alloc(), &columns, bound as usize)?;
+        let rows = rows_of(rt.alloc(), &columns, bound)?;
+        for left in 0..3 {
+            for right in 0..3 {
+                assert!(rt;
+                    tells(rt.alloc(), &snapshot, &rows, left, right)?,
+                    "seed {seed}"
+                );
+            }
+        }
+    }
+    Ok(())
+}
+
+fn is_same(one: &Partition, other: &Partition) -> bool {
+    if one.group_count() != other.group_count() {
         return false;
     }
-    let group = partition.group(k);
-    group.len() == rows.len()
-        && group
-            .iter()
-            .zip(rows)
-            .all(|(row, number)| row.number() == *number)
+    for k in 0..one.group_count() {
+        if one.group(k) != other.group(k) {
+            return false;
+        }
+    }
+    true
 }
 
-fn is_pair(pair: Option<(RowNo, RowNo)>, i: u32, j: u32) -> bool {
-    match pair {
-        Some((first, second)) => first.number() == i && second.number() == j,
-        None => false,
+// Whether the partition by two columns is the same, whichever way it is made.
+fn ways_meet(alloc: Global, snapshot: &Snapshot, left: u8, right: u8) -> Result<bool, AllocError> {
+    if left >= snapshot.columns() || right >= snapshot.columns() {
+        return Ok(false);
     }
+    let mut slots = Vec::new(alloc);
+    let one = Partition::of_column(alloc, snapshot, left)?;
+    let other = Partition::of_all(alloc, snapshot)?.refine_in(alloc, snapshot, right, &mut slots)?;
+    let product = one.product(alloc, &other)?;
+    Ok(
+        is_same(&product, &one.refine(alloc, snapshot, right)?)
+            && is_same(
+                &product,
+                &other.refine_in(alloc, snapshot, left, &mut slots)?,
+            ),
+    )
+}
+
+#[test]
+fn products_are_refinements(rt: HostRuntime) -> Result<(), Fail> {
+    for seed in 0..20u64 {
+        let snapshot = snapshot_of(rt.alloc(), &drawn(seed), 4 + (seed % 4) as usize)?;
+        for left in 0..3 {
+            for right in 0..3 {
+                assert!(rt;
+                    ways_meet(rt.alloc(), &snapshot, left, right)?,
+                    "seed {seed}"
+                );
+            }
+        }
+    }
+    Ok(())
 }
 
 #[test]
 fn groups_by_a_column(rt: HostRuntime) -> Result<(), Fail> {
-    let alloc = rt.alloc();
-    let snapshot = six_rows(alloc, &rt, vec![in alloc; true; 6]?)?;
-    assert!(rt; snapshot.columns() == 2);
-    let first = Partition::of_column(alloc, &snapshot, 0)?;
+    let columns = [[1, 1, 2, 2, 2, 3], [7, 8, 8, 8, 9, 9], [0, 0, 0, 0, 0, 0]];
+    let snapshot = snapshot_of(rt.alloc(), &columns, 7)?;
+    assert!(rt; snapshot.columns() == 3);
+    let first = Partition::of_column(rt.alloc(), &snapshot, 0)?;
     assert!(rt; first.group_count() == 2 && first.error_count() == 3);
-    assert!(rt; is_group(&first, 0, &[1, 2]) && is_group(&first, 1, &[3, 4, 5]));
-    assert!(rt; is_pair(first.splits_by(&snapshot, 1), 1, 2));
-    assert!(rt; first.splits_by(&snapshot, 0).is_none());
-    let second = Partition::of_column(alloc, &snapshot, 1)?;
-    assert!(rt; second.group_count() == 2 && second.error_count() == 3);
-    assert!(rt; is_group(&second, 0, &[2, 3, 4]) && is_group(&second, 1, &[5, 6]));
-    Ok(())
-}
-
-#[test]
-fn groups_by_two_columns(rt: HostRuntime) -> Result<(), Fail> {
-    let alloc = rt.alloc();
-    let snapshot = six_rows(alloc, &rt, vec![in alloc; true; 6]?)?;
-    assert!(rt; snapshot.columns() == 2);
-    let first = Partition::of_column(alloc, &snapshot, 0)?;
-    let second = Partition::of_column(alloc, &snapshot, 1)?;
-    let both = first.product(alloc, &second)?;
-    assert!(rt; both.group_count() == 1 && both.error_count() == 1);
-    assert!(rt; is_group(&both, 0, &[3, 4]));
-    let refined = second.refine(alloc, &snapshot, 0)?;
-    assert!(rt; refined.group_count() == 1 && is_group(&refined, 0, &[3, 4]));
-    let mut slots = Vec::new(alloc);
-    let again = second.refine_in(alloc, &snapshot, 0, &mut slots)?;
-    assert!(rt; again.group_count() == 1 && is_group(&again, 0, &[3, 4]));
-    let again = first.refine_in(alloc, &snapshot, 1, &mut slots)?;
-    assert!(rt; again.group_count() == 1 && is_group(&again, 0, &[3, 4]));
-    Ok(())
-}
-
-#[test]
-fn all_live_rows_are_one_group(rt: HostRuntime) -> Result<(), Fail> {
-    let alloc = rt.alloc();
-    let snapshot = six_rows(alloc, &rt, vec![in alloc; true; 6]?)?;
-    let all = Partition::of_all(alloc, &snapshot)?;
-    assert!(rt; all.group_count() == 1 && all.error_count() == 5);
-    assert!(rt; is_group(&all, 0, &[1, 2, 3, 4, 5, 6]));
-    Ok(())
-}
-
-#[test]
-fn dead_rows_stand_in_no_group(rt: HostRuntime) -> Result<(), Fail> {
-    let alloc = rt.alloc();
-    let live = vec![in alloc; true, false, true, false, true, true]?;
-    let snapshot = six_rows(alloc, &rt, live)?;
-    assert!(rt; snapshot.columns() == 2);
-    let first = Partition::of_column(alloc, &snapshot, 0)?;
-    assert!(rt; first.group_count() == 1 && is_group(&first, 0, &[3, 5]));
-    assert!(rt; is_pair(first.splits_by(&snapshot, 1), 3, 5));
-    let none = first.refine(alloc, &snapshot, 1)?;
-    assert!(rt; none.group_count() == 0 && none.error_count() == 0);
+    assert!(rt; first.group(0) == [RowNo::of(1), RowNo::of(2)].as_slice());
+    assert!(rt; first.group(1) == [RowNo::of(3), RowNo::of(4), RowNo::of(5)].as_slice());
+    assert!(rt; first.splits_by(&snapshot, 1) == Some((RowNo::of(1), RowNo::of(2))));
     Ok(())
 }

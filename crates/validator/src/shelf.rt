@@ -18,7 +18,7 @@ use std::sync::ledger::Ledger;
 use stripped_partition::Partition;
 
 // The most columns of a set whose partition is kept, and the most partitions that are kept.
-const MOST_COLUMNS: u32 = 4;
+const MOST_KEPT_COLUMNS: u32 = 4;
 
 const MOST_KEPT: usize = 4096;
 
@@ -177,7 +177,7 @@ fn lightest_kept(
 {
     let mut chosen = ColSet::empty();
     let mut best = place_of(kept, places, chosen);
-    for _ in 0..MOST_COLUMNS {
+    for _ in 0..MOST_KEPT_COLUMNS {
         let left = columns.minus(chosen);
         let Some(first) = left.first() else {
             return best;
@@ -474,7 +474,10 @@ impl Shelf {
     {
         let columns = self.kept[k].columns;
         let rows = self.rows.saturating_add(self.kept[k].rows);
-        if columns.len() > MOST_COLUMNS || self.settled >= MOST_KEPT || rows > self.room_for(k) {
+        if columns.len() > MOST_KEPT_COLUMNS
+            || self.settled >= MOST_KEPT
+            || rows > self.room_for(k)
+        {
             return false;
         }
         if !note(&mut self.places, columns, self.settled) {

@@ -1,201 +1,184 @@
-ghost use Rattle.std.specs.Prelude.{◌≡◌, ◌<◌};
+// Answers on small relations that are drawn, against the plain programs.
+ghost use Rattle.std.specs.Prelude.{◌≡◌, ◌<◌, ◌≤◌, IsTrue};
+ghost use Rattle.col_set.specs.Target.{IsColumnTarget};
+ghost use Rattle.validator.specs.Verdicts.{IsFitting};
 
-mod orders;
-mod plain;
-mod shapes;
+mod sample;
 
-use self::plain::is_fitting;
+use self::sample::{COLUMNS, ROWS, Sample, drawn};
 use crate::{Store, Verdict, validate};
 use col_set::{ColSet, Target};
-use rel_base::{Codes, Job, RowNo, Snapshot, Steps};
+use plain_base::Samples;
+use rel_base::{Job, MOST_COLUMNS, RowNo, Steps};
 use std::alloc::{AllocError, Global};
 use std::marker::Brand;
 use std::process::Abort;
-use std::sync::Arc;
 use std::sync::ledger::{Blank, Ledger};
 use std::test::Fail;
 
-// Three columns of five rows, of which some are live.
-fn five_rows(alloc: Global, rt: &impl Abort, live: Vec<bool>) -> Result<Snapshot, AllocError> {
-    let first = Codes::of(vec![in alloc; 0u32, 0, 1, 1, 0]?);
-    let second = Codes::of(vec![in alloc; 0u32, 1, 2, 2, 0]?);
-    let third = Codes::of(vec![in alloc; 0u32, 1, 2, 3, 4]?);
-    let codes = vec![in alloc; first, second, third]?;
-    assert!(rt; codes.len() == 3 && live.len() == 5);
-    assert!(rt; codes[0].as_slice().len() == 5 && codes[1].as_slice().len() == 5);
-    assert!(rt; codes[2].as_slice().len() == 5);
-    Ok(Snapshot::of(codes, live, RowNo::of(6)))
-}
-
-fn verdict_on<L: Ledger>(
-    alloc: Global,
-    rt: &impl Abort,
-    blank: Blank,
-    job: &Job,
-) -> Result<Verdict, AllocError>
-    requires name { blank.name ≡ L.name }
-    requires parts { blank.parts ≡ L.parts }
-    requires some { 0 < L.parts }
+// Whether the target is a column of the first n, or which row it is.
+fn is_target(target: Target, columns: u8) -> bool
+    requires { columns ≤ MOST_COLUMNS }
+    ensures given { IsTrue result → IsColumnTarget columns target }
+    ensures bound { IsTrue result → IsColumnTarget MOST_COLUMNS target }
 {
-    assert!(rt; is_fitting(job));
-    let mut steps = Steps::<L>::none(blank);
-    validate(alloc, job, &mut steps)
-}
-
-fn verdict(
-    alloc: Global,
-    rt: &impl Abort,
-    live: Vec<bool>,
-    left: ColSet,
-    target: Target,
-    from: u32,
-) -> Result<Verdict, AllocError>
-    requires { 0 < from }
-{
-    let snapshot = Arc::new(alloc, five_rows(alloc, rt, live)?)?;
-    let job = Job::of(target, left, RowNo::of(from), RowNo::of(6), snapshot);
-    verdict_on::<Brand>(alloc, rt, Blank::new(1), &job)
-}
-
-fn holds(verdict: Verdict) -> bool {
-    match verdict {
-        Verdict::Holds { to } => to.number() == 6,
-        Verdict::Broken { .. } => false,
+    match target {
+        Target::Col(column) => column < columns,
+        Target::RowId => true,
     }
 }
 
-fn is_broken(verdict: Verdict, first: u32, second: u32) -> bool {
-    match verdict {
-        Verdict::Holds { .. } => false,
-        Verdict::Broken { i, j } => i.number() == first && j.number() == second,
+// Whether the job's parts fit. Its dependency holds among its old rows, of which there is one at most.
+fn is_fitting(job: &Job) -> bool
+    ensures fitting { IsTrue result → IsFitting job.now }
+    ensures target { IsTrue result → IsColumnTarget MOST_COLUMNS job.now.target }
+{
+    let columns = job.snapshot().columns();
+    if !job.left().subset_of(ColSet::all(columns)) {
+        return false;
     }
+    if !is_target(job.target(), columns) {
+        return false;
+    }
+    job.from().number() <= 2
 }
 
-fn verdict_by<L: Ledger>(
+// What is answered on a job without a store and by one.
+#[derive(Drop)]
+struct Answers {
+    alone: Verdict,
+    kept: Verdict,
+    pairs: Vec<(RowNo, RowNo)>,
+}
+
+fn answered<L: Ledger>(
     alloc: Global,
-    rt: &impl Abort,
-    blank: Blank,
     store: &mut Store,
     job: &Job,
-) -> Result<Verdict, AllocError>
+    blank: Blank,
+) -> Result<Answers, AllocError>
     requires name { blank.name ≡ L.name }
     requires parts { blank.parts ≡ L.parts }
     requires some { 0 < L.parts }
     requires same { store.old ≡ job.now.snapshot }
+    requires fitting { IsFitting job.now }
+    ensures { store.new ≡ store.old }
+{
+    let mut steps = Steps::<L>::none(blank);
+    Ok(Answers {
+        alone: validate(alloc, job, &mut steps)?,
+        kept: store.validate(alloc, job, &mut steps)?,
+        pairs: store.breaches(alloc, job, 2, &mut steps)?,
+    })
+}
+
+fn is_right(sample: &Sample, job: &Job, verdict: Verdict) -> bool
+    requires { IsColumnTarget MOST_COLUMNS job.now.target }
+{
+    match verdict {
+        Verdict::Holds { to } => to == job.to() && sample.holds(job.left(), job.target()),
+        Verdict::Broken { i, j } => sample.breaks(job.left(), job.target(), i, j),
+    }
+}
+
+// Whether each pair breaks the dependency, and there is none only where it holds.
+fn are_right(sample: &Sample, job: &Job, pairs: &[(RowNo, RowNo)]) -> bool
+    requires { IsColumnTarget MOST_COLUMNS job.now.target }
+{
+    for (i, j) in pairs {
+        if !sample.breaks(job.left(), job.target(), *i, *j) {
+            return false;
+        }
+    }
+    pairs.len() <= 2 && pairs.is_empty() == sample.holds(job.left(), job.target())
+}
+
+// Compares what is answered on a job, once more where memory is wanting.
+fn compare(
+    alloc: Global,
+    rt: &impl Abort,
+    sample: &Sample,
+    store: &mut Store,
+    job: &Job,
+) -> Result<(), AllocError>
+    requires { store.old ≡ job.now.snapshot }
     ensures { store.new ≡ store.old }
 {
     assert!(rt; is_fitting(job));
-    let mut steps = Steps::<L>::none(blank);
-    store.validate(alloc, job, &mut steps)
+    let answers = match answered::<Brand>(alloc, store, job, Blank::new(1)) {
+        Ok(answers) => answers,
+        Err(_) => answered::<Brand>(alloc, store, job, Blank::new(1))?,
+    };
+    assert!(rt; is_right(sample, job, answers.alone));
+    assert!(rt; is_right(sample, job, answers.kept));
+    assert!(rt; are_right(sample, job, answers.pairs.as_slice()));
+    Ok(())
 }
 
-// Whether a store and no store lead to one answer, twice.
-fn agrees(
+// The columns, and behind them which row it is.
+fn target_at(place: u8) -> Target {
+    if place < COLUMNS {
+        Target::Col(place)
+    } else {
+        Target::RowId
+    }
+}
+
+// Compares what is answered on a left side with every target, where this is the first new row.
+fn compare_targets(
     alloc: Global,
     rt: &impl Abort,
+    sample: &Sample,
     store: &mut Store,
-    snapshot: &Arc<Snapshot>,
     left: ColSet,
-    target: Target,
-) -> Result<bool, AllocError>
-    requires { store.old ≡ snapshot.now.value }
+    from: RowNo,
+) -> Result<(), AllocError>
+    requires { store.old ≡ sample.now.snapshot.value }
     ensures { store.new ≡ store.old }
 {
-    let job = Job::of(
-        target,
-        left,
-        RowNo::first(),
-        RowNo::of(6),
-        snapshot.clone()?,
-    );
-    let plain = verdict_on::<Brand>(alloc, rt, Blank::new(1), &job)?;
-    let first = verdict_by::<Brand>(alloc, rt, Blank::new(1), store, &job)?;
-    let again = verdict_by::<Brand>(alloc, rt, Blank::new(1), store, &job)?;
-    Ok(holds(plain) == holds(first) && holds(plain) == holds(again))
-}
-
-#[test]
-fn a_store_answers_as_none_does(rt: HostRuntime) -> Result<(), Fail> {
-    let alloc = rt.alloc();
-    let snapshot = Arc::new(alloc, five_rows(alloc, &rt, vec![in alloc; true; 5]?)?)?;
-    let mut store = Store::of(alloc, snapshot.clone()?, 12);
-    for bits in 0..8u32 {
-        let left = ColSet::of_bits(u128::from(bits));
-        assert!(rt; agrees(alloc, &rt, &mut store, &snapshot, left, Target::RowId)?);
-        assert!(rt; agrees(alloc, &rt, &mut store, &snapshot, left, Target::Col(0))?);
-        assert!(rt; agrees(alloc, &rt, &mut store, &snapshot, left, Target::Col(1))?);
-        assert!(rt; agrees(alloc, &rt, &mut store, &snapshot, left, Target::Col(2))?);
+    for place in 0..=COLUMNS {
+        let to = RowNo::of(ROWS + 2);
+        let job = Job::of(target_at(place), left, from, to, sample.snapshot.clone()?);
+        compare(alloc, rt, sample, store, &job)?;
     }
     Ok(())
 }
 
-// The weights of the three columns.
-fn weights_of(alloc: Global, store: &mut Store) -> Result<(u32, u32, u32), AllocError>
-    ensures { store.new ≡ store.old }
-{
-    let weights = store.weights(alloc)?;
-    Ok((weights[0], weights[1], weights[2]))
+// A left side, and the first new row: first those with the last columns, where all rows are new, and then the other way round,
+// where the first row is old.
+fn turn_at(turn: u32) -> (ColSet, RowNo) {
+    if turn < 32 {
+        (ColSet::of_bits(u128::from(31 - turn)), RowNo::of(1))
+    } else {
+        (ColSet::of_bits(u128::from(turn - 32)), RowNo::of(2))
+    }
 }
 
-#[test]
-fn weights_of_columns(rt: HostRuntime) -> Result<(), Fail> {
-    let alloc = rt.alloc();
-    let live = vec![in alloc; true; 5]?;
-    let snapshot = Arc::new(alloc, five_rows(alloc, &rt, live)?)?;
-    let mut store = Store::of(alloc, snapshot.clone()?, 4);
-    assert!(rt; weights_of(alloc, &mut store)? == (3, 2, 0));
-    assert!(rt; weights_of(alloc, &mut store)? == (3, 2, 0));
-    let live = vec![in alloc; true, false, true, true, true]?;
-    let snapshot = Arc::new(alloc, five_rows(alloc, &rt, live)?)?;
-    let mut store = Store::of(alloc, snapshot.clone()?, 4);
-    let left = ColSet::empty().with(1);
-    assert!(rt; agrees(alloc, &rt, &mut store, &snapshot, left, Target::Col(0))?);
-    assert!(rt; weights_of(alloc, &mut store)? == (2, 2, 0));
+// Compares what is answered on all left sides by one store, one after another, and its weights.
+fn compare_left_sides(
+    alloc: Global,
+    rt: &impl Abort,
+    sample: &Sample,
+    room: usize,
+) -> Result<(), AllocError> {
+    let mut store = Store::of(alloc, sample.snapshot.clone()?, room);
+    for turn in 0..64u32 {
+        let (left, from) = turn_at(turn);
+        compare_targets(alloc, rt, sample, &mut store, left, from)?;
+    }
+    assert!(rt; sample.weighs(&store.weights(alloc)?));
     Ok(())
 }
 
-#[test]
-fn verdicts_on_live_rows(rt: HostRuntime) -> Result<(), Fail> {
-    let alloc = rt.alloc();
-    let first = ColSet::empty().with(0);
-    let second = ColSet::empty().with(1);
-    let third = ColSet::empty().with(2);
-    let live = vec![in alloc; true; 5]?;
-    assert!(rt; holds(verdict(alloc, &rt, live, third, Target::RowId, 1)?));
-    let live = vec![in alloc; true; 5]?;
-    assert!(rt; holds(verdict(alloc, &rt, live, second, Target::Col(0), 1)?));
-    let live = vec![in alloc; true; 5]?;
-    assert!(rt; is_broken(verdict(alloc, &rt, live, first, Target::Col(1), 1)?, 1, 2));
-    let live = vec![in alloc; true; 5]?;
-    assert!(rt;
-        is_broken(
-            verdict(alloc, &rt, live, first.union(second), Target::RowId, 1)?,
-            1,
-            5
-        )
-    );
-    let live = vec![in alloc; true; 5]?;
-    assert!(rt;
-        is_broken(
-            verdict(alloc, &rt, live, ColSet::empty(), Target::Col(1), 1)?,
-            1,
-            2
-        )
-    );
-    Ok(())
-}
+static ROOMS: [usize; 3] = [0, 9, 1000];
 
 #[test]
-fn verdicts_past_an_old_row_and_dead_ones(rt: HostRuntime) -> Result<(), Fail> {
+fn answers_are_those_of_the_plain_programs(rt: HostRuntime) -> Result<(), Fail> {
     let alloc = rt.alloc();
-    let first = ColSet::empty().with(0);
-    let live = vec![in alloc; true, false, true, true, true]?;
-    assert!(rt; holds(verdict(alloc, &rt, live, first, Target::Col(1), 2)?));
-    let live = vec![in alloc; true, false, true, false, true]?;
-    assert!(rt; is_broken(verdict(alloc, &rt, live, first, Target::Col(2), 2)?, 1, 5));
-    let live = vec![in alloc; true, false, true, true, false]?;
-    assert!(rt; is_broken(verdict(alloc, &rt, live, first, Target::Col(2), 2)?, 3, 4));
-    let live = vec![in alloc; true, false, false, false, false]?;
-    assert!(rt; holds(verdict(alloc, &rt, live, first, Target::RowId, 2)?));
+    let mut samples = Samples::from_seed(1986);
+    for room in &ROOMS {
+        let sample = drawn(alloc, &rt, &mut samples)?;
+        compare_left_sides(alloc, &rt, &sample, *room)?;
+    }
     Ok(())
 }

@@ -2,7 +2,7 @@
 ghost use Rattle.std.specs.Prelude.{◌≡◌, ◌≤◌, ◌<◌, ◌+◌, true, IfOk, vec_len};
 ghost use Rattle.cover_core.specs.Tests.{AreNear};
 
-use super::{columns, finish, insert, is_busy, letters};
+use super::{columns, finish, insert, is_busy, is_of, letters};
 use crate::cursor::Cursor;
 use crate::searching::first_unfinished;
 use crate::{Book, Draw};
@@ -102,55 +102,39 @@ fn judged_after(rt: &impl Abort, alloc: Global, k: &[u8], v: &[u8]) -> Result<Ju
     judge_drawn::<Brand>(alloc, &mut book, Blank::new(1))
 }
 
-// Whether the answers are the jobs of the key and of the dependency for the fourth row, and that these are held.
-fn are_new(judged: &Judged) -> bool {
+// Whether the answers are the jobs of the key and of the dependency for the fourth row, with this verdict on the key, and that
+// both are held.
+fn are_new(judged: &Judged, rows: Option<(u32, u32)>) -> bool {
     let right = columns(&[1]);
     judged.jobs.len() == 2
-        && is_of(&judged.jobs[0].0, Target::RowId)
-        && is_of(&judged.jobs[1].0, Target::Col(0))
+        && is_of(&judged.jobs[0].0, Target::RowId, right, 4, 5)
+        && is_of(&judged.jobs[1].0, Target::Col(0), right, 4, 5)
+        && is_judged(judged.jobs[0].1, rows)
         && judged
             .last
             .as_ref()
             .is_some_and(|last| is_busy(last, Target::RowId, right))
 }
 
-// Whether it is the fourth row's job for the second column and this target.
-fn is_of(job: &Job, target: Target) -> bool {
-    job.target() == target
-        && job.left() == columns(&[1])
-        && job.from().number() == 4
-        && job.to().number() == 5
-}
-
-// The verdict on the job that was drawn as this one, from 0.
-fn verdict_on(judged: &Judged, place: usize) -> Option<Verdict> {
-    match judged.jobs.get(place) {
-        Some(job) => Some(job.1),
-        None => None,
+// Whether the verdict is that these two rows break the key, or, where there are none, that it holds in all four rows.
+fn is_judged(verdict: Verdict, rows: Option<(u32, u32)>) -> bool {
+    match verdict {
+        Verdict::Holds { to } => rows.is_none() && to.number() == 5,
+        Verdict::Broken { i, j } => rows == Some((i.number(), j.number())),
     }
 }
 
-// Whether that verdict is that the dependency holds in all four rows.
-fn holds_in_all(judged: &Judged, place: usize) -> bool {
-    verdict_on(judged, place) == Some(Verdict::Holds { to: RowNo::of(5) })
-}
+// A fourth row, and the rows that break the key then.
+static FOURTH: [(&[u8], &[u8], Option<(u32, u32)>); 2] = [
+    (b"3", b"w", None),
+    (b"3", b"y", Some((2, 4))),
+];
 
 #[test]
 fn a_new_row_leaves_a_step_a_job(rt: HostRuntime) -> Result<(), Fail> {
-    let judged = judged_after(&rt, rt.alloc(), b"3", b"w")?;
-    assert!(rt; are_new(&judged));
-    assert!(rt; holds_in_all(&judged, 0) && holds_in_all(&judged, 1));
-    Ok(())
-}
-
-#[test]
-fn a_new_row_breaks_a_key(rt: HostRuntime) -> Result<(), Fail> {
-    let judged = judged_after(&rt, rt.alloc(), b"3", b"y")?;
-    let broken = Verdict::Broken {
-        i: RowNo::of(2),
-        j: RowNo::of(4),
-    };
-    assert!(rt; are_new(&judged));
-    assert!(rt; verdict_on(&judged, 0) == Some(broken));
+    for (k, v, rows) in &FOURTH {
+        let judged = judged_after(&rt, rt.alloc(), k, v)?;
+        assert!(rt; are_new(&judged, *rows));
+    }
     Ok(())
 }

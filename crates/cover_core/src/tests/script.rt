@@ -1,101 +1,112 @@
-// Two jobs that are out while rows go and come: one is marked late, the other is given back.
-ghost use Rattle.std.specs.Prelude.{IfOk, IfSome};
+// Calls on the book in a row, each with what it is to answer.
 ghost use Rattle.rel_base.specs.JobParts.{JobParts};
 ghost use Rattle.cover_steps.specs.Sound.{Fits};
 
-use super::{
-    delete, drawn, draws, finds_no_dependency, insert, is_all_held, letters, mark, refute, release,
-    waits_for,
-};
-use crate::{Book, Marking, Refutation, Release};
-use rel_base::{Job, RowNo, Target};
+use super::{apply, columns, draw, insert, is_busy, is_of, refute};
+use crate::{Applying, Book, Draw, Refutation, Settling};
+use rel_base::{Batch, Op, RowNo, Target};
 use std::alloc::{AllocError, Global};
 use std::process::Abort;
-use std::test::Fail;
 
-// The job that is drawn after two rows refute the first candidate, which is drawn before.
-fn first_job(rt: &impl Abort, book: &mut Book) -> Result<Option<Job>, AllocError>
-    ensures { IfOk result (λ job. IfSome job (Fits book.new.rows)) }
-{
-    assert!(rt; draws(book, Target::RowId, &[], 1, 4)?);
-    assert!(rt; refute(rt, book, 1, 2)? == Refutation::Booked);
-    drawn(book)
+// What two rows tell.
+#[derive(Clone, Copy)]
+pub enum Told {
+    News,
+    Nothing,
+    // That this one of them is not live.
+    Dead(u32),
 }
 
-// The job that is drawn after two further rows refute a candidate.
-fn second_job(rt: &impl Abort, book: &mut Book) -> Result<Option<Job>, AllocError>
-    ensures drawn { IfOk result (λ job. IfSome job (Fits book.new.rows)) }
-    ensures fits { (job : JobParts) → Fits book.old.rows job → Fits book.new.rows job }
-{
-    assert!(rt; refute(rt, book, 1, 3)? == Refutation::Booked);
-    drawn(book)
+// A call, with what it is to answer.
+#[derive(Clone, Copy)]
+pub enum Step {
+    // A row with these cells is inserted.
+    Insert(&'static [u8], &'static [u8]),
+    // A row is deleted.
+    Delete(u32),
+    // Two rows refute what they do.
+    Refute(u32, u32, Told),
+    // A draw answers the job for this dependency and the rows below a number.
+    Draw(Target, &'static [u8], u32),
+    // A draw answers that all is held, with this candidate first.
+    Held(Target, &'static [u8]),
+    // A settle answers that this candidate, known to hold below a number, is the first unfinished one.
+    Wait(Target, &'static [u8], u32),
 }
 
-// All that is left is held, and then a row of a witness goes.
-fn lose_a_row(rt: &impl Abort, alloc: Global, book: &mut Book) -> Result<(), AllocError>
+// Deletes a row, and tells whether the batch was applied.
+fn delete(rt: &impl Abort, alloc: Global, book: &mut Book, number: u32) -> Result<bool, AllocError>
     ensures { (job : JobParts) → Fits book.old.rows job → Fits book.new.rows job }
 {
-    assert!(rt; is_all_held(book, Target::RowId, &[1])?);
-    assert!(rt; delete(rt, alloc, book, 2)?);
-    assert!(rt; refute(rt, book, 1, 2)? == Refutation::Gone(RowNo::of(2)));
-    Ok(())
+    assert!(rt; 0 < number);
+    let batch = Batch::of(vec![in alloc; Op::Delete(RowNo::of(number))]?);
+    let wanted = Applying::Applied {
+        inserted: 0,
+        deleted: 1,
+    };
+    Ok(apply(rt, book, &batch) == wanted)
 }
 
-// Marks the one job, and gives the other back.
-fn deliver(
-    rt: &impl Abort,
-    alloc: Global,
-    book: &mut Book,
-    late: &Job,
-    held: &Job,
-) -> Result<(), AllocError>
-    requires late { Fits book.old.rows late.now }
-    requires held { Fits book.old.rows held.now }
-{
-    assert!(rt; mark(rt, alloc, book, late)? == Marking::Marked);
-    assert!(rt; waits_for(book, Target::RowId, &[0], 1)?);
-    assert!(rt; release(book, held) == Release::Released);
-    Ok(())
-}
-
-// A further row, after which neither column determines the other.
-fn go_on(rt: &impl Abort, alloc: Global, book: &mut Book) -> Result<(), AllocError> {
-    assert!(rt; refute(rt, book, 1, 3)? == Refutation::Known);
-    assert!(rt; insert(rt, alloc, book, b"1", b"z")?);
-    assert!(rt; waits_for(book, Target::RowId, &[0], 1)?);
-    assert!(rt; finds_no_dependency(book)?);
-    Ok(())
-}
-
-// Draws the second job, and delivers both after a row went.
-fn deliver_both(
-    rt: &impl Abort,
-    alloc: Global,
-    book: &mut Book,
-    late: &Job,
-) -> Result<(), AllocError>
-    requires { Fits book.old.rows late.now }
-{
-    match second_job(rt, book)? {
-        Some(held) => {
-            lose_a_row(rt, alloc, book)?;
-            deliver(rt, alloc, book, late, &held)
-        }
-        None => {
-            assert!(rt; false, "no second job");
-            Ok(())
-        }
+fn is_told(refutation: Refutation, told: Told) -> bool {
+    match told {
+        Told::News => refutation == Refutation::Booked,
+        Told::Nothing => refutation == Refutation::Known,
+        Told::Dead(number) => 0 < number && refutation == Refutation::Gone(RowNo::of(number)),
     }
 }
 
-#[test]
-fn a_job_is_marked_after_a_row_of_its_witness_went(rt: HostRuntime) -> Result<(), Fail> {
-    let alloc = rt.alloc();
-    let mut book = letters(&rt, alloc)?;
-    match first_job(&rt, &mut book)? {
-        Some(late) => deliver_both(&rt, alloc, &mut book, &late)?,
-        None => assert!(rt; false, "no job"),
+// Whether the next draw answers this job, with all rows new.
+fn draws(book: &mut Book, target: Target, left: &[u8], to: u32) -> Result<bool, AllocError>
+    ensures { (job : JobParts) → Fits book.old.rows job → Fits book.new.rows job }
+{
+    match draw(book)? {
+        Draw::Job(job) => Ok(is_of(&job, target, columns(left), 1, to)),
+        _ => Ok(false),
     }
-    go_on(&rt, alloc, &mut book)?;
+}
+
+fn is_held(book: &mut Book, target: Target, left: &[u8]) -> Result<bool, AllocError>
+    ensures { (job : JobParts) → Fits book.old.rows job → Fits book.new.rows job }
+{
+    let draw = draw(book)?;
+    Ok(is_busy(&draw, target, columns(left)))
+}
+
+fn waits_for(book: &Book, wanted: Target, set: &[u8], number: u32) -> Result<bool, AllocError> {
+    match book.settle()? {
+        Settling::NotYet { target, left, upto } => {
+            Ok(target == wanted && left == columns(set) && upto.number() == number)
+        }
+        Settling::Ready(_) => Ok(false),
+    }
+}
+
+// Makes a call, and tells whether it answers what it is to.
+fn answers(rt: &impl Abort, alloc: Global, book: &mut Book, step: Step) -> Result<bool, AllocError>
+    ensures { (job : JobParts) → Fits book.old.rows job → Fits book.new.rows job }
+{
+    match step {
+        Step::Insert(k, v) => insert(rt, alloc, book, k, v),
+        Step::Delete(number) => delete(rt, alloc, book, number),
+        Step::Refute(i, j, told) => Ok(is_told(refute(rt, book, i, j)?, told)),
+        Step::Draw(target, left, to) => draws(book, target, left, to),
+        Step::Held(target, left) => is_held(book, target, left),
+        Step::Wait(target, left, number) => waits_for(book, target, left, number),
+    }
+}
+
+// Makes these calls, one after another.
+pub fn play(
+    rt: &impl Abort,
+    alloc: Global,
+    book: &mut Book,
+    steps: &[Step],
+) -> Result<(), AllocError>
+    ensures { (job : JobParts) → Fits book.old.rows job → Fits book.new.rows job }
+{
+    for (place, step) in steps.iter().enumerate() {
+        let fits = answers(rt, alloc, book, *step)?;
+        assert!(rt; fits, "call {place}");
+    }
     Ok(())
 }

@@ -1,9 +1,7 @@
-use Rattle.std.proofs.Common.{◌≡◌, ℕ, true, sym, ap, subst, ◌∙◌, arith, ◌<◌, ◌≤◌, length, get_or, false}
-use Rattle.rel_base.specs.declared.dependency.Fd.{Fd}
+use Rattle.std.proofs.Common.{◌≡◌, ℕ, true, sym, subst, ◌∙◌, arith, ◌<◌, length, false}
 use Rattle.std.specs.List.Sorted.{IsPartitionPoint}
-use Rattle.col_set.specs.ColSet.{size}
 use Rattle.fd_closure.specs.Closure.{is_short}
-use Rattle.fd_closure.proofs.Grouping.{inside-at, inside-none, is_inside}
+use Rattle.fd_closure.proofs.Grouping.{inside-at, inside-none}
 use Rattle.fd_closure.proofs.group.has_short_left_inside.Goals as goal
 
 pub returns-then-subset_of-clause-only : goal.returns-then-subset_of-clause-only

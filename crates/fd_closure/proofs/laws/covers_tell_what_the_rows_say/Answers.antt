@@ -5,7 +5,7 @@ use Rattle.fd_closure.proofs.laws.covers_tell_what_the_rows_say.Goals as goal
 
 pub returns : goal.returns
 returns c r is = record {
-  order = covers-in_order r is.narrow;
+  order = covers-in_order r is;
   closure = closure-determined r;
   determines = closure-determines r;
   key = λ s b. shrunk-table_key r s is.narrow b;

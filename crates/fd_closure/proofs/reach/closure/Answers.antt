@@ -1,5 +1,5 @@
-use Rattle.std.proofs.Common.{◌≡◌, ℕ, sym, ap, ◌∙◌, subst, true}
-use Rattle.col_set.specs.ColSet.{all, minus}
+use Rattle.std.proofs.Common.{ℕ, sym, ap, ◌∙◌, subst}
+use Rattle.col_set.specs.ColSet.{minus}
 use Rattle.fd_closure.proofs.Reaching.{Reaching, reaching-none, reaching-more, reaching-not, reaching-end, rest_smaller, told-inside, told-none}
 use Rattle.fd_closure.proofs.reach.closure.Goals as goal
 use Rattle.fd_closure.proofs.reach.closure.Goals.{then-has_left_inside, else-has_left_inside}

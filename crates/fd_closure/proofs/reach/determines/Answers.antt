@@ -1,4 +1,4 @@
-use Rattle.std.proofs.Common.{◌≡◌, ℕ, sym, ◌∙◌}
+use Rattle.std.proofs.Common.{sym}
 use Rattle.col_set.specs.Subsets.{true-subset}
 use Rattle.fd_closure.proofs.Reaching.{covering-none, covering-more, covering-all, covering-not, rest_smaller, told-inside, told-none}
 use Rattle.fd_closure.proofs.reach.determines.Goals as goal

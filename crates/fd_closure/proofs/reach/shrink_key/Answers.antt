@@ -1,6 +1,6 @@
-use Rattle.std.proofs.Common.{◌≡◌, ℕ, suc, ◌-◌, ◌∙◌, sym, ap, subst, arith, Bool, true, false}
+use Rattle.std.proofs.Common.{◌≡◌, ℕ, suc, ◌-◌, ◌∙◌, sym, ap, subst, arith}
 use Rattle.std.proofs.lemmas.Bool.{and_left, and_right}
-use Rattle.col_set.specs.ColSet.{IsSubset, has, subset, without}
+use Rattle.col_set.specs.ColSet.{IsSubset, has, subset}
 use Rattle.col_set.specs.Subsets.{IsSubset-trans}
 use Rattle.fd_closure.specs.Closure.{closure_of}
 use Rattle.fd_closure.proofs.Shrinking.{without-subset, shrunk-dropped, shrunk-end, shrunk-kept}

@@ -1,4 +1,4 @@
-use Rattle.std.proofs.Common.{◌≡◌, ◌<◌, ◌++◌, ℕ, length, map}
+use Rattle.std.proofs.Common.{◌≡◌, ◌<◌, ℕ, length, map}
 use Rattle.std.specs.List.{All}
 use Rattle.rel_base.specs.Cells.{cell}
 use Rattle.row_log.specs.Table.{column_at, with_cells}

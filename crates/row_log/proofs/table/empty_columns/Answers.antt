@@ -1,7 +1,6 @@
 use Rattle.std.proofs.Common.{inl, inr, ◌≡◌, ◌⊎◌, ◌<◌, ◌≤◌, ◌+◌, ◌++◌, ◌∷◌, [], ℕ, List, length, ap, ◌∙◌, arith}
 use Rattle.std.proofs.lemmas.Bool.{cases_lt}
 use Rattle.std.proofs.lemmas.List.{length_push, get_or_append_left, get_or_push}
-use Rattle.rel_base.specs.declared.nulls.Nulls.{Nulls}
 use Rattle.row_log.specs.Column.{ColumnCells}
 use Rattle.row_log.specs.Table.{no_column, column_at}
 use Rattle.row_log.proofs.table.empty_columns.Goals as goal

@@ -1,0 +1,111 @@
+// The covers of relations that are drawn, before and after batches, against the plain programs.
+use super::{apply, finish};
+use crate::{Applying, Book, Settling};
+use plain_base::{PlainRows, Samples, are_as_wide, relation_of};
+use rel_base::{Batch, Covers, Limits, Nulls, Relation};
+use std::alloc::{AllocError, Global};
+use std::process::Abort;
+use std::test::Fail;
+
+const COLUMNS: usize = 4;
+
+// The relation of this seed.
+fn relation(rt: &impl Abort, alloc: Global, seed: u64) -> Result<Relation, AllocError> {
+    let mut samples = Samples::from_seed(seed);
+    let names = samples.row(alloc, COLUMNS)?;
+    let relation = relation_of(names, samples.rows(alloc, 6, COLUMNS)?);
+    assert!(rt; relation.is_some());
+    Ok(relation.unwrap())
+}
+
+fn are_same(found: &Covers, wanted: &Covers) -> bool {
+    found.keys() == wanted.keys() && found.fds() == wanted.fds()
+}
+
+fn is_ready(settling: &Settling, wanted: &Covers) -> bool {
+    match settling {
+        Settling::Ready(found) => are_same(found, wanted),
+        Settling::NotYet { .. } => false,
+    }
+}
+
+// Compares the covers that a book finds with those of the same rows.
+fn compare(
+    rt: &impl Abort,
+    alloc: Global,
+    book: &mut Book,
+    rows: &PlainRows,
+) -> Result<(), AllocError> {
+    let wanted = rows.covers(alloc)?;
+    let found = finish(book)?;
+    assert!(rt; are_same(&found, &wanted));
+    let settling = book.settle()?;
+    assert!(rt; book.settled() && is_ready(&settling, &wanted));
+    Ok(())
+}
+
+// Applies a batch to both, and compares the answers.
+fn change(
+    rt: &impl Abort,
+    alloc: Global,
+    book: &mut Book,
+    rows: &mut PlainRows,
+    batch: &Batch,
+) -> Result<(), AllocError> {
+    assert!(rt; are_as_wide(batch, rows.names().len()));
+    match rows.after(alloc, batch)? {
+        Ok(changed) => {
+            assert!(rt; matches!(apply(rt, book, batch), Applying::Applied { .. }));
+            *rows = changed;
+        }
+        Err((place, why)) => {
+            let at = place as u64;
+            assert!(rt; apply(rt, book, batch) == Applying::Refused { at, why });
+        }
+    }
+    Ok(())
+}
+
+// Compares the covers of a book with those of the same rows, and again after each of some batches.
+fn follow(
+    rt: &impl Abort,
+    alloc: Global,
+    seed: u64,
+    book: &mut Book,
+    rows: &mut PlainRows,
+) -> Result<(), AllocError> {
+    let mut samples = Samples::from_seed(seed);
+    for _ in 0..6u32 {
+        compare(rt, alloc, book, rows)?;
+        let batch = samples.batch(alloc, 2, COLUMNS, 8)?;
+        change(rt, alloc, book, rows, &batch)?;
+    }
+    compare(rt, alloc, book, rows)
+}
+
+fn open_and_follow(
+    rt: &impl Abort,
+    alloc: Global,
+    seed: u64,
+    nulls: Nulls,
+) -> Result<(), AllocError> {
+    let limits = Limits::standard();
+    let mut book = Book::open_with(alloc, relation(rt, alloc, seed)?, limits, nulls)?;
+    let mut rows = PlainRows::opened(alloc, nulls, limits, relation(rt, alloc, seed)?)?;
+    follow(rt, alloc, seed, &mut book, &mut rows)
+}
+
+static CASES: [(u64, Nulls); 4] = [
+    (11, Nulls::Equal),
+    (12, Nulls::Distinct),
+    (13, Nulls::Equal),
+    (14, Nulls::Distinct),
+];
+
+#[test]
+fn covers_are_those_of_the_plain_programs(rt: HostRuntime) -> Result<(), Fail> {
+    for case in &CASES {
+        open_and_follow(&rt, rt.alloc(), case.0, case.1)?;
+    }
+    Ok(())
+}

@@ -1,0 +1,56 @@
+use crate::{closure, determines, shrink_key};
+use rel_base::{ColSet, Covers, Fd, MOST_COLUMNS};
+use std::alloc::{AllocError, Global};
+use std::test::Fail;
+
+fn set(columns: &[u8]) -> ColSet {
+    columns.iter().fold(
+        ColSet::empty(),
+        |set, column| set.with(*column % MOST_COLUMNS),
+    )
+}
+
+// Covers of these dependencies, each a left side of one or two columns and a column on the right.
+fn covers(alloc: Global, fds: &[(&[u8], u8)]) -> Result<Covers, AllocError> {
+    let mut list = Vec::new(alloc);
+    for (left, right) in fds {
+        list.push(Fd {
+            left: set(left),
+            right: *right,
+        })?;
+    }
+    Ok(Covers::of(Vec::new(alloc), list))
+}
+
+// People by number, their city and its code: the city and the code determine each other.
+fn people(alloc: Global) -> Result<Covers, AllocError> {
+    covers(alloc, &[(&[0], 1), (&[2], 1), (&[0], 2), (&[1], 2)])
+}
+
+#[test]
+fn what_columns_determine(rt: HostRuntime) -> Result<(), Fail> {
+    let covers = people(rt.alloc())?;
+    assert!(rt; closure(&covers, set(&[0])) == set(&[0, 1, 2]));
+    assert!(rt; closure(&covers, set(&[2])) == set(&[1, 2]));
+    assert!(rt; closure(&covers, set(&[])) == set(&[]));
+    assert!(rt; determines(&covers, set(&[1]), set(&[1, 2])));
+    assert!(rt; !determines(&covers, set(&[1]), set(&[0, 2])));
+    Ok(())
+}
+
+#[test]
+fn later_columns_are_dropped_first(rt: HostRuntime) -> Result<(), Fail> {
+    let covers = people(rt.alloc())?;
+    assert!(rt; shrink_key(&covers, set(&[0, 1, 2])) == set(&[0]));
+    assert!(rt; shrink_key(&covers, set(&[1, 2])) == set(&[1]));
+    Ok(())
+}
+
+#[test]
+fn left_sides_of_several_columns(rt: HostRuntime) -> Result<(), Fail> {
+    let covers = covers(rt.alloc(), &[(&[1, 127], 0), (&[2], 3), (&[0, 1], 127)])?;
+    assert!(rt; closure(&covers, set(&[1, 2, 127])) == set(&[0, 1, 2, 3, 127]));
+    assert!(rt; closure(&covers, set(&[1, 3])) == set(&[1, 3]));
+    assert!(rt; shrink_key(&covers, set(&[0, 1, 127])) == set(&[0, 1]));
+    Ok(())
+}

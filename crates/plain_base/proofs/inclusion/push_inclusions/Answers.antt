@@ -1,0 +1,15 @@
+use Rattle.std.proofs.Common.{◌∙◌, ℕ, Vec, Global, ap, sym}
+use Rattle.rel_base.specs.Inclusion.{included}
+use Rattle.plain_base.proofs.Included.{row_left, row_pushed}
+use Rattle.plain_base.proofs.inclusion.push_inclusions.Goals as goal
+use Rattle.plain_base.proofs.inclusion.push_inclusions.Goals.{then-is_included+in_ok-push, else-is_included}
+
+pub loop-referenced-preserved : goal.loop-referenced-preserved
+loop-referenced-preserved c = elim c.if-is_included.branch [
+  | then-is_included+in_ok-push w ↦
+      row_pushed (λ p. included c.args.columns.now p.0 p.1) c.args.dependent c.loop-referenced.referenced c.args.pairs.now.items c.loop-referenced.pairs.items c.if-is_included.pairs.items c.loop-referenced.invariant
+      (sym c.is_included.ensures ∙ w.if-is_included.true) (ap (λ (v : Vec (ℕ × ℕ) Global). v.items) w.pairs-is ∙ w.in_ok-push.ensures.items)
+  | else-is_included w ↦
+      row_left (λ p. included c.args.columns.now p.0 p.1) c.args.dependent c.loop-referenced.referenced c.args.pairs.now.items c.loop-referenced.pairs.items c.if-is_included.pairs.items c.loop-referenced.invariant
+      (sym c.is_included.ensures ∙ w.if-is_included.false) (ap (λ (v : Vec (ℕ × ℕ) Global). v.items) w.pairs-is)
+]

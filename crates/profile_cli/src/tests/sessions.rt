@@ -1,0 +1,165 @@
+// What a session answers to a change text.
+ghost use Rattle.std.specs.Prelude.{◌≡◌};
+
+use super::{Case, expect_all, shelf_of, status_of};
+use ports::{MemSource, SureSink};
+use rel_base::Limits;
+use std::alloc::{AllocError, Global};
+use std::process::Abort;
+use std::sync::Wait;
+use std::test::Fail;
+use std::thread::Threads;
+
+const K: &[(&str, &str)] = &[("k.csv", "k,v\n1,x\n1,y\n2,z\n")];
+
+const K_HEAD: &str = "column,1,k\ncolumn,2,v\n";
+
+const WORDS: &[&str] = &["depprof", "session", "k.csv"];
+
+static BATCHES: [Case; 8] = [
+    Case {
+        words: WORDS,
+        files: K,
+        input: "",
+        text: &[],
+        status: 0,
+    },
+    Case {
+        words: WORDS,
+        files: K,
+        input: "+,3,w\n-,9\n!\n+,4,u\n!\n-,4\n!\n",
+        text: &["refused,1,2,9\napplied,2,1,0,4\napplied,3,0,1,3\n"],
+        status: 0,
+    },
+    Case {
+        words: WORDS,
+        files: K,
+        input: "+,9,q\n-,4\n!\n!\n",
+        text: &["applied,1,1,1,3\napplied,2,0,0,3\n"],
+        status: 0,
+    },
+    Case {
+        words: WORDS,
+        files: K,
+        input: "+,3,w\n",
+        text: &["refused,1,1,10\n"],
+        status: 0,
+    },
+    Case {
+        words: WORDS,
+        files: K,
+        input: "+,3,w\n?\n!\n",
+        text: &["refused,1,2,7\n"],
+        status: 0,
+    },
+    Case {
+        words: WORDS,
+        files: K,
+        input: "-,0\n!\n-,01\n!\nx\n!\n+,1\n!\n!,a\n!\n-,3\n-,3\n!\n",
+        text: &[
+            "refused,1,1,8\nrefused,2,3,8\nrefused,3,5,7\nrefused,4,7,3\nrefused,5,9,3\nrefused,6,12,9\n",
+        ],
+        status: 0,
+    },
+    Case {
+        words: WORDS,
+        files: K,
+        input: "=,9,1,x\n!\n=,0,1\n!\n=,0,1,x\n!\n",
+        text: &["refused,1,1,9\nrefused,2,3,3\nrefused,3,5,8\n"],
+        status: 0,
+    },
+    Case {
+        words: WORDS,
+        files: K,
+        input: "-,4294967295\n!\n-,4294967296\n!\n",
+        text: &["refused,1,1,9\nrefused,2,3,8\n"],
+        status: 0,
+    },
+];
+
+#[test]
+fn each_batch_is_answered_in_order(rt: HostRuntime) -> Result<(), Fail> {
+    expect_all(&rt, rt.alloc(), &BATCHES)?;
+    Ok(())
+}
+
+static REPORTS: [Case; 4] = [
+    Case {
+        words: WORDS,
+        files: K,
+        input: "?\n-,2\n!\n?\n",
+        text: &[
+            "relation,k.csv,2,3\n",
+            K_HEAD,
+            "key,2\nfd,2,1\napplied,1,0,1,2\nrelation,k.csv,2,2\n",
+            K_HEAD,
+            "key,1\nkey,2\nfd,2,1\nfd,1,2\n",
+        ],
+        status: 0,
+    },
+    Case {
+        words: WORDS,
+        files: K,
+        input: "=,2,1,x\n!\n?\n",
+        text: &[
+            "applied,1,1,1,3\nrelation,k.csv,2,3\n",
+            K_HEAD,
+            "fd,2,1\nfd,1,2\n",
+        ],
+        status: 0,
+    },
+    Case {
+        words: WORDS,
+        files: &[("k.csv", "k,v\n1,1\n")],
+        input: "?\n+,2,1\n!\n?\n",
+        text: &[
+            "relation,k.csv,2,1\n",
+            K_HEAD,
+            "key,\nfd,,1\nfd,,2\nind,1.1,1.2\nind,1.2,1.1\napplied,1,1,0,2\nrelation,k.csv,2,2\n",
+            K_HEAD,
+            "key,1\nfd,,2\nind,1.2,1.1\n",
+        ],
+        status: 0,
+    },
+    Case {
+        words: &["depprof", "session", "--nulls", "distinct", "k.csv"],
+        files: &[("k.csv", "k,v\n,1\n,2\n")],
+        input: "?\n",
+        text: &[
+            "relation,k.csv,2,2\n",
+            K_HEAD,
+            "key,1\nkey,2\nfd,2,1\nfd,1,2\nind,1.1,1.2\n",
+        ],
+        status: 0,
+    },
+];
+
+#[test]
+fn reports_show_the_rows_at_that_point(rt: HostRuntime) -> Result<(), Fail> {
+    expect_all(&rt, rt.alloc(), &REPORTS)?;
+    Ok(())
+}
+
+// What a session writes where this read of its input fails, and its status.
+fn stopped<H: Threads + Wait + Sync + Abort>(
+    rt: &H,
+    alloc: Global,
+    number: u64,
+) -> Result<(Vec<u8>, u8), AllocError> {
+    let mut shelf = shelf_of(alloc, K)?;
+    let bytes = Vec::from_slice(alloc, b"?\n")?;
+    let mut input = MemSource::of(bytes, vec![in alloc; number]?, 1);
+    let mut out = SureSink::with_room(alloc, 100)?;
+    let limits = Limits::standard();
+    let status = status_of(rt, alloc, WORDS, &mut shelf, &mut input, &mut out, limits)?;
+    Ok((Vec::from_slice(alloc, out.bytes())?, status))
+}
+
+#[test]
+fn a_failing_read_of_the_input_is_named(rt: HostRuntime) -> Result<(), Fail> {
+    for number in [1u64, 3] {
+        let (text, status) = stopped(&rt, rt.alloc(), number)?;
+        assert!(rt; text.as_slice() == b"fault,read,-\n".as_slice() && status == 4);
+    }
+    Ok(())
+}

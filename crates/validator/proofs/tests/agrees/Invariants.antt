@@ -1,7 +1,0 @@
-use Rattle.validator.proofs.tests.agrees.Given as goal
-
-abbrev pub ghosts-verdict_on : goal.ghosts-verdict_on
-ghosts-verdict_on g a = record { name = a.blank.name; parts = a.blank.parts }
-
-abbrev pub ghosts-verdict_by : goal.ghosts-verdict_by
-ghosts-verdict_by g a = record { name = a.blank.name; parts = a.blank.parts }
