@@ -11,7 +11,7 @@ use Rattle.col_set.proofs.EachColumn.{Listed-columns}
 use Rattle.rel_base.specs.declared.nulls.Nulls.{Nulls}
 use Rattle.rel_base.specs.declared.nulls.Nulls.TheVariants.{Equal}
 use Rattle.rel_base.specs.Cells.{Cell, Row, cell}
-use Rattle.rel_base.specs.Agreement.{Agrees, agree}
+use Rattle.rel_base.specs.Agreement.{Agrees}
 use Rattle.rel_base.specs.RowState.{RowState, width, row}
 use Rattle.rel_base.specs.Validity.{agree_of, Holds}
 use Rattle.rel_base.specs.Projection.{part, projection}

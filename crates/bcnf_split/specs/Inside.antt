@@ -1,11 +1,11 @@
 -- A dependency inside a table, among the rows of the table.
-use Rattle.std.specs.Prelude.{◌≡◌, ◌<◌, ◌^◌, ◌==◌, ◌↔◌, ℕ, true, List}
+use Rattle.std.specs.Prelude.{◌≡◌, ◌==◌, ◌↔◌, ℕ, true, List}
 use Rattle.std.specs.List.{Contains, position_or_len}
 use Rattle.col_set.specs.declared.target.Target.TheVariants.{Col}
 use Rattle.col_set.specs.ColSet.{Columns, IsSubset, has, columns}
 use Rattle.rel_base.specs.declared.nulls.Nulls.TheVariants.{Equal}
 use Rattle.rel_base.specs.Cells.{Cell, Row, cell}
-use Rattle.rel_base.specs.RowState.{RowState, width}
+use Rattle.rel_base.specs.RowState.{RowState}
 use Rattle.rel_base.specs.Validity.{Holds}
 use Rattle.rel_base.specs.Projection.{projection}
 
