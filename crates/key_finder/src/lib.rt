@@ -1,0 +1,13 @@
+//! The minimal keys of a table: of the distinct parts of rows on some columns.
+#![tactic(auto)]
+
+mod hitting;
+pub mod laws;
+mod levels;
+mod rounds;
+#[cfg(test)]
+mod tests;
+mod witnessed;
+
+pub use rounds::table_keys;
+pub use witnessed::table_keys_of;

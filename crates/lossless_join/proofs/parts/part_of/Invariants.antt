@@ -1,0 +1,10 @@
+use Rattle.csv.specs.Records.{fields_of, partial_of}
+use Rattle.rel_base.specs.Cells.{cell}
+use Rattle.lossless_join.proofs.Filling.{Filling}
+use Rattle.lossless_join.proofs.parts.part_of.Given as goal
+
+abbrev pub invariant-loop-column : goal.invariant-loop-column
+invariant-loop-column l = Filling (cell l.row) l.fn.columns l.left (fields_of l.record) (partial_of l.record)
+
+abbrev pub decreases-loop-column : goal.decreases-loop-column
+decreases-loop-column l = l.left
