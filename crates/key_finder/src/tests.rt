@@ -2,14 +2,14 @@ mod plain;
 
 use self::plain::{is_key, is_wide};
 use crate::{table_keys, table_keys_of};
-use rel_base::{Codes, ColSet, RowNo, Snapshot};
+use rel_base::{Codes, ColSet, MOST_COLUMNS, RowNo, Snapshot};
 use std::alloc::{AllocError, Global};
 use std::process::Abort;
 use std::test::Fail;
 
 // The set whose columns these bits are.
-fn set(bits: u128) -> ColSet {
-    ColSet::of_bits(bits)
+fn set(bits: u8) -> ColSet {
+    ColSet::of_bits(u128::from(bits))
 }
 
 // A snapshot of four rows and three columns, of which some rows are live.
@@ -81,7 +81,7 @@ fn the_empty_set_is_the_key_of_one_part(rt: HostRuntime) -> Result<(), Fail> {
 // Whether the keys by agree sets are exactly those of the definition, among the sets of four columns.
 fn agrees(alloc: Global, agree_sets: &[ColSet], columns: ColSet) -> Result<bool, AllocError> {
     let found = table_keys_of(alloc, agree_sets, columns)?;
-    for bits in 0u128..16 {
+    for bits in 0u8..16 {
         if found.contains(&set(bits)) != is_key(agree_sets, columns, set(bits)) {
             return Ok(false);
         }
@@ -92,7 +92,7 @@ fn agrees(alloc: Global, agree_sets: &[ColSet], columns: ColSet) -> Result<bool,
 #[test]
 fn keys_by_agree_sets_are_those_of_the_definition(rt: HostRuntime) -> Result<(), Fail> {
     let alloc = rt.alloc();
-    for bits in 0u128..16 {
+    for bits in 0u8..16 {
         let agree_sets = [set(3), set(bits), set(12), set(bits / 2 + 4)];
         assert!(rt; agrees(alloc, &agree_sets, set(15))?);
         assert!(rt; agrees(alloc, &agree_sets, set(bits))?);
@@ -104,7 +104,7 @@ fn keys_by_agree_sets_are_those_of_the_definition(rt: HostRuntime) -> Result<(),
 #[test]
 fn as_many_columns_as_there_may_be(rt: HostRuntime) -> Result<(), Fail> {
     let alloc = rt.alloc();
-    let all = ColSet::all(128);
+    let all = ColSet::all(MOST_COLUMNS);
     let agree_sets = [all.without(0), all.without(127)];
     let found = table_keys_of(alloc, &agree_sets, all)?;
     assert!(rt; found.as_slice() == [ColSet::empty().with(0).with(127)].as_slice());
