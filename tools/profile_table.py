@@ -109,7 +109,7 @@ class Sample:
             return left  # too few rows were drawn to tell
         while True:
             parts = [left[:k] + left[k + 1:] for k in range(len(left))]
-            parts = [part for part in parts if part and self.repeats(part) <= self.table.few_rows / 4]
+            parts = [part for part in parts if part and self.repeats(part) <= self.table.few_rows / 2]
             if not parts:
                 return left
             left = max(parts, key=lambda part: sum(set(part) <= set(other) for other in lefts))
@@ -278,7 +278,7 @@ class Trial:
     def try_left(self, left, lefts):
         """Decides all targets of a left side."""
         open_ = self.by_known_rows(left, self.open_targets(left, lefts[left]))
-        if open_ and left and self.sample.repeats(left) <= self.table.few_rows / 4:
+        if open_ and left and self.sample.repeats(left) <= self.table.few_rows / 2:
             for part in dict.fromkeys([self.sample.shared_part(left, lefts), left]):
                 if open_ and not any(set(part) <= set(other) for other in self.too_many):
                     self.look_at_repeated(part, left)
@@ -326,7 +326,7 @@ class Trial:
         table = self.table
         groups = table.broken_keys(left) if targets == [IDENTITY] else table.broken_dependencies(left, targets)
         complete = len(groups) < table.groups
-        few = sum(group.size for group in groups) <= table.few_rows / 4
+        few = sum(group.size for group in groups) <= table.few_rows / 10
         found = table.rows_of_groups(left, groups) if groups and few else [None] * len(groups)
         for a in targets:
             mine = [(group, rows) for group, rows in zip(groups, found) if a in group.breaks]
