@@ -30,7 +30,7 @@ from table_engine import (IDENTITY, Engine, Refused, Table, alike, encoded, head
                           text_of, unlike)
 
 MOST_SAMPLED = 900_000  # a session takes 1,000,000 rows
-KEPT_ROWS = 1_000_000  # rows that break a left side and are kept for larger ones
+KEPT_ROWS = 500_000  # rows that break a left side and are kept for larger ones
 EVIDENCE = 32  # broken groups of a candidate whose rows join the sample
 SMALL_GROUP = 8  # of a group up to this size all rows do, of a larger one two
 
@@ -197,10 +197,11 @@ class Breaking:
         self.lists = []  # (left side, target, rows), the oldest first
 
     def keep(self, left, target, rows):
-        """Keeps a list of rows; the oldest are let go of where there are too many rows."""
-        self.lists.append((mask_of(left), target, rows))
-        while sum(len(rows) for _, _, rows in self.lists) > KEPT_ROWS:
-            self.lists.pop(0)
+        """Keeps a list of rows. Where there are too many rows, the longest of the lists before goes first."""
+        while self.lists and len(rows) + sum(len(rows) for _, _, rows in self.lists) > KEPT_ROWS:
+            self.lists.remove(max(self.lists, key=lambda kept: len(kept[2])))
+        if len(rows) <= KEPT_ROWS:
+            self.lists.append((mask_of(left), target, rows))
 
     def groups(self, left, target, grouped):
         """None where this is not known, else the groups of rows that agree on `left` and not on the target. `grouped` keeps what
