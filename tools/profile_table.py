@@ -30,7 +30,7 @@ from table_engine import (IDENTITY, Engine, Refused, Table, alike, encoded, head
                           text_of, unlike)
 
 MOST_SAMPLED = 900_000  # a session takes 1,000,000 rows
-KEPT_ROWS = 1_000_000  # rows that break a left side and are kept for larger ones
+KEPT_ROWS = 500_000  # rows that break a left side and are kept for larger ones
 EVIDENCE = 32  # broken groups of a candidate whose rows join the sample
 SMALL_GROUP = 8  # of a group up to this size all rows do, of a larger one two
 
@@ -109,7 +109,7 @@ class Sample:
             return left  # too few rows were drawn to tell
         while True:
             parts = [left[:k] + left[k + 1:] for k in range(len(left))]
-            parts = [part for part in parts if part and self.repeats(part) <= self.table.few_rows / 4]
+            parts = [part for part in parts if part and self.repeats(part) <= self.table.few_rows / 2]
             if not parts:
                 return left
             left = max(parts, key=lambda part: sum(set(part) <= set(other) for other in lefts))
@@ -197,10 +197,11 @@ class Breaking:
         self.lists = []  # (left side, target, rows), the oldest first
 
     def keep(self, left, target, rows):
-        """Keeps a list of rows; the oldest are let go of where there are too many rows."""
-        self.lists.append((mask_of(left), target, rows))
-        while sum(len(rows) for _, _, rows in self.lists) > KEPT_ROWS:
-            self.lists.pop(0)
+        """Keeps a list of rows. Where there are too many rows, the longest of the lists before goes first."""
+        while self.lists and len(rows) + sum(len(rows) for _, _, rows in self.lists) > KEPT_ROWS:
+            self.lists.remove(max(self.lists, key=lambda kept: len(kept[2])))
+        if len(rows) <= KEPT_ROWS:
+            self.lists.append((mask_of(left), target, rows))
 
     def groups(self, left, target, grouped):
         """None where this is not known, else the groups of rows that agree on `left` and not on the target. `grouped` keeps what
@@ -278,7 +279,7 @@ class Trial:
     def try_left(self, left, lefts):
         """Decides all targets of a left side."""
         open_ = self.by_known_rows(left, self.open_targets(left, lefts[left]))
-        if open_ and left and self.sample.repeats(left) <= self.table.few_rows / 4:
+        if open_ and left and self.sample.repeats(left) <= self.table.few_rows / 2:
             for part in dict.fromkeys([self.sample.shared_part(left, lefts), left]):
                 if open_ and not any(set(part) <= set(other) for other in self.too_many):
                     self.look_at_repeated(part, left)
@@ -326,7 +327,7 @@ class Trial:
         table = self.table
         groups = table.broken_keys(left) if targets == [IDENTITY] else table.broken_dependencies(left, targets)
         complete = len(groups) < table.groups
-        few = sum(group.size for group in groups) <= table.few_rows / 4
+        few = sum(group.size for group in groups) <= table.few_rows / 10
         found = table.rows_of_groups(left, groups) if groups and few else [None] * len(groups)
         for a in targets:
             mine = [(group, rows) for group, rows in zip(groups, found) if a in group.breaks]

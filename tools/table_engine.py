@@ -224,7 +224,7 @@ Group = namedtuple("Group", "values size breaks")
 class Table:
     """The rows that a table or a query gives, as the engine sees them."""
 
-    few_rows = 200_000  # rows that are looked at one by one for one left side
+    few_rows = 500_000  # rows that are looked at one by one for one left side
     groups = 64  # broken groups of rows that one statement gives
 
     def __init__(self, engine, args):
