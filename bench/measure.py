@@ -3,7 +3,7 @@
 
   measure.py [--small] [--only WORD] [--runs N] [--workers N] [--data FOLDER] [--program FILE] [--other NAME=COMMAND ..]
 
-A COMMAND is split at its spaces, and `{}` in it is the file; as `--other 'peer=/opt/peer profile --workers 1 {}'`. Each program runs on one
+A COMMAND is split at its spaces, and `{}` in it is the file; as `--other 'peer=./peer profile --workers 1 {}'`. Each program runs on one
 relation after the other has, N times; the table has the run that took the least processor time: lines of output, processor and
 wall seconds, the most memory that was in use, and the ratio of processor seconds to those of depprof. Where another program writes other
 bytes, it says so. Relations are made once and stay in the folder of data (bench/data). Nothing else should run on the machine.
