@@ -1,6 +1,7 @@
 // Which inclusions are still possible.
 ghost use Rattle.std.specs.Prelude.{◌≡◌, ◌≢◌, ◌&&◌, ◌||◌, ◌<◌, ◌≤◌, ◌+◌, ◌*◌, ℕ, true, length, slice_index, IfOk, IsTrue, vec_len};
 ghost use Rattle.col_set.specs.ColSet.{inter};
+ghost use Rattle.col_set.specs.declared.col_set.TheConstants.{COLUMN_PLACES};
 ghost use Rattle.inclusion_merge.specs.WideSet.{has_wide};
 
 use crate::wide_set::{PART, has_wide, parts_for, parts_of};
@@ -14,7 +15,7 @@ pub(crate) struct Candidates {
     // How many parts each set has.
     parts: usize,
     kept: Vec<ColSet>,
-    ghost room: { columns ≤ 128 * parts },
+    ghost room: { columns ≤ COLUMN_PLACES * parts },
     ghost square: { vec_len kept ≡ columns * parts },
 }
 

@@ -5,7 +5,7 @@ ghost use Rattle.col_set.specs.ColSet.{IsSubset, has, inter, empty};
 ghost use Rattle.key_finder.specs.Hitting as words;
 ghost use Rattle.key_finder.specs.Hitting.{ListsHitting};
 
-use rel_base::ColSet;
+use rel_base::{ColSet, MOST_COLUMNS};
 use std::alloc::{AllocError, Global};
 
 // An edge of the fewest columns.
@@ -24,7 +24,7 @@ fn smallest(edges: &[ColSet]) -> Option<ColSet>
 
 // How many edges have the column.
 fn count_having(edges: &[ColSet], column: u8) -> usize
-    requires { column < 128 }
+    requires { column < MOST_COLUMNS }
 {
     edges.iter().filter(|edge| edge.has(column)).count()
 }
@@ -32,9 +32,9 @@ fn count_having(edges: &[ColSet], column: u8) -> usize
 // The column of these that the most edges have.
 fn most_shared(edges: &[ColSet], among: ColSet, first: u8) -> u8
     requires first { has among first ≡ true }
-    requires bound { first < 128 }
+    requires bound { first < MOST_COLUMNS }
     ensures column { has among result ≡ true }
-    ensures bound { result < 128 }
+    ensures bound { result < MOST_COLUMNS }
 {
     let mut best = first;
     let mut most = 0;
@@ -52,7 +52,7 @@ fn most_shared(edges: &[ColSet], among: ColSet, first: u8) -> u8
 
 // The edges without the column.
 fn shortened(alloc: Global, edges: &[ColSet], column: u8) -> Result<Vec<ColSet>, AllocError>
-    requires { column < 128 }
+    requires { column < MOST_COLUMNS }
     ensures { IfOk result (λ sets. sets.items ≡ words.shortened column edges.now) }
 {
     edges.iter().map(|edge| edge.without(column)).collect(alloc)
@@ -66,7 +66,7 @@ struct Halves {
 }
 
 fn divided(alloc: Global, edges: &[ColSet], column: u8) -> Result<Halves, AllocError>
-    requires { column < 128 }
+    requires { column < MOST_COLUMNS }
     ensures having { IfOk result (λ h. h.having.items ≡ words.having column edges.now) }
     ensures lacking { IfOk result (λ h. h.lacking.items ≡ words.lacking column edges.now) }
 {
@@ -96,7 +96,7 @@ fn push_needing(
     column: u8,
     sets: &[ColSet],
 ) -> Result<(), AllocError>
-    requires { column < 128 }
+    requires { column < MOST_COLUMNS }
     ensures { OnOk result (found.new.items ≡ found.old.items ++ words.needing edges.now column sets.now) }
 {
     for x in sets {

@@ -12,7 +12,7 @@ use crate::Filled;
 use crate::index::{Index, index_of};
 use crate::parts::{DistinctRows, listed, merged, no_rows, part_of};
 use csv::ByteRecord;
-use rel_base::{ColSet, Row};
+use rel_base::{ColSet, MOST_COLUMNS, Row};
 use std::alloc::{AllocError, Global};
 
 // Adds the row with each of the table's rows that agrees with it on the common columns.
@@ -25,7 +25,7 @@ fn push_matches(
     index: &Index,
     whole: &mut DistinctRows,
 ) -> Result<(), AllocError>
-    requires narrow { width ≤ 128 }
+    requires narrow { width ≤ MOST_COLUMNS }
     requires row { length row.now ≡ width }
     requires common { common < 2 ^ width }
     requires index { IsIndex table.now common (length table.now.rows) index.now.keys.keys index.now.groups.items }
@@ -50,7 +50,7 @@ fn joined_with(
     table: &Filled,
     rows: &[Row],
 ) -> Result<Vec<Row>, AllocError>
-    requires narrow { width ≤ 128 }
+    requires narrow { width ≤ MOST_COLUMNS }
     requires done { done < 2 ^ width }
     requires wide { All (λ row. length row ≡ width) rows.now }
     ensures { IfOk result (λ whole. whole.items ≡ joining.joined_with width done table.now rows.now) }

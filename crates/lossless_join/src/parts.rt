@@ -9,7 +9,7 @@ ghost use Rattle.csv.specs.Records.{fields_of, partial_of};
 
 use csv::ByteRecord;
 use indexmap::IndexSet;
-use rel_base::{ColSet, Row};
+use rel_base::{ColSet, MOST_COLUMNS, Row};
 use std::alloc::{AllocError, Global};
 use std::hash::{BuildHasherDefault, DefaultHasher};
 
@@ -62,7 +62,7 @@ pub fn project(alloc: Global, rows: &[Row], columns: ColSet) -> Result<Vec<Row>,
 pub(crate) fn cell_in(columns: ColSet, part: &Row, column: u8) -> &[u8]
     requires wide { length part.now ≡ size columns }
     requires column { has columns column ≡ true }
-    requires bound { column < 128 }
+    requires bound { column < MOST_COLUMNS }
     ensures { result.now ≡ part_cell columns part.now column }
 {
     part.cell(columns.inter(ColSet::all(column)).len() as usize)
@@ -96,7 +96,7 @@ pub(crate) fn merged(
     columns: ColSet,
     part: &Row,
 ) -> Result<Row, AllocError>
-    requires narrow { width ≤ 128 }
+    requires narrow { width ≤ MOST_COLUMNS }
     requires row { length row.now ≡ width }
     requires wide { length part.now ≡ size columns }
     ensures { IfOk result (λ whole. whole ≡ words.merged width columns row.now part.now) }

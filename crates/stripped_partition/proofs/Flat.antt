@@ -8,6 +8,7 @@ use Rattle.stripped_partition.specs.Groups.{cut, EndsRise, ends_of, IsCut, IsFla
 use Rattle.stripped_partition.specs.Splits.{parts}
 use Rattle.stripped_partition.proofs.Cuts.{length-slice, sum-cut}
 use Rattle.stripped_partition.proofs.SplitLoop.{few_parts}
+use Rattle.rel_base.specs.declared.limits.TheConstants.{MOST_ROWS}
 
 slice_at : (xs ys zs : List ℕ) → slice_range (xs ++ (ys ++ zs)) (length xs) (length xs + length ys) ≡ ys
 slice_at xs ys zs =
@@ -31,7 +32,7 @@ rise_from start (g ∷ gs) f = (
   subst (λ (n : ℕ). EndsRise (start + length g) n (ends_of (start + length g) gs)) (let e = length-append g (concat gs) in let d : start + length g + length (concat gs) ≡ start + length (g ++ concat gs) = omega arith in d) (rise_from (start + length g) gs (λ h l. f h (inr l))),
 )
 
-pub flat-rise : (rows ends : List ℕ) (gs : List (List ℕ)) → IsFlat rows ends gs → ((g : List ℕ) → Listed g gs → 0 < length g) → length rows ≤ 1000000 → IsCut rows ends
+pub flat-rise : (rows ends : List ℕ) (gs : List (List ℕ)) → IsFlat rows ends gs → ((g : List ℕ) → Listed g gs → 0 < length g) → length rows ≤ MOST_ROWS → IsCut rows ends
 flat-rise rows ends gs p f short = record {
   rise = subst (λ (es : List ℕ). EndsRise 0 (length rows) es) (sym p.cuts) (subst (λ (n : ℕ). EndsRise 0 n (ends_of 0 gs)) (let e = ap length p.laid in let d : 0 + length (concat gs) ≡ length rows = omega arith in d) (rise_from 0 gs f));
   short = short;
@@ -63,5 +64,5 @@ cut_positive start rows (end ∷ ends) r g (inr h) = cut_positive end rows ends 
 pub group_positive : (rows ends : List ℕ) → IsCut rows ends → (g : List ℕ) → Listed g (cut 0 rows ends) → 0 < length g
 group_positive rows ends is g h = cut_positive 0 rows ends is.rise g h
 
-pub sum_groups : (rows ends : List ℕ) → IsCut rows ends → sum_by length (cut 0 rows ends) ≤ 1000000
+pub sum_groups : (rows ends : List ℕ) → IsCut rows ends → sum_by length (cut 0 rows ends) ≤ MOST_ROWS
 sum_groups rows ends is = let s = sum-cut 0 rows ends is.rise in let m = is.short in omega arith

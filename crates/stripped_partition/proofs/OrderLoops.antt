@@ -9,6 +9,7 @@ use Rattle.stripped_partition.specs.Groups.{ends_of, IsFlat}
 use Rattle.stripped_partition.specs.Order.{Ahead, key_of, group_at}
 use Rattle.stripped_partition.proofs.PlacingStep.{ends_of-append}
 use Rattle.stripped_partition.proofs.Ordering.{sum_by-map}
+use Rattle.rel_base.specs.declared.limits.TheConstants.{MOST_ROWS}
 
 -- ---- each group's first row is above the last one
 Ahead-push : (gs : List (List ℕ)) (g : List ℕ) → Ahead gs → ((h : List ℕ) → Listed h gs → get_or h 0 0 < get_or g 0 0) → Ahead (gs ++ g ∷ [])
@@ -72,7 +73,7 @@ module _ (groups : List (List ℕ)) (keys rows ends : List ℕ) (i : ℕ) (l : i
   so_far : length rows ≡ sum_by (λ key. length (group_at groups key)) (take i keys)
   so_far = ap length p.laid ∙ length-concat (map (group_at groups) (take i keys)) ∙ sum_by-map length (group_at groups) (take i keys)
 
-  pub copied_short : sum_by (λ key. length (group_at groups key)) keys ≤ 1000000 → length rows + length (group_at groups (get_or keys i 0)) ≤ 1000000
+  pub copied_short : sum_by (λ key. length (group_at groups key)) keys ≤ MOST_ROWS → length rows + length (group_at groups (get_or keys i 0)) ≤ MOST_ROWS
   copied_short short = let e = so_far in let m = sum_by_more_le (λ key. length (group_at groups key)) keys i 0 l in omega arith
 
   pub flat_more : (rows_after ends_after : List ℕ) (made : ℕ) → made ≡ length rows → rows_after ≡ rows ++ group_at groups (get_or keys i 0) → ends_after ≡ ends ++ (made + length (group_at groups (get_or keys i 0))) ∷ []

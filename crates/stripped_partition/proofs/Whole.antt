@@ -12,6 +12,7 @@ use Rattle.stripped_partition.specs.Stripped.{group_of, agree_on, stripped}
 use Rattle.stripped_partition.proofs.Grouped.{same_ahead, Listed-grouped}
 use Rattle.stripped_partition.proofs.Agreeing.{agree_same, agree_on-empty}
 use Rattle.stripped_partition.proofs.Dependencies.{stripped-parts, Ahead-stripped}
+use Rattle.rel_base.specs.declared.limits.TheConstants.{MOST_ROWS}
 
 filter_all : (p : ℕ → Bool) (xs : List ℕ) → ((x : ℕ) → p x ≡ true) → filter p xs ≡ xs
 filter_all p [] f = refl
@@ -56,7 +57,7 @@ module _ (s : CodeTable) where
   whole_cut rows ends n r e l two =
       ap (cut 0 rows) e ∙ ap (λ (g : List ℕ). g ∷ []) (take_all (n - 0) rows (omega arith) ∙ r) ∙ sym (whole (let f = ap length r in omega arith))
 
-  pub whole_is_cut : (rows ends : List ℕ) (n : ℕ) → rows ≡ live_numbers s → ends ≡ n ∷ [] → n ≡ length rows → 2 ≤ n → length rows ≤ 1000000 → IsCut rows ends
+  pub whole_is_cut : (rows ends : List ℕ) (n : ℕ) → rows ≡ live_numbers s → ends ≡ n ∷ [] → n ≡ length rows → 2 ≤ n → length rows ≤ MOST_ROWS → IsCut rows ends
   whole_is_cut rows ends n r e l two short = record {
     rise = subst (λ (es : List ℕ). EndsRise 0 (length rows) es) (sym e) ((omega arith), l);
     short = short;

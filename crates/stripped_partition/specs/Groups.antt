@@ -1,6 +1,7 @@
 -- A list of groups as one list of rows and the places at which the groups end.
 use Rattle.std.specs.Prelude.{◌≡◌, ◌≤◌, ◌<◌, ◌+◌, ℕ, zero, suc, List, [], ◌∷◌, length, slice_range, slice_index}
 use Rattle.std.specs.List.{concat}
+use Rattle.rel_base.specs.declared.limits.TheConstants.{MOST_ROWS}
 
 -- the groups of which the first begins at a place, and each later one where the one before it ends
 unfoldable pub cut : {X : Type 0} → ℕ → List X → List ℕ → List (List X)
@@ -17,10 +18,10 @@ abbrev pub EndsRise : ℕ → ℕ → List ℕ → Type 0
 EndsRise start n [] = start ≡ n
 EndsRise start n (end ∷ ends) = (start < end) × EndsRise end n ends
 
--- each group has a row, the groups have all rows, and there are at most a million rows
+-- each group has a row, the groups have all rows, and there are at most as many rows as a relation may have
 pub record IsCut (rows ends : List ℕ) : Type 0 where
   pub rise : EndsRise 0 (length rows) ends
-  pub short : length rows ≤ 1000000
+  pub short : length rows ≤ MOST_ROWS
 
 -- where groups end that stand one after another from a place on
 unfoldable pub ends_of : ℕ → List (List ℕ) → List ℕ

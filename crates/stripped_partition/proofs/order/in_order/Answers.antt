@@ -12,6 +12,7 @@ use Rattle.stripped_partition.proofs.Flat.{flat-cut, flat-rise, group_positive, 
 use Rattle.stripped_partition.proofs.Ordering.{is_key, sum_sorted, sorted_order, sum_by-map}
 use Rattle.stripped_partition.proofs.OrderLoops.{length-concat}
 use Rattle.stripped_partition.proofs.order.in_order.Goals as goal
+use Rattle.rel_base.specs.declared.limits.TheConstants.{MOST_ROWS}
 
 -- the keys of all groups
 all_keys : (rows ends keys : List ℕ) (n : ℕ) → n ≡ length ends → IsPermutation (map (key_of (cut 0 rows ends)) (upto n)) keys → IsPermutation (map (key_of (cut 0 rows ends)) (upto (length (cut 0 rows ends)))) keys
@@ -25,7 +26,7 @@ places rows ends keys n is e p = All-from (λ (key : ℕ). key % 2 ^ 32 < n) key
     let k = is_key (cut 0 rows ends) (few rows ends is) keys (all_keys rows ends keys n e p) key h in
     let i = k.is in let w = k.within in let l = length-cut 0 rows ends in let f = few rows ends is in omega arith)
 
-short : (rows ends keys : List ℕ) (n : ℕ) → IsCut rows ends → n ≡ length ends → IsPermutation (map (key_of (cut 0 rows ends)) (upto n)) keys → sum_by (λ key. length (group_at (cut 0 rows ends) key)) keys ≤ 1000000
+short : (rows ends keys : List ℕ) (n : ℕ) → IsCut rows ends → n ≡ length ends → IsPermutation (map (key_of (cut 0 rows ends)) (upto n)) keys → sum_by (λ key. length (group_at (cut 0 rows ends) key)) keys ≤ MOST_ROWS
 short rows ends keys n is e p =
     let s = sum_sorted (cut 0 rows ends) (few rows ends is) keys (all_keys rows ends keys n e p) in
     let m = sum_groups rows ends is in omega arith
@@ -38,7 +39,7 @@ laid_out-requires-clause-places c =
 pub laid_out-requires-clause-short : goal.laid_out-requires-clause-short
 laid_out-requires-clause-short c =
     let g = c.args.groups in
-    subst (λ (keys : List ℕ). sum_by (λ key. length (group_at (cut 0 g.rows.items g.ends.items) key)) keys ≤ 1000000) (sym c.deref.ensures.value) (short g.rows.items g.ends.items c.in_ok-keys.keys.items (vec_len g.ends) c.requires (omega (arith, g.ends.ok.0)) c.in_ok-keys.ensures.permutation)
+    subst (λ (keys : List ℕ). sum_by (λ key. length (group_at (cut 0 g.rows.items g.ends.items) key)) keys ≤ MOST_ROWS) (sym c.deref.ensures.value) (short g.rows.items g.ends.items c.in_ok-keys.keys.items (vec_len g.ends) c.requires (omega (arith, g.ends.ok.0)) c.in_ok-keys.ensures.permutation)
 
 -- the groups that the keys lay out
 is_order : (rows ends keys : List ℕ) (n : ℕ) → IsCut rows ends → n ≡ length ends → IsPermutation (map (key_of (cut 0 rows ends)) (upto n)) keys → IsNonDecreasing keys → IsInOrder (cut 0 rows ends) (map (group_at (cut 0 rows ends)) keys)
