@@ -1,3 +1,4 @@
+pub mod Branches
 pub mod Cuts
 pub mod Drafted
 pub mod Drafting

@@ -1,3 +1,4 @@
+pub mod Branches
 pub mod Cands
 pub mod Drafts
 pub mod Growth

@@ -2,6 +2,7 @@
 //! of which no part is such a set, each with the rows that it is known to hold in.
 #![tactic(auto)]
 
+mod branching;
 mod cand;
 mod cand_list;
 mod candidate_cover;
