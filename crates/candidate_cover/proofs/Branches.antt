@@ -1,5 +1,5 @@
 -- The least sets from a chosen set on, by those with one more column and those without it.
-use Rattle.std.proofs.Common.{inl, inr, ◌≡◌, ◌⊎◌, ℕ, ◌+◌, ◌<◌, ◌≤◌, ◌^◌, Bool, true, false, not, ◌&&◌, ◌||◌, eqb, refl, sym, ap, ◌∙◌, subst, List, [], ◌∷◌, ◌++◌, if◌then◌else◌, length, get_or, take, drop, arith}
+use Rattle.std.proofs.Common.{inl, inr, ◌≡◌, ◌⊎◌, ℕ, ◌+◌, ◌<◌, ◌≤◌, Bool, true, false, not, ◌&&◌, ◌||◌, eqb, refl, sym, ap, ◌∙◌, subst, List, [], ◌∷◌, ◌++◌, if◌then◌else◌, length, get_or, take, drop, arith}
 use Rattle.std.specs.List.{filter, list_any}
 use Rattle.std.proofs.lemmas.Bool.{true≢false, false≢true, and_parts, and_from, or_cases, or_left, or_right, not-true, not_from_false, false_from_ne_true, true_from_ne_false, eqb-true, eq-eqb, ne_eqb, cases_Bool}
 use Rattle.std.proofs.lemmas.List.{take_more, take_all, take-append-drop}
@@ -126,10 +126,12 @@ module _ (ws : List ℕ) (s free : ℕ) (pending own : List ℕ) (b : IsBranch w
       none : (x : ℕ) → IsLeastFrom ws s free x → ⊥
       none x l =
           let w = covered_which pending free e in
-          true≢false (sym (covered_at ws x w.set (b.real w.set w.listed) (record { each = λ k h. elim (or_cases (has s k) (has free k) (sym (has-union s free k) ∙ l.within.each k h)) as (λ _. has w.set k ≡ true) [
-            | inl g ↦ (b.holds w.set w.listed).each k g
-            | inr g ↦ w.inside.each k g
-          ] })) ∙ l.stands)
+          true≢false (sym (covered_at ws x w.set (b.real w.set w.listed) (record {
+            each = λ k h. elim (or_cases (has s k) (has free k) (sym (has-union s free k) ∙ l.within.each k h)) as (λ _. has w.set k ≡ true) [
+              | inl g ↦ (b.holds w.set w.listed).each k g
+              | inr g ↦ w.inside.each k g
+            ];
+          })) ∙ l.stands)
 
   -- ---- by a column
   module _ (c : ℕ) (choice : has free c ≡ true) where
@@ -159,10 +161,12 @@ module _ (ws : List ℕ) (s free : ℕ) (pending own : List ℕ) (b : IsBranch w
             covered_at more (without x c) w.set (Listed-append_left w.set (lacking c pending) (having c own) (Listed-filter (λ w. not (has w c)) w.set pending w.listed (not_from_false _ (out w)))) w.inside
           where
             out : (w : Covers pending (without x c)) → has w.set c ≡ false
-            out w = false_from_ne_true _ (λ i. true≢false (sym (covered_at ws x w.set (b.real w.set w.listed) (record { each = λ k j. elim (cases_Bool (eqb k c)) as (λ _. has w.set k ≡ true) [
-              | inl q ↦ ap (has w.set) (eqb-true k c q) ∙ i
-              | inr q ↦ w.inside.each k (has-without x c k ∙ and_from _ _ j (ap not q))
-            ] })) ∙ l.stands))
+            out w = false_from_ne_true _ (λ i. true≢false (sym (covered_at ws x w.set (b.real w.set w.listed) (record {
+              each = λ k j. elim (cases_Bool (eqb k c)) as (λ _. has w.set k ≡ true) [
+                | inl q ↦ ap (has w.set) (eqb-true k c q) ∙ i
+                | inr q ↦ w.inside.each k (has-without x c k ∙ and_from _ _ j (ap not q))
+              ];
+            })) ∙ l.stands))
 
         elsewhere : eqb d c ≡ false → covered more (without x d) ≡ true
         elsewhere e =
@@ -192,19 +196,23 @@ module _ (ws : List ℕ) (s free : ℕ) (pending own : List ℕ) (b : IsBranch w
             )
 
         lately : Listed w pending → has w c ≡ false → IsSubset (without (with s c) d) w
-        lately g e = record { each = λ k j. let q = split k j in elim q.0 as (λ _. has w k ≡ true) [
-          | inl f ↦ (b.holds w g).each k f
-          | inr f ↦ absurd (q.1 (f ∙ sym is_c))
-        ] }
+        lately g e = record {
+          each = λ k j. let q = split k j in elim q.0 as (λ _. has w k ≡ true) [
+            | inl f ↦ (b.holds w g).each k f
+            | inr f ↦ absurd (q.1 (f ∙ sym is_c))
+          ];
+        }
           where
             is_c : d ≡ c
             is_c = elim (or_cases (has s d) (eqb d c) (sym (has-with s c d) ∙ i)) as (λ _. d ≡ c) [ inl f ↦ absurd (true≢false (sym ((b.holds w g).each d f) ∙ o)) | inr f ↦ eqb-true d c f ]
 
         before : Listed w own → has w c ≡ true → IsSubset (without (with s c) d) w
-        before g e = record { each = λ k j. let q = split k j in elim q.0 as (λ _. has w k ≡ true) [
-          | inl f ↦ (b.own_one w g d old o).each k (without_keeps s d k f q.1)
-          | inr f ↦ ap (has w) f ∙ e
-        ] }
+        before g e = record {
+          each = λ k j. let q = split k j in elim q.0 as (λ _. has w k ≡ true) [
+            | inl f ↦ (b.own_one w g d old o).each k (without_keeps s d k f q.1)
+            | inr f ↦ ap (has w) f ∙ e
+          ];
+        }
           where
             old : has s d ≡ true
             old = elim (or_cases (has s d) (eqb d c) (sym (has-with s c d) ∙ i)) as (λ _. has s d ≡ true) [ inl f ↦ f | inr f ↦ absurd (true≢false (sym e ∙ ap (has w) (sym (eqb-true d c f)) ∙ o)) ]
@@ -236,10 +244,12 @@ module _ (ws : List ℕ) (s free : ℕ) (pending own : List ℕ) (b : IsBranch w
         true≢false (sym (list_any_at (λ w. not (has w d)) w.set more w.listed (not_from_false _ (lacks w))) ∙ none)
       where
         lacks : (w : Covers more (without x d)) → has w.set d ≡ false
-        lacks w = false_from_ne_true _ (λ i. true≢false (sym (covered_at ws x w.set (own_each w.set w.listed) (record { each = λ k j. elim (cases_Bool (eqb k d)) as (λ _. has w.set k ≡ true) [
-          | inl q ↦ ap (has w.set) (eqb-true k d q) ∙ i
-          | inr q ↦ w.inside.each k (has-without x d k ∙ and_from _ _ j (ap not q))
-        ] })) ∙ l.stands))
+        lacks w = false_from_ne_true _ (λ i. true≢false (sym (covered_at ws x w.set (own_each w.set w.listed) (record {
+          each = λ k j. elim (cases_Bool (eqb k d)) as (λ _. has w.set k ≡ true) [
+            | inl q ↦ ap (has w.set) (eqb-true k d q) ∙ i
+            | inr q ↦ w.inside.each k (has-without x d k ∙ and_from _ _ j (ap not q))
+          ];
+        })) ∙ l.stands))
 
     -- the branch of the sets without the column
     pub branch_without : IsBranch ws s (without free c) (pruned c (without free c) pending) own
@@ -268,10 +278,12 @@ module _ (ws : List ℕ) (s free : ℕ) (pending own : List ℕ) (b : IsBranch w
             by true e =
                 let q = list_any_which (λ v. subset (inter w.set (without free c)) v) (lacking c pending) (and_parts (has w.set c) _ e).1 in
                 let p = Listed-filter_parts (λ w. not (has w c)) q.0 pending q.1 in
-                covered_at (pruned c (without free c) pending) x q.0 (stays q.0 (not-true _ p.1) p.0) (record { each = λ k h. elim (or_cases (has s k) (has (without free c) k) (sym (has-union s (without free c) k) ∙ i.each k h)) as (λ _. has q.0 k ≡ true) [
-                  | inl g ↦ (b.holds q.0 p.0).each k g
-                  | inr g ↦ (subset-true q.2).each k (has-inter w.set (without free c) k ∙ and_from _ _ (w.inside.each k h) g)
-                ] })
+                covered_at (pruned c (without free c) pending) x q.0 (stays q.0 (not-true _ p.1) p.0) (record {
+                  each = λ k h. elim (or_cases (has s k) (has (without free c) k) (sym (has-union s (without free c) k) ∙ i.each k h)) as (λ _. has q.0 k ≡ true) [
+                    | inl g ↦ (b.holds q.0 p.0).each k g
+                    | inr g ↦ (subset-true q.2).each k (has-inter w.set (without free c) k ∙ and_from _ _ (w.inside.each k h) g)
+                  ];
+                })
 
     -- both together
     pub branch_both : (old mid new : List ℕ) → HasBranched ws (with s c) (without free c) old mid → HasBranched ws s (without free c) mid new → HasBranched ws s free old new
@@ -368,11 +380,13 @@ owned_none set found e = record { each = λ d. ap (λ (v : ℕ). has v d) e ∙ 
     and_false false = refl
 
 pub owned_more : (own : List ℕ) (set found i w new : ℕ) → i < length own → w ≡ get_or own i w → OwnedSoFar (take i own) set found → new ≡ union found (minus set w) → OwnedSoFar (take (i + 1) own) set new
-owned_more own set found i w new l is s e = record { each = λ d.
-    ap (λ (v : ℕ). has v d) e ∙ has-union found (minus set w) d ∙ ap (λ b. b || has (minus set w) d) (s.each d) ∙ ap (λ b. (has set d && list_any (λ w. not (has w d)) (take i own)) || b) (has-minus set w d)
-    ∙ by (has set d) (list_any (λ w. not (has w d)) (take i own)) (not (has w d))
-    ∙ sym (ap (λ b. has set d && b) (ap (list_any (λ w. not (has w d))) (take_more own i w l ∙ ap (λ (y : ℕ). take i own ++ y ∷ []) (sym is)) ∙ list_any-append (λ w. not (has w d)) (take i own) (w ∷ [])
-    ∙ ap (λ b. list_any (λ w. not (has w d)) (take i own) || b) (or_false (not (has w d))))) }
+owned_more own set found i w new l is s e = record {
+  each = λ d.
+      ap (λ (v : ℕ). has v d) e ∙ has-union found (minus set w) d ∙ ap (λ b. b || has (minus set w) d) (s.each d) ∙ ap (λ b. (has set d && list_any (λ w. not (has w d)) (take i own)) || b) (has-minus set w d)
+      ∙ by (has set d) (list_any (λ w. not (has w d)) (take i own)) (not (has w d))
+      ∙ sym (ap (λ b. has set d && b) (ap (list_any (λ w. not (has w d))) (take_more own i w l ∙ ap (λ (y : ℕ). take i own ++ y ∷ []) (sym is)) ∙ list_any-append (λ w. not (has w d)) (take i own) (w ∷ [])
+      ∙ ap (λ b. list_any (λ w. not (has w d)) (take i own) || b) (or_false (not (has w d)))));
+}
   where
     by : (a b c : Bool) → ((a && b) || (a && c)) ≡ (a && (b || c))
     by true b c = refl
@@ -383,9 +397,11 @@ owned_more own set found i w new l is s e = record { each = λ d.
     or_false false = refl
 
 pub owned_yes : (own : List ℕ) (i set found : ℕ) → OwnedSoFar (take i own) set found → found ≡ set → IsOwned own set
-owned_yes own i set found s e = record { each = λ d h.
-    let q = and_parts (has set d) _ (sym (s.each d) ∙ ap (λ (v : ℕ). has v d) e ∙ h) in
-    ap (list_any (λ w. not (has w d))) (sym (take-append-drop i own)) ∙ list_any-append (λ w. not (has w d)) (take i own) (drop i own) ∙ or_left _ _ q.1 }
+owned_yes own i set found s e = record {
+  each = λ d h.
+      let q = and_parts (has set d) _ (sym (s.each d) ∙ ap (λ (v : ℕ). has v d) e ∙ h) in
+      ap (list_any (λ w. not (has w d))) (sym (take-append-drop i own)) ∙ list_any-append (λ w. not (has w d)) (take i own) (drop i own) ∙ or_left _ _ q.1;
+}
 
 pub owned_no : (own : List ℕ) (set found : ℕ) → OwnedSoFar own set found → (found ≡ set → ⊥) → IsUnowned own set
 owned_no own set found s n = elim (cases_Bool (subset set found)) as (λ _. IsUnowned own set) [

@@ -3,7 +3,6 @@ use Rattle.std.specs.Prelude.{◌≡◌, ◌⊎◌, ℕ, Bool, true, false, not,
 use Rattle.std.specs.List.{filter, list_any}
 use Rattle.col_set.specs.ColSet.{Columns, IsSubset, has, without, union, inter, subset}
 use Rattle.col_set.specs.Lists.{Listed}
-use Rattle.candidate_cover.specs.Growth.{having}
 
 -- whether one of the agree sets contains x
 abbrev pub covered : List Columns → Columns → Bool

@@ -61,11 +61,7 @@ fn most_lacked(columns: ColSet, pending: &[ColSet]) -> Option<u8>
 }
 
 // The agree sets that have the column.
-fn having_column(
-    alloc: Global,
-    column: u8,
-    sets: &[ColSet],
-) -> Result<Vec<ColSet>, AllocError>
+fn having_column(alloc: Global, column: u8, sets: &[ColSet]) -> Result<Vec<ColSet>, AllocError>
     requires { column < MOST_COLUMNS }
     ensures { IfOk result (λ found. found.items ≡ having column sets.now) }
 {
@@ -79,11 +75,7 @@ fn having_column(
 }
 
 // The agree sets that lack the column.
-fn lacking_column(
-    alloc: Global,
-    column: u8,
-    sets: &[ColSet],
-) -> Result<Vec<ColSet>, AllocError>
+fn lacking_column(alloc: Global, column: u8, sets: &[ColSet]) -> Result<Vec<ColSet>, AllocError>
     requires { column < MOST_COLUMNS }
     ensures { IfOk result (λ found. found.items ≡ lacking column sets.now) }
 {
@@ -189,7 +181,14 @@ fn branch(
             push_having(&mut more, column, own)?;
             if is_owned(more.as_slice(), chosen.with(column)) {
                 let having = having_column(alloc, column, pending)?;
-                branch(alloc, chosen.with(column), left, having.as_slice(), more.as_slice(), found)?;
+                branch(
+                    alloc,
+                    chosen.with(column),
+                    left,
+                    having.as_slice(),
+                    more.as_slice(),
+                    found,
+                )?;
             }
             let rest = pruned_sets(alloc, lacking.as_slice(), column, left, pending)?;
             branch(alloc, chosen, left, rest.as_slice(), own, found)
@@ -214,6 +213,13 @@ pub(crate) fn least(
         }
     }
     let mut found = Vec::new(alloc);
-    branch(alloc, ColSet::empty(), columns, pending.as_slice(), &[], &mut found)?;
+    branch(
+        alloc,
+        ColSet::empty(),
+        columns,
+        pending.as_slice(),
+        &[],
+        &mut found,
+    )?;
     Ok(found)
 }

@@ -16,7 +16,7 @@ use crate::cand_list::CandList;
 use crate::draft::Draft;
 use crate::explore::explored;
 use crate::growth::choices;
-use crate::part::{Part, generalised, specialised};
+use crate::part::{Part, generalised, sorted, specialised};
 use rel_base::{ColSet, MOST_COLUMNS, RowNo, Steps, Target};
 use std::alloc::{AllocError, Global};
 use std::marker::Model;
@@ -134,8 +134,9 @@ impl CandidateCover {
     /// The candidates of a target in report order that a draft leaves, or none where these are the ones that there are. Those
     /// that stay keep their marks.
     ///
-    /// Nothing changes here; `put` makes the part the target's list. Where the draft has not changed the target, it takes a
-    /// look at each candidate; else it sorts the target's left sides, and looks each up among the candidates.
+    /// Nothing changes here; `put` makes the part the target's list. The left sides are made here, from the agree sets that the
+    /// draft has noted. Where they are the ones that there were, that is all; else they are sorted, and each is looked up among
+    /// the candidates.
     pub fn drafted(
         &self,
         alloc: Global,
@@ -149,11 +150,11 @@ impl CandidateCover {
         ensures marks { IfOk result (λ part. IfSome part (λ cands. cands ≡ map (kept_or_fresh (cands_of self.now target)) (lefts cands))) }
     {
         let list = self.cand_list(target);
-        if draft.sets(target) == list.sets() {
+        let sets = draft.left_sides(alloc, target)?;
+        if sets.as_slice() == list.sets() {
             return Ok(None);
         }
-        let sets = draft.sorted_sets(alloc, target)?;
-        let made = list.with_lefts(alloc, sets)?;
+        let made = list.with_lefts(alloc, sorted(sets))?;
         Ok(Some(Part::of(made)))
     }
 

@@ -4,7 +4,7 @@ use Rattle.std.proofs.lemmas.Result.{on_ok_weaker}
 use Rattle.col_set.specs.ColSet.{has, with, without, inter, subset}
 use Rattle.col_set.proofs.EachColumn.{without-lt}
 use Rattle.candidate_cover.specs.Growth.{having}
-use Rattle.candidate_cover.specs.Branches.{lacking, IsOwned, IsUnowned, IsBranch, HasBranched, pruned}
+use Rattle.candidate_cover.specs.Branches.{lacking, IsOwned, IsUnowned, HasBranched, pruned}
 use Rattle.candidate_cover.proofs.Branches.{branch_done, branch_dead, branch_with, branch_without, branch_both, branch_none, branch_as, branched_as, no_sets}
 use Rattle.candidate_cover.proofs.branching.+branch.Goals as goal
 use Rattle.candidate_cover.proofs.branching.+branch.Goals.{then-is_owned+in_ok-having-in-Some+in_ok-branch-in-Some, else-is_owned}
@@ -60,4 +60,4 @@ returns-in_ok-rest-in-Some d c = on_ok_weaker c.branch-alloc-in-Some.result (λ 
     branch_both ws s c.args.free pending own b k choice c.args.found.now.items c.if-is_owned.found.items c.branch-alloc-in-Some.new.found.items first
     (branched_as ws s s (without c.args.free k) c.without-left.result c.if-is_owned.found.items c.branch-alloc-in-Some.new.found.items c.branch-alloc-in-Some.new.found.items refl c.without-left.ensures refl
     (second ws (branch_as ws s s (without c.args.free k) c.without-left.result (pruned k (without c.args.free k) pending) c.as_slice-in-Some-3.result.now own own refl c.without-left.ensures left refl (branch_without ws s c.args.free pending own b k choice))))
-  ) c.branch-alloc-in-Some.ensures
+    ) c.branch-alloc-in-Some.ensures

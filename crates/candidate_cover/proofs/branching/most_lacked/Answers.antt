@@ -1,4 +1,4 @@
-use Rattle.std.proofs.Common.{◌∙◌, ℕ, ◌<◌, true, sym, ap, subst, arith}
+use Rattle.std.proofs.Common.{◌∙◌, ℕ, ◌<◌, sym, ap, subst, arith}
 use Rattle.col_set.specs.ColSet.{IsSubset, has}
 use Rattle.col_set.specs.Subsets.{IsSubset-trans}
 use Rattle.col_set.proofs.EachColumn.{first-Some, first-None}

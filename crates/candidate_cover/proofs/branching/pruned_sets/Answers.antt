@@ -1,4 +1,4 @@
-use Rattle.std.proofs.Common.{◌∙◌, ◌++◌, ◌&&◌, [], not, true, false, refl, sym, ap, append-nil}
+use Rattle.std.proofs.Common.{◌∙◌, ◌&&◌, [], not, true, false, sym, ap, append-nil}
 use Rattle.std.specs.List.{list_any}
 use Rattle.col_set.specs.ColSet.{has, inter, subset}
 use Rattle.candidate_cover.proofs.Splitting.{kept_next}
