@@ -285,6 +285,19 @@ module _ (ws : List ℕ) (s free : ℕ) (pending own : List ℕ) (b : IsBranch w
                   ];
                 })
 
+    -- the same where no agree set is dropped
+    pub branch_whole : IsBranch ws s (without free c) pending own
+    branch_whole = record {
+      apart = branch_without.apart;
+      real = b.real;
+      holds = b.holds;
+      tells = λ x a i e. b.tells x a (range_less s free c x i) e;
+      own_real = b.own_real;
+      own_one = b.own_one;
+      own_all = branch_without.own_all;
+      minimal = b.minimal;
+    }
+
     -- both together
     pub branch_both : (old mid new : List ℕ) → HasBranched ws (with s c) (without free c) old mid → HasBranched ws s (without free c) mid new → HasBranched ws s free old new
     branch_both old mid new f g = record {

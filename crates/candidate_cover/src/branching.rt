@@ -9,6 +9,9 @@ ghost use Rattle.candidate_cover.specs.Growth.{having, ListsLeast};
 use rel_base::{ColSet, MOST_COLUMNS, Target};
 use std::alloc::{AllocError, Global};
 
+// Of more agree sets than these the ones that lie inside others are not looked for, which takes a step a pair.
+const MANY: usize = 512;
+
 // How many of the agree sets lack the column.
 fn lacking_count(pending: &[ColSet], column: u8) -> usize
     requires { column < MOST_COLUMNS }
@@ -189,6 +192,9 @@ fn branch(
                     more.as_slice(),
                     found,
                 )?;
+            }
+            if pending.len() > MANY {
+                return branch(alloc, chosen, left, pending, own, found);
             }
             let rest = pruned_sets(alloc, lacking.as_slice(), column, left, pending)?;
             branch(alloc, chosen, left, rest.as_slice(), own, found)
