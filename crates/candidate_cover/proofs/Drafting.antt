@@ -1,9 +1,8 @@
 -- Agree sets that come into a draft.
-use Rattle.std.proofs.Common.{inl, inr, ◌≡◌, ◌⊎◌, ℕ, ◌+◌, ◌^◌, ◌<◌, ◌≤◌, Bool, true, false, not, ◌&&◌, ◌||◌, refl, sym, ap, ◌∙◌, subst, List, [], ◌∷◌, ◌++◌, length, get_or, set, take, arith, Vec}
+use Rattle.std.proofs.Common.{◌≡◌, ℕ, ◌+◌, ◌^◌, ◌<◌, ◌≤◌, Bool, true, false, not, ◌&&◌, ◌||◌, refl, sym, ap, ◌∙◌, subst, List, [], ◌∷◌, ◌++◌, length, get_or, take}
 use Rattle.std.specs.List.{list_any}
-use Rattle.std.specs.declared.alloc.Global.{Global}
-use Rattle.std.proofs.lemmas.Bool.{true≢false, and_parts, and_from, or_right, not_from_false, not-true, cases_lt, lt-ltb, ltb-true}
-use Rattle.std.proofs.lemmas.List.{take_all, length-set, get_or-set_same, get_or-set_other}
+use Rattle.std.proofs.lemmas.Bool.{true≢false, and_parts, and_from, or_right, not_from_false, not-true, lt-ltb, ltb-true}
+use Rattle.std.proofs.lemmas.List.{take_all}
 use Rattle.col_set.specs.declared.target.Target.{Target}
 use Rattle.col_set.specs.declared.target.Target.TheVariants.{Col, RowId}
 use Rattle.col_set.specs.ColSet.{IsSubset, has, all, minus, union, subset, upto}
@@ -14,12 +13,11 @@ use Rattle.col_set.specs.Subsets.{IsSubset-refl, subset-true, same_test, subset_
 use Rattle.col_set.specs.AllSets.{Listed-upto, Listed-upto_within}
 use Rattle.col_set.specs.Lists.{list_any_at, list_any_which}
 use Rattle.col_set.proofs.Least.{refuted_inside}
-use Rattle.candidate_cover.specs.Growth.{choices, ListsLeast}
-use Rattle.candidate_cover.specs.Drafts.{Drafted, is_news, AreDrafted, AreGrown, lists_behind}
+use Rattle.candidate_cover.specs.Growth.{ListsLeast}
+use Rattle.candidate_cover.specs.Drafts.{Drafted, is_news}
 use Rattle.candidate_cover.proofs.Evidence.{refuted-push, choice_parts}
 use Rattle.candidate_cover.proofs.Growing.{outside_of, not_inside}
 use Rattle.candidate_cover.proofs.Exploring.{refuted_more, nothing_refuted}
-use Rattle.candidate_cover.proofs.Remarked.{map-set}
 
 -- ---- for which targets a set is known
 pub record KnownSoFar (n : ℕ) (ws : List ℕ) (z : ℕ) (rows : Bool) (lacking : ℕ) : Type 0 where
@@ -115,52 +113,3 @@ lists_covered u ws t z xs e l = record {
 
     same : (x : ℕ) → refuted (ws ++ z ∷ []) t x ≡ refuted ws t x
     same x = refuted-push ws z t x ∙ by x (refuted ws t x) (subset x z) (has_target z t) refl refl
-
--- the lists of the first k columns are made, and the others are as before
-pub record GrownSoFar (count known z k : ℕ) (old new : List (List ℕ)) : Type 0 where
-  pub as_many : length new ≡ length old
-  pub done : (a : ℕ) (ws : List ℕ) → a < k → (has known a ≡ true → refuted ws (Col a) z ≡ true)
-      → ListsLeast (choices count (Col a)) ws (Col a) (get_or old a []) → ListsLeast (choices count (Col a)) (ws ++ z ∷ []) (Col a) (get_or new a [])
-  pub left : (a : ℕ) → k ≤ a → get_or new a [] ≡ get_or old a []
-
-pub grown_none : (count known z : ℕ) (old : List (List ℕ)) → GrownSoFar count known z 0 old old
-grown_none count known z old = record { as_many = refl; done = λ a ws l. absurd (omega arith); left = λ a l. refl }
-
-pub grown_next : (count known z k : ℕ) (old now new : List (List ℕ)) (sets : List ℕ) → GrownSoFar count known z k old now → k < length old → new ≡ set now k sets
-    → ((ws : List ℕ) → (has known k ≡ true → refuted ws (Col k) z ≡ true) → ListsLeast (choices count (Col k)) ws (Col k) (get_or now k []) → ListsLeast (choices count (Col k)) (ws ++ z ∷ []) (Col k) sets)
-    → GrownSoFar count known z (k + 1) old new
-grown_next count known z k old now new sets g l is made = subst (GrownSoFar count known z (k + 1) old) (sym is) (record {
-  as_many = length-set now k sets ∙ g.as_many;
-  done = λ a ws b f h. by a ws f h (cases_lt a k) b;
-  left = λ a b. get_or-set_other now k a sets [] (λ e. absurd (omega (arith, e, b))) ∙ g.left a (omega (arith, b));
-})
-  where
-    here : get_or (set now k sets) k [] ≡ sets
-    here = get_or-set_same now k sets [] (subst (λ (m : ℕ). k < m) (sym g.as_many) l)
-
-    by : (a : ℕ) (ws : List ℕ) → (has known a ≡ true → refuted ws (Col a) z ≡ true) → ListsLeast (choices count (Col a)) ws (Col a) (get_or old a []) → (a < k) ⊎ (k ≤ a) → a < k + 1
-        → ListsLeast (choices count (Col a)) (ws ++ z ∷ []) (Col a) (get_or (set now k sets) a [])
-    by a ws f h (inl b) c = subst (ListsLeast (choices count (Col a)) (ws ++ z ∷ []) (Col a)) (sym (get_or-set_other now k a sets [] (λ e. absurd (omega (arith, e, b))))) (g.done a ws b f h)
-    by a ws f h (inr b) c = at (let e : a ≡ k = omega (arith, b, c) in e)
-      where
-        at : a ≡ k → ListsLeast (choices count (Col a)) (ws ++ z ∷ []) (Col a) (get_or (set now k sets) a [])
-        at e = subst (λ (b : ℕ). ListsLeast (choices count (Col b)) (ws ++ z ∷ []) (Col b) (get_or (set now k sets) b [])) (sym e)
-            (subst (ListsLeast (choices count (Col k)) (ws ++ z ∷ []) (Col k)) (sym here)
-            (made ws (λ i. ap (λ (b : ℕ). refuted ws (Col b) z) (sym e) ∙ f (ap (has known) e ∙ i))
-            (subst (ListsLeast (choices count (Col k)) ws (Col k)) (sym (g.left k (omega arith))) (subst (λ (b : ℕ). ListsLeast (choices count (Col b)) ws (Col b) (get_or old b [])) e h))))
-
-pub grown_all : (count known z k : ℕ) (old new : List (List ℕ)) → length old ≤ k → GrownSoFar count known z k old new → AreGrown count known z old new
-grown_all count known z k old new l g = record { as_many = g.as_many; each = λ a ws b f h. g.done a ws (omega (arith, l, b)) f h }
-
-pub lists_set : (lists : List (Vec ℕ Global)) (k : ℕ) (sets : Vec ℕ Global) → lists_behind (set lists k sets) ≡ set (lists_behind lists) k sets.items
-lists_set lists k sets = map-set (λ v. v.items) lists k sets
-
--- ---- the whole draft
-pub drafted_grown : (n : ℕ) (ws : List ℕ) (rows new : List ℕ) (columns made : List (List ℕ)) (z : ℕ) (known : Bool) (lacking : ℕ) → AreDrafted n ws rows columns → KnownSoFar n ws z known lacking
-    → ((vs : List ℕ) → (known ≡ true → refuted vs RowId z ≡ true) → ListsLeast (choices n RowId) vs RowId rows → ListsLeast (choices n RowId) (vs ++ z ∷ []) RowId new)
-    → AreGrown n lacking z columns made → AreDrafted n (ws ++ z ∷ []) new made
-drafted_grown n ws rows new columns made z known lacking d k grow g = record {
-  rows_least = grow ws (λ e. sym k.of_rows ∙ e) d.rows_least;
-  count = g.as_many ∙ d.count;
-  each = λ a l. g.each a ws (subst (λ (m : ℕ). a < m) (sym d.count) l) (λ e. sym (k.of_columns a l) ∙ e) (d.each a l);
-}

@@ -1,5 +1,5 @@
 -- What many agree sets leave, while they come in one after another.
-use Rattle.std.specs.Prelude.{◌≡◌, ◌<◌, ℕ, Bool, true, not, ◌&&◌, ◌||◌, List, [], ◌∷◌, ◌++◌, map, length, slice_index_or}
+use Rattle.std.specs.Prelude.{◌≡◌, ◌<◌, ℕ, Bool, not, ◌&&◌, ◌||◌, List, [], map, length, slice_index_or}
 use Rattle.std.specs.List.{list_any}
 use Rattle.std.specs.Prelude.{Vec}
 use Rattle.std.specs.declared.alloc.Global.{Global}
@@ -35,9 +35,3 @@ pub record AreDrafted (n : ℕ) (ws : List Columns) (rows : List Columns) (colum
 -- the lists that vectors hold
 abbrev pub lists_behind : List (Vec Columns Global) → List (List Columns)
 lists_behind lists = map (λ list. list.items) lists
-
--- Each list of a column below the count is made for a further agree set, where it may be known already for the columns of a set.
-pub record AreGrown (count : ℕ) (known z : Columns) (old new : List (List Columns)) : Type 0 where
-  pub as_many : length new ≡ length old
-  pub each : (a : ℕ) (ws : List Columns) → a < length old → (has known a ≡ true → refuted ws (Col a) z ≡ true)
-      → ListsLeast (choices count (Col a)) ws (Col a) (slice_index_or old a []) → ListsLeast (choices count (Col a)) (ws ++ z ∷ []) (Col a) (slice_index_or new a [])

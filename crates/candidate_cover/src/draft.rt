@@ -1,35 +1,39 @@
 // Candidates while many agree sets come in, one after another.
 ghost use Rattle.std.specs.Prelude.{◌≡◌, ◌≤◌, ◌<◌, ◌^◌, ◌∷◌, [], ◌++◌, ℕ, List, true, false, length, map, IfOk, OnOk};
-ghost use Rattle.col_set.specs.ColSet.{has, report_cmp};
-ghost use Rattle.col_set.specs.Lists.{Rises};
+ghost use Rattle.std.specs.List.{list_any};
+ghost use Rattle.col_set.specs.ColSet.{has, subset};
 ghost use Rattle.col_set.specs.Target.{IsColumnTarget, has_target};
 ghost use Rattle.col_set.specs.declared.target.Target.TheVariants.{Col, RowId};
 ghost use Rattle.col_set.specs.Evidence.{refuted};
 ghost use Rattle.candidate_cover.specs.Growth as words;
 ghost use Rattle.candidate_cover.specs.Growth.{ListsLeast};
 ghost use Rattle.candidate_cover.specs.Drafts as drafts;
-ghost use Rattle.candidate_cover.specs.Drafts.{Drafted, AreDrafted, AreGrown, lists_behind};
+ghost use Rattle.candidate_cover.specs.Drafts.{Drafted, AreDrafted, lists_behind};
 
+use crate::branching::least;
 use crate::growth::{choices, push_all_grown};
-use crate::part::sorted;
 use rel_base::{ColSet, MOST_COLUMNS, Target};
 use std::alloc::{AllocError, Global};
 use std::marker::Model;
 
-/// What many agree sets leave for all targets, while they come in one after another: the left sides alone, in no order.
+// Up to so many further agree sets a target's list grows past one after another; more of them, and it is made from nothing.
+const FEW: usize = 350;
+
+/// What many agree sets leave for all targets, while they come in one after another.
 ///
-/// A new agree set changes the lists of those targets alone of which it refutes a candidate, in place, so that thousands of
-/// them cost little more than looking at the candidates that they refute. Contracts see the agree sets that came in. A set
-/// takes 16 bytes.
+/// An agree set that comes in is only noted. A target's left sides are made when they are asked for: past a few further agree
+/// sets the ones that there were grow in place, which looks at each for each agree set; past many they are made from all agree
+/// sets by branches on a column, in a microsecond or so each. Contracts see the agree sets that came in. A set takes 16 bytes.
 #[derive(Drop)]
 pub struct Draft {
     rows: Vec<ColSet>,
     columns: Vec<Vec<ColSet>>,
     agree_sets: Vec<ColSet>,
+    made: usize,
 }
 
 impl Model for Draft {
-    ghost use Rattle.std.specs.Prelude.{◌≤◌, length};
+    ghost use Rattle.std.specs.Prelude.{◌≤◌, length, take};
     ghost use Rattle.candidate_cover.specs.Drafts.{Drafted, AreDrafted, lists_behind};
     ghost use Rattle.col_set.specs.declared.col_set.TheConstants.{MOST_COLUMNS};
 
@@ -37,7 +41,7 @@ impl Model for Draft {
 
     ghost view = { λ d. record { width = length d.columns.items; agree_sets = d.agree_sets.items } };
 
-    ghost invariant = { λ d. AreDrafted (length d.columns.items) d.agree_sets.items d.rows.items (lists_behind d.columns.items) × (length d.columns.items ≤ MOST_COLUMNS) };
+    ghost invariant = { λ d. AreDrafted (length d.columns.items) (take d.made d.agree_sets.items) d.rows.items (lists_behind d.columns.items) × (length d.columns.items ≤ MOST_COLUMNS) × (d.made ≤ length d.agree_sets.items) };
 }
 
 impl Draft {
@@ -47,38 +51,38 @@ impl Draft {
         requires bound { length columns.items ≤ MOST_COLUMNS }
         ensures { result ≡ record { width = length columns.items; agree_sets = agree_sets.items } }
     {
+        let made = agree_sets.len();
         Draft {
             rows,
             columns,
             agree_sets,
+            made,
         }
     }
 
-    // The left sides of a target in report order.
-    pub(crate) fn sorted_sets(
+    // The left sides of a target past all agree sets, in no order.
+    pub(crate) fn left_sides(
         &self,
         alloc: Global,
         target: Target,
     ) -> Result<Vec<ColSet>, AllocError>
         requires { IsColumnTarget self.now.width target }
-        ensures order { IfOk result (λ sets. Rises report_cmp sets.items) }
-        ensures least { IfOk result (λ sets. ListsLeast (words.choices self.now.width target) self.now.agree_sets target sets.items) }
+        ensures { IfOk result (λ sets. ListsLeast (words.choices self.now.width target) self.now.agree_sets target sets.items) }
     {
-        let own = self.sets(target);
-        let mut sets = Vec::with_capacity(alloc, own.len())?;
-        sets.extend_from_slice(own)?;
-        Ok(sorted(sets))
-    }
-
-    // The left sides of a target.
-    pub(crate) fn sets(&self, target: Target) -> &[ColSet]
-        requires { IsColumnTarget self.now.width target }
-        ensures { ListsLeast (words.choices self.now.width target) self.now.agree_sets target result.now }
-    {
-        match target {
+        let own = match target {
             Target::Col(column) => self.columns[column as usize].as_slice(),
             Target::RowId => self.rows.as_slice(),
+        };
+        let columns = self.columns.len() as u8;
+        let news = &self.agree_sets[self.made..];
+        if count_lacking(news, target) > FEW {
+            let choices = choices(columns, target);
+            return least(alloc, choices, target, self.agree_sets.as_slice());
         }
+        let mut sets = Vec::with_capacity(alloc, own.len())?;
+        sets.extend_from_slice(own)?;
+        grow_past_all(alloc, columns, target, &mut sets, news)?;
+        Ok(sets)
     }
 
     /// Whether a further agree set is news: for some target that it lacks, none of those that came in and lack the target
@@ -91,30 +95,26 @@ impl Draft {
         !known.rows || !ColSet::all(columns).minus(z).subset_of(known.columns)
     }
 
-    /// The draft with a further agree set.
-    ///
-    /// Of each target for which it is news, the candidates inside it give way to their extensions by one column outside it
-    /// (Papenbrock and Naumann, 2016), which takes a pass over the target's candidates.
-    pub fn grown(self, alloc: Global, z: ColSet) -> Result<Draft, AllocError>
+    /// The draft with a further agree set, which is noted in one step.
+    pub fn grown(mut self, _alloc: Global, z: ColSet) -> Result<Draft, AllocError>
         ensures { IfOk result (λ draft. draft ≡ record { width = self.width; agree_sets = self.agree_sets ++ z ∷ [] }) }
     {
-        let Draft {
-            mut rows,
-            mut columns,
-            mut agree_sets,
-        } = self;
-        let count = columns.len() as u8;
-        let known = known_by(agree_sets.as_slice(), count, z);
-        let mut scratch = Scratch::new(alloc);
-        grow_unless(known.rows, count, Target::RowId, &mut rows, z, &mut scratch)?;
-        grow_columns(known.columns, count, &mut columns, z, &mut scratch)?;
-        agree_sets.push(z)?;
-        Ok(Draft {
-            rows,
-            columns,
-            agree_sets,
-        })
+        self.agree_sets.push(z)?;
+        Ok(self)
     }
+}
+
+// How many of the agree sets lack the target.
+fn count_lacking(agree_sets: &[ColSet], target: Target) -> usize
+    requires { IsColumnTarget MOST_COLUMNS target }
+{
+    let mut count = 0usize;
+    for w in agree_sets {
+        if !w.has_target(target) {
+            count = count.saturating_add(1);
+        }
+    }
+    count
 }
 
 // For which targets an agree set that lacks them contains a set.
@@ -222,9 +222,15 @@ fn grow_past(
     )
 }
 
-// The same, where an agree set that lacks the target may be known to contain z, or z may have the target.
+// Whether one of the sets lies inside z.
+fn has_inside(sets: &[ColSet], z: ColSet) -> bool
+    ensures { result ≡ list_any (λ x. subset x z) sets.now }
+{
+    sets.iter().any(|x| x.subset_of(z))
+}
+
+// The same past an agree set that may have the target, or contain none of the sets.
 fn grow_unless(
-    known: bool,
     columns: u8,
     target: Target,
     sets: &mut Vec<ColSet>,
@@ -233,36 +239,32 @@ fn grow_unless(
 ) -> Result<(), AllocError>
     requires columns { columns ≤ MOST_COLUMNS }
     requires target { IsColumnTarget columns target }
-    ensures { OnOk result ((ws : List ℕ) → (known ≡ true → refuted ws target z ≡ true) → ListsLeast (words.choices columns target) ws target sets.old.items → ListsLeast (words.choices columns target) (ws ++ z ∷ []) target sets.new.items) }
+    ensures { OnOk result ((ws : List ℕ) → ListsLeast (words.choices columns target) ws target sets.old.items → ListsLeast (words.choices columns target) (ws ++ z ∷ []) target sets.new.items) }
 {
-    if known || z.has_target(target) {
+    if z.has_target(target) {
+        return Ok(());
+    }
+    if !has_inside(sets.as_slice(), z) {
         return Ok(());
     }
     grow_past(columns, target, sets, z, scratch)
 }
 
-// The same for the lists of all columns.
-fn grow_columns(
-    known: ColSet,
-    count: u8,
-    columns: &mut Vec<Vec<ColSet>>,
-    z: ColSet,
-    scratch: &mut Scratch,
+// The same past one agree set after another.
+fn grow_past_all(
+    alloc: Global,
+    columns: u8,
+    target: Target,
+    sets: &mut Vec<ColSet>,
+    news: &[ColSet],
 ) -> Result<(), AllocError>
-    requires bound { count ≤ MOST_COLUMNS }
-    requires count { length columns.old.items ≡ count }
-    ensures { OnOk result (AreGrown count known z (lists_behind columns.old.items) (lists_behind columns.new.items)) }
+    requires columns { columns ≤ MOST_COLUMNS }
+    requires target { IsColumnTarget columns target }
+    ensures { OnOk result ((ws : List ℕ) → ListsLeast (words.choices columns target) ws target sets.old.items → ListsLeast (words.choices columns target) (ws ++ news.now) target sets.new.items) }
 {
-    for column in 0..count {
-        let sets = &mut columns[column as usize];
-        grow_unless(
-            known.has(column),
-            count,
-            Target::Col(column),
-            sets,
-            z,
-            scratch,
-        )?;
+    let mut scratch = Scratch::new(alloc);
+    for z in news {
+        grow_unless(columns, target, sets, *z, &mut scratch)?;
     }
     Ok(())
 }

@@ -2,12 +2,15 @@
 //! of which no part is such a set, each with the rows that it is known to hold in.
 #![tactic(auto)]
 
+mod branching;
 mod cand;
+mod cand_list;
 mod candidate_cover;
 mod draft;
 mod explore;
 mod growth;
 mod part;
+mod place;
 #[cfg(test)]
 mod tests;
 

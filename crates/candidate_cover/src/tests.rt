@@ -1,10 +1,14 @@
-// Candidates by a few agree sets, against the lists that others leave.
+// Candidates by many small lists of agree sets, against the plain program.
 ghost use Rattle.std.specs.Prelude.{◌≡◌, ◌<◌, ◌≤◌, ◌++◌, ◌∷◌, [], ℕ, List, IfOk, OnOk};
 ghost use Rattle.col_set.specs.Target.{IsColumnTarget};
 ghost use Rattle.col_set.specs.Evidence.{least};
 ghost use Rattle.candidate_cover.specs.Cands.{width, cands_of, lefts, kept_or_fresh};
 
+use crate::branching::least as least_by_branches;
+use crate::growth::choices;
+use crate::part::sorted;
 use crate::{Cand, CandidateCover, Draft, Marking, Part};
+use plain_base::least_sets;
 use rel_base::{ColSet, MOST_COLUMNS, RowNo, Steps, Target};
 use std::alloc::{AllocError, Global};
 use std::marker::Brand;
@@ -20,6 +24,18 @@ fn set(columns: &[u8]) -> ColSet {
         }
     }
     found
+}
+
+// Agree sets with no pattern to speak of, as sets of six columns: none, and the set of all columns, are among them.
+fn some_sets(alloc: Global, count: usize, mut seed: u32) -> Result<Vec<ColSet>, AllocError>
+    requires { count ≤ 1000 }
+{
+    let mut sets = Vec::new(alloc);
+    for _ in 0..count {
+        seed = seed.wrapping_mul(1664525).wrapping_add(1013904223);
+        sets.push(ColSet::of_bits((seed >> 24) as u128).inter(ColSet::all(6)))?;
+    }
+    Ok(sets)
 }
 
 // `specialise`, and once more where memory is wanting.
@@ -113,87 +129,106 @@ fn regained(
     Ok(cover)
 }
 
-// The target's list has these left sides in this order, each with fresh marks.
-fn expect_fresh(
+// The target's left sides are what the plain program makes of these agree sets.
+fn expect_least(
     rt: &impl Abort,
     alloc: Global,
     cover: &CandidateCover,
     target: Target,
-    wanted: &[ColSet],
+    sets: &[ColSet],
 ) -> Result<(), Fail>
     requires { IsColumnTarget (width cover.now) target }
 {
-    let list = cover.list(alloc, target)?;
-    assert!(rt; list.len() == wanted.len());
-    for (cand, left) in list.iter().zip(wanted) {
-        assert!(rt; cand.left == *left);
-        assert!(rt; cand.upto == RowNo::first() && !cand.held);
-    }
+    let wanted = least_sets(alloc, cover.columns(), target, sets)?;
+    assert!(rt; cover.lefts(target) == wanted.as_slice());
     Ok(())
 }
 
-#[test]
-fn an_opening_has_the_empty_set_for_each_target(rt: HostRuntime) -> Result<(), Fail> {
-    let cover = CandidateCover::new(rt.alloc(), 3)?;
-    assert!(rt; cover.columns() == 3);
-    for target in [
-        Target::RowId,
-        Target::Col(0),
-        Target::Col(1),
-        Target::Col(2),
-    ] {
-        if let Target::Col(column) = target {
-            assert!(rt; column < cover.columns());
-        }
-        expect_fresh(&rt, rt.alloc(), &cover, target, &[ColSet::empty()])?;
-    }
-    Ok(())
-}
-
-#[test]
-fn agree_sets_specialise_and_generalise(rt: HostRuntime) -> Result<(), Fail> {
-    let alloc = rt.alloc();
-    let (first, second) = (set(&[0]), set(&[1]));
-    let target = Target::Col(2);
-    let cover = booked(alloc, 3, target, &[first])?;
-    expect_fresh(&rt, alloc, &cover, target, &[second])?;
-    let cover = booked(alloc, 3, target, &[first, second])?;
-    expect_fresh(&rt, alloc, &cover, target, &[set(&[0, 1])])?;
-    let cover = booked(alloc, 3, target, &[first, second, set(&[0, 1, 2])])?;
-    expect_fresh(&rt, alloc, &cover, target, &[set(&[0, 1])])?;
-    let cover = regained(alloc, 3, target, &[second], &[first])?;
-    expect_fresh(&rt, alloc, &cover, target, &[first])?;
-    Ok(())
-}
-
-// Numbers with no pattern to speak of, as sets of six columns.
-fn some_sets(alloc: Global, count: usize, mut seed: u32) -> Result<Vec<ColSet>, AllocError>
-    requires { count ≤ 1000 }
-{
-    let mut sets = Vec::new(alloc);
-    for _ in 0..count {
-        seed = seed.wrapping_mul(1664525).wrapping_add(1013904223);
-        sets.push(ColSet::of_bits((seed >> 24) as u128).inter(ColSet::all(6)))?;
-    }
-    Ok(sets)
-}
-
-fn expect_same(
+// So are those that branches on a column make.
+fn expect_branched(
     rt: &impl Abort,
     alloc: Global,
-    one: &CandidateCover,
-    other: &CandidateCover,
+    columns: u8,
     target: Target,
+    sets: &[ColSet],
 ) -> Result<(), Fail>
-    requires one { IsColumnTarget (width one.now) target }
-    requires other { IsColumnTarget (width other.now) target }
+    requires columns { columns ≤ MOST_COLUMNS }
+    requires target { IsColumnTarget columns target }
 {
-    let list = one.list(alloc, target)?;
-    let wanted = other.list(alloc, target)?;
-    assert!(rt; list.len() == wanted.len());
-    for (cand, same) in list.iter().zip(wanted.as_slice()) {
-        assert!(rt; cand.left == same.left);
+    let made = sorted(least_by_branches(alloc, choices(columns, target), target, sets)?);
+    let wanted = least_sets(alloc, columns, target, sets)?;
+    assert!(rt; made.as_slice() == wanted.as_slice());
+    Ok(())
+}
+
+// For each target of that many columns.
+fn expect_branched_for_all(
+    rt: &impl Abort,
+    alloc: Global,
+    columns: u8,
+    sets: &[ColSet],
+) -> Result<(), Fail>
+    requires { columns ≤ MOST_COLUMNS }
+{
+    expect_branched(rt, alloc, columns, Target::RowId, sets)?;
+    for column in 0..columns {
+        expect_branched(rt, alloc, columns, Target::Col(column), sets)?;
     }
+    Ok(())
+}
+
+#[test]
+fn branches_make_what_the_plain_program_does(rt: HostRuntime) -> Result<(), Fail> {
+    let alloc = rt.alloc();
+    for seed in 0..1500u32 {
+        let sets = some_sets(alloc, (seed % 10) as usize, seed)?;
+        expect_branched_for_all(&rt, alloc, 6, sets.as_slice())?;
+    }
+    Ok(())
+}
+
+// Agree sets of the most columns: half of them, the others with one of these, all but the last, and all but the first twice.
+static WIDE: [u128; 5] = [
+    0xffff_ffff_ffff_ffff,
+    0xffff_ffff_ffff_ffff_0000_0000_0000_0001,
+    0x7fff_ffff_ffff_ffff_ffff_ffff_ffff_ffff,
+    0xffff_ffff_ffff_ffff_ffff_ffff_ffff_fffe,
+    0xffff_ffff_ffff_ffff_ffff_ffff_ffff_fffe,
+];
+
+#[test]
+fn branches_reach_to_the_last_column(rt: HostRuntime) -> Result<(), Fail> {
+    let alloc = rt.alloc();
+    let mut sets = Vec::new(alloc);
+    for bits in WIDE {
+        sets.push(ColSet::of_bits(bits))?;
+    }
+    for target in [Target::RowId, Target::Col(0), Target::Col(127)] {
+        if let Target::Col(column) = target {
+            assert!(rt; column < MOST_COLUMNS);
+        }
+        expect_branched(&rt, alloc, MOST_COLUMNS, target, sets.as_slice())?;
+    }
+    Ok(())
+}
+
+// The lines of the plane of seven points, as sets of them.
+static LINES: [u128; 7] = [7, 25, 97, 42, 82, 76, 52];
+
+// Agree sets that each lack one line of one of five planes leave a line of each plane to choose: seven to the fifth.
+#[test]
+fn planes_with_nothing_in_common_are_gone_through_apart(rt: HostRuntime) -> Result<(), Fail> {
+    let alloc = rt.alloc();
+    let mut sets = Vec::new(alloc);
+    for line in LINES {
+        let mut bits = line;
+        for _ in 0..5 {
+            sets.push(ColSet::all(35).minus(ColSet::of_bits(bits)))?;
+            bits = bits.wrapping_mul(128);
+        }
+    }
+    let found = least_by_branches(alloc, ColSet::all(35), Target::RowId, sets.as_slice())?;
+    assert!(rt; found.len() == 16_807);
     Ok(())
 }
 
@@ -201,17 +236,11 @@ fn expect_same(
 #[test]
 fn withdrawn_sets_leave_what_the_rest_makes(rt: HostRuntime) -> Result<(), Fail> {
     let alloc = rt.alloc();
-    for seed in 1..9 {
+    for seed in 1..40 {
         let rest = some_sets(alloc, 8, seed)?;
         let gone = some_sets(alloc, 5, seed + 100)?;
-        for target in [Target::RowId, Target::Col(0), Target::Col(5)] {
-            if let Target::Col(column) = target {
-                assert!(rt; column < 6);
-            }
-            let kept = booked(alloc, 6, target, rest.as_slice())?;
-            let regained = regained(alloc, 6, target, rest.as_slice(), gone.as_slice())?;
-            expect_same(&rt, alloc, &regained, &kept, target)?;
-        }
+        let cover = regained(alloc, 6, Target::Col(5), rest.as_slice(), gone.as_slice())?;
+        expect_least(&rt, alloc, &cover, Target::Col(5), rest.as_slice())?;
     }
     Ok(())
 }
@@ -248,20 +277,14 @@ fn drafted(
     Ok(cover)
 }
 
-// What many sets leave at once is what they leave one after another.
+// What few sets and many leave at once is what they leave one after another.
 #[test]
 fn drafts_leave_what_one_set_after_another_does(rt: HostRuntime) -> Result<(), Fail> {
     let alloc = rt.alloc();
-    for seed in 1..9 {
-        let sets = some_sets(alloc, 12, seed)?;
-        for target in [Target::RowId, Target::Col(0), Target::Col(5)] {
-            if let Target::Col(column) = target {
-                assert!(rt; column < 6);
-            }
-            let one_by_one = booked(alloc, 6, target, sets.as_slice())?;
-            let at_once = drafted(alloc, 6, target, sets.as_slice())?;
-            expect_same(&rt, alloc, &at_once, &one_by_one, target)?;
-        }
+    for count in [0usize, 1, 12, 900] {
+        let sets = some_sets(alloc, count, 7)?;
+        let cover = drafted(alloc, 6, Target::Col(2), sets.as_slice())?;
+        expect_least(&rt, alloc, &cover, Target::Col(2), sets.as_slice())?;
     }
     Ok(())
 }
@@ -271,74 +294,51 @@ fn drafts_leave_what_one_set_after_another_does(rt: HostRuntime) -> Result<(), F
 fn a_set_inside_one_that_came_in_is_news_for_other_targets(rt: HostRuntime) -> Result<(), Fail> {
     let first = set(&[0]);
     let draft = draft_of(rt.alloc(), 3, &[first])?;
-    assert!(rt; !draft.is_news(first));
-    assert!(rt; draft.is_news(ColSet::empty()));
+    assert!(rt; !draft.is_news(first) && draft.is_news(ColSet::empty()));
     assert!(rt; draft.is_news(set(&[1])) && draft.is_news(set(&[0, 1, 2])));
     Ok(())
 }
 
+// A cover of three columns in which the first one is known to agree alone: its candidates for the row's identity are the second
+// and the third.
+fn second_and_third(alloc: Global) -> Result<CandidateCover, AllocError>
+    ensures { IfOk result (λ cover. width cover ≡ 3) }
+{
+    booked(alloc, 3, Target::RowId, &[set(&[0])])
+}
+
 #[test]
-fn all_candidates_are_let_go_of(rt: HostRuntime) -> Result<(), Fail> {
+fn a_part_tells_its_first_fresh_left_side(rt: HostRuntime) -> Result<(), Fail> {
     let alloc = rt.alloc();
-    let mut cover = CandidateCover::new(alloc, 2)?;
-    for target in [Target::RowId, Target::Col(1)] {
-        if let Target::Col(column) = target {
-            assert!(rt; column < cover.columns());
-        }
-        assert!(rt; cover.hold(target, ColSet::empty(), true));
-        cover.free();
-        expect_fresh(&rt, alloc, &cover, target, &[ColSet::empty()])?;
-    }
+    let mut cover = second_and_third(alloc)?;
+    let four = RowNo::of(4);
+    assert!(rt; cover.mark(Target::RowId, set(&[1]), four) == Marking::Marked);
+    assert!(rt; cover.hold(Target::RowId, set(&[2]), true));
+    let part = specialised(alloc, &cover, Target::RowId, set(&[2]))?;
+    assert!(rt; part.first_fresh() == Some(set(&[0, 2])));
+    cover.free();
+    let part = specialised(alloc, &cover, Target::RowId, ColSet::empty())?;
+    assert!(rt; part.first_fresh() == Some(set(&[2])));
     Ok(())
 }
 
 #[test]
 fn marks_stay_with_their_candidates(rt: HostRuntime) -> Result<(), Fail> {
     let alloc = rt.alloc();
-    let target = Target::RowId;
-    let mut cover = booked(alloc, 3, target, &[set(&[0])])?;
-    let (second, third) = (set(&[1]), set(&[2]));
+    let mut cover = second_and_third(alloc)?;
     let four = RowNo::of(4);
-    assert!(rt; cover.hold(target, second, true) && !cover.hold(target, set(&[0]), true));
-    assert!(rt;
-        cover.first(target, |cand| cand.held)
-            == Some(Cand {
-                left: second,
-                upto: RowNo::first(),
-                held: true
-            })
-    );
-    assert!(rt;
-        cover.first(target, |cand| !cand.held)
-            == Some(Cand {
-                left: third,
-                upto: RowNo::first(),
-                held: false
-            })
-    );
-    assert!(rt; cover.mark(target, third, four) == Marking::Marked);
-    assert!(rt; cover.mark(target, third, RowNo::of(2)) == Marking::Marked);
-    assert!(rt; cover.mark(target, set(&[0]), four) == Marking::Dropped);
-    assert!(rt; cover.first(target, |cand| cand.upto.number() > 4) == None);
-    let part = specialised(alloc, &cover, target, second)?;
-    cover.put(target, part);
-    let list = cover.list(alloc, target)?;
+    assert!(rt; cover.mark(Target::RowId, set(&[2]), four) == Marking::Marked);
+    assert!(rt; cover.mark(Target::RowId, set(&[0]), four) == Marking::Dropped);
+    let part = specialised(alloc, &cover, Target::RowId, set(&[1]))?;
+    cover.put(Target::RowId, part);
+    let list = cover.list(alloc, Target::RowId)?;
     assert!(rt; list.len() == 2);
-    assert!(rt;
-        list[0]
-            == Cand {
-                left: third,
-                upto: four,
-                held: false
-            }
-    );
-    assert!(rt;
-        list[1]
-            == Cand {
-                left: set(&[0, 1]),
-                upto: RowNo::first(),
-                held: false
-            }
-    );
+    let third = Cand {
+        left: set(&[2]),
+        upto: four,
+        held: false,
+    };
+    assert!(rt; list[0] == third && list[1].upto == RowNo::first());
+    assert!(rt; cover.first(Target::RowId, |cand| cand.upto.number() > 1) == Some(third));
     Ok(())
 }

@@ -1,12 +1,14 @@
-use Rattle.std.proofs.Common.{◌∙◌, sym}
+use Rattle.std.proofs.Common.{◌∙◌, sym, ap}
+use Rattle.std.specs.List.{list_any}
+use Rattle.col_set.specs.ColSet.{subset}
 use Rattle.candidate_cover.specs.Growth.{choices}
 use Rattle.candidate_cover.proofs.Evidence.{lists_known}
-use Rattle.candidate_cover.proofs.Drafting.{lists_covered}
+use Rattle.candidate_cover.proofs.Growing.{lists_untouched}
 use Rattle.candidate_cover.proofs.draft.grow_unless.Goals as goal
-use Rattle.candidate_cover.proofs.draft.grow_unless.Goals.{then-known-via-then-known, then-known-via-else-known+then-has_target}
 
-pub returns-then-known : goal.returns-then-known
-returns-then-known c = λ ws f l. elim c.then-known.branch [
-  | then-known-via-then-known w ↦ lists_covered (choices c.args.columns c.args.target) ws c.args.target c.args.z c.args.sets.now.items (f w.if-known.true) l
-  | then-known-via-else-known+then-has_target w ↦ lists_known (choices c.args.columns c.args.target) ws c.args.target c.args.z c.args.sets.now.items (sym w.has_target.ensures ∙ w.if-has_target.true) l
-]
+pub returns-then-has_target : goal.returns-then-has_target
+returns-then-has_target c = λ ws l. lists_known (choices c.args.columns c.args.target) ws c.args.target c.args.z c.args.sets.now.items (sym c.if-has_target.ensures) l
+
+pub returns-then-not-has_inside : goal.returns-then-not-has_inside
+returns-then-not-has_inside c = λ ws l. lists_untouched (choices c.args.columns c.args.target) ws c.args.target c.args.z (sym c.if-has_target.ensures) c.args.sets.now.items
+    (ap (list_any (λ x. subset x c.args.z)) (sym c.as_slice.ensures.value) ∙ sym c.if-not-has_inside.ensures) l

@@ -1,0 +1,52 @@
+-- How the least column sets that no agree set contains are split by a column: those with it, and those without it.
+use Rattle.std.specs.Prelude.{◌≡◌, ◌⊎◌, ℕ, Bool, true, false, not, ◌&&◌, List}
+use Rattle.std.specs.List.{filter, list_any}
+use Rattle.col_set.specs.ColSet.{Columns, IsSubset, has, without, union, inter, subset}
+use Rattle.col_set.specs.Lists.{Listed}
+
+-- whether one of the agree sets contains x
+abbrev pub covered : List Columns → Columns → Bool
+covered ws x = list_any (λ w. subset x w) ws
+
+-- the agree sets that lack the column
+abbrev pub lacking : ℕ → List Columns → List Columns
+lacking k ws = filter (λ w. not (has w k)) ws
+
+-- each column of s has one of the agree sets that lacks it
+pub record IsOwned (own : List Columns) (s : Columns) : Type 0 where
+  pub each : (d : ℕ) → has s d ≡ true → list_any (λ w. not (has w d)) own ≡ true
+
+-- a column of s that all of the agree sets have
+pub record IsUnowned (own : List Columns) (s : Columns) : Type 0 where
+  pub column : ℕ
+  pub chosen : has s column ≡ true
+  pub none : list_any (λ w. not (has w column)) own ≡ false
+
+-- x has all columns of s and none but these and the free ones, no agree set contains it, and one contains each proper subset of it
+pub record IsLeastFrom (ws : List Columns) (s free x : Columns) : Type 0 where
+  pub above : IsSubset s x
+  pub within : IsSubset x (union s free)
+  pub stands : covered ws x ≡ false
+  pub smallest : (y : Columns) → IsSubset y x → covered ws y ≡ false → y ≡ x
+
+-- What is known where s is chosen and the free columns are not decided yet. The pending agree sets contain s, and tell of each set from s
+-- on whether an agree set contains it. The own ones lack one column of s each, and each least set from s on keeps one for each column of s.
+pub record IsBranch (ws : List Columns) (s free : Columns) (pending own : List Columns) : Type 0 where
+  pub apart : (d : ℕ) → has s d ≡ true → has free d ≡ false
+  pub real : (w : Columns) → Listed w pending → Listed w ws
+  pub holds : (w : Columns) → Listed w pending → IsSubset s w
+  pub tells : (x : Columns) → IsSubset s x → IsSubset x (union s free) → covered ws x ≡ true → covered pending x ≡ true
+  pub own_real : (w : Columns) → Listed w own → Listed w ws
+  pub own_one : (w : Columns) → Listed w own → (d : ℕ) → has s d ≡ true → has w d ≡ false → IsSubset (without s d) w
+  pub own_all : (x : Columns) → IsLeastFrom ws s free x → (d : ℕ) → has s d ≡ true → covered own (without x d) ≡ true
+  pub minimal : (d : ℕ) → has s d ≡ true → covered ws (without s d) ≡ true
+
+-- the new list has the old sets and the least ones from s on, and no others
+pub record HasBranched (ws : List Columns) (s free : Columns) (old new : List Columns) : Type 0 where
+  pub each : (x : Columns) → Listed x new → Listed x old ⊎ IsLeastFrom ws s free x
+  pub kept : (x : Columns) → Listed x old → Listed x new
+  pub every : (x : Columns) → IsLeastFrom ws s free x → Listed x new
+
+-- the agree sets without those that have the column and lie, as far as the free columns go, inside one that lacks it
+abbrev pub pruned : ℕ → Columns → List Columns → List Columns
+pruned k free ws = filter (λ w. not (has w k && list_any (λ v. subset (inter w free) v) (lacking k ws))) ws
