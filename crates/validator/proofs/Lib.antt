@@ -6,3 +6,4 @@ pub mod Exactly
 pub mod KeptLists
 pub mod Weights
 pub mod PlainTests
+pub mod Likeness

@@ -1,3 +1,4 @@
 pub mod Verdicts
 pub mod Walk
 pub mod Kept
+pub mod Asking

@@ -2,12 +2,13 @@
 ghost use Rattle.std.specs.Prelude.{◌≡◌, ◌<◌, ◌≤◌, ◌+◌, ◌↔◌, ℕ, [], true, length, slice_index, vec_len, IfOk};
 ghost use Rattle.std.specs.List.{All};
 ghost use Rattle.col_set.specs.ColSet.{with, empty};
+ghost use Rattle.rel_base.specs.Alike.{Alike};
 ghost use Rattle.rel_base.specs.Shows.{holds_in};
 ghost use Rattle.stripped_partition.specs.Stripped.{stripped, error_of};
 ghost use Rattle.validator.specs.Verdicts.{AreApart, AreFound, IsFitting, IsVerdict, new_rows};
 ghost use Rattle.validator.specs.declared.verdict.Verdict.TheVariants.{Holds, Broken};
 
-use crate::shelf::Shelf;
+use crate::shelf::{Asked, Shelf};
 use crate::{Verdict, judge};
 use rel_base::{COLUMN_PLACES, Job, RowNo, Snapshot, Steps};
 use std::alloc::{AllocError, Global};
@@ -61,7 +62,8 @@ impl Store {
         }
     }
 
-    /// Validates a job on the store's snapshot, as `validate` does, with the same answer to whether the dependency holds.
+    /// Validates a job as `validate` does, with the same answer to whether the dependency holds, on the store's snapshot: one of the
+    /// same live rows as the job's, which agree in the same columns. So a store serves all jobs on the same rows.
     ///
     /// It takes the columns of the left side in the order of how many rows they tell apart, the lightest first. It starts from the
     /// kept partition by the most of the first of them, up to four, or from one of the path if that is by more columns, refines it
@@ -74,7 +76,7 @@ impl Store {
         job: &Job,
         steps: &mut Steps<L>,
     ) -> Result<Verdict, AllocError>
-        requires same { self.old ≡ job.now.snapshot }
+        requires alike { Alike self.old job.now.snapshot }
         requires fitting { IsFitting job.now }
         ensures verdict { IfOk result (IsVerdict job.now) }
         ensures exactly { IfOk result (λ verdict. (verdict ≡ Holds job.now.to) ↔ (holds_in job.now.snapshot job.now.left job.now.target ≡ true)) }
@@ -85,7 +87,7 @@ impl Store {
         Ok(judge::verdict_of(job, &pairs))
     }
 
-    /// Pairs of live rows that break a job's dependency on the store's snapshot: up to so many, and none exactly where it holds.
+    /// Pairs of live rows that break a job's dependency, on a store of the same rows: up to so many, and none exactly where it holds.
     ///
     /// Of each pair the smaller number comes first, and the two rows agree on the left side and differ on the target. No two pairs
     /// come from one group of rows that agree on the left side. The work of a verdict that fails is nearly all in the refining of
@@ -101,7 +103,7 @@ impl Store {
         steps: &mut Steps<L>,
     ) -> Result<Vec<(RowNo, RowNo)>, AllocError>
         requires some { 0 < most }
-        requires same { self.old ≡ job.now.snapshot }
+        requires alike { Alike self.old job.now.snapshot }
         requires fitting { IsFitting job.now }
         ensures pairs { IfOk result (λ pairs. All (λ pair. IsVerdict job.now (Broken pair.0 pair.1)) pairs.items) }
         ensures groups { IfOk result (λ pairs. AreApart job.now.snapshot job.now.left pairs.items) }
@@ -138,14 +140,21 @@ impl Store {
         steps: &mut Steps<L>,
     ) -> Result<Vec<(RowNo, RowNo)>, AllocError>
         requires some { 0 < most }
-        requires same { self.old ≡ job.now.snapshot }
+        requires alike { Alike self.old job.now.snapshot }
         requires fitting { IsFitting job.now }
         ensures pairs { IfOk result (λ pairs. AreFound job.now.snapshot job.now.left job.now.target pairs.items) }
         ensures few { IfOk result (λ pairs. vec_len pairs ≤ most) }
         ensures steps { steps.new ≤ steps.old + new_rows job.now.snapshot job.now.from }
         ensures store { self.new ≡ self.old }
     {
-        let found = self.shelf.search(alloc, job, most, &mut self.slots, steps);
+        let asked = Asked {
+            left: job.left(),
+            target: job.target(),
+            from: job.from(),
+            most,
+        };
+        let shelf = &mut self.shelf;
+        let found = shelf.search(alloc, &self.snapshot, &asked, &mut self.slots, steps);
         if found.is_err() {
             self.slots = Vec::new(alloc);
         }

@@ -1,6 +1,7 @@
 // Answers on small relations that are drawn, against the plain programs.
 ghost use Rattle.std.specs.Prelude.{◌≡◌, ◌<◌, ◌≤◌, IsTrue};
 ghost use Rattle.col_set.specs.Target.{IsColumnTarget};
+ghost use Rattle.rel_base.specs.Alike.{Alike};
 ghost use Rattle.validator.specs.Verdicts.{IsFitting};
 
 mod sample;
@@ -60,7 +61,7 @@ fn answered<L: Ledger>(
     requires name { blank.name ≡ L.name }
     requires parts { blank.parts ≡ L.parts }
     requires some { 0 < L.parts }
-    requires same { store.old ≡ job.now.snapshot }
+    requires alike { Alike store.old job.now.snapshot }
     requires fitting { IsFitting job.now }
     ensures { store.new ≡ store.old }
 {
@@ -94,6 +95,7 @@ fn are_right(sample: &Sample, job: &Job, pairs: &[(RowNo, RowNo)]) -> bool
 }
 
 // Compares what is answered on a job, once more where memory is wanting.
+#[tactic(auto, using(crate::proofs::PlainTests::alike_same))]
 fn compare(
     alloc: Global,
     rt: &impl Abort,
