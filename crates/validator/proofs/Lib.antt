@@ -7,3 +7,5 @@ pub mod KeptLists
 pub mod Weights
 pub mod PlainTests
 pub mod Likeness
+pub mod Chained
+pub mod NewRows

@@ -84,7 +84,7 @@ fn place_of(kept: &[Kept], places: &Places, columns: ColSet) -> Option<usize>
 }
 
 // The column of these that tells the most rows apart, as far as that is known.
-fn lightest(columns: ColSet, first: u8, weights: &[u32; COLUMN_PLACES]) -> u8
+pub(crate) fn lightest(columns: ColSet, first: u8, weights: &[u32; COLUMN_PLACES]) -> u8
     requires first { has columns first ≡ true }
     requires bound { first < MOST_COLUMNS }
     ensures column { has columns result ≡ true }
@@ -267,7 +267,7 @@ fn note(places: &mut Places, columns: ColSet, k: usize) -> bool {
 }
 
 // No column's weight is known.
-fn no_weights() -> [u32; COLUMN_PLACES]
+pub(crate) fn no_weights() -> [u32; COLUMN_PLACES]
     ensures { (s : CodeTable) → AreWeights s result }
 {
     [UNKNOWN; COLUMN_PLACES]
@@ -288,6 +288,17 @@ impl Shelf {
             room,
             large: rows / 2,
         }
+    }
+
+    // The weights that are known, and these for the other columns.
+    pub(crate) fn known_or(&self, hints: &[u32; COLUMN_PLACES]) -> [u32; COLUMN_PLACES] {
+        let mut all = *hints;
+        for (column, weight) in self.weights.iter().enumerate() {
+            if *weight != UNKNOWN {
+                all[column] = *weight;
+            }
+        }
+        all
     }
 
     // Searches the groups by a left side for pairs that break its dependency.
