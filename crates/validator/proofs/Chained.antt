@@ -153,22 +153,25 @@ module _ (s : CodeTable) (x column j : ℕ) (chain : Chain) (has_it : has x colu
   walking_more k next p l w not_it e =
       let v = h.linked (k - 1) (let b = w.below in omega arith) in
       let a = v.within in
-      let below = w.below in
-      (record {
-        below = omega arith;
-        same = λ q. ap (λ (n : ℕ). code_at s n column) e ∙ v.has (omega arith) ∙ w.same p;
-        rest = λ i g m f.
-            let b = live_within s i g in
-            let c = b.0 in
-            let r = w.rest i g m f in
-            elim (cases_eq i k) as (λ _. i ≤ next) [
-              | inl q ↦ absurd (true≢false (sym (and_from _ _ (ap (live_at s) (sym q) ∙ live_flag s i g) (ap (λ (n : ℕ). agree_on s x n j) (sym q) ∙ f)) ∙ not_it))
-              | inr ne ↦ elim (cases_lt (i - 1) next) as (λ _. i ≤ next) [
-                | inl o ↦ omega arith
-                | inr o ↦ absurd (v.none (i - 1) (omega arith) (omega arith) (same_code i f ∙ sym (w.same p)))
-              ]
-            ];
-      }, omega arith)
+      let below = w.below in (
+        record {
+          below = omega arith;
+          same = λ q. ap (λ (n : ℕ). code_at s n column) e ∙ v.has (omega arith) ∙ w.same p;
+          rest = λ i g m f.
+              let b = live_within s i g in
+              let c = b.0 in
+              let r = w.rest i g m f in
+              elim (cases_eq i k) as (λ _. i ≤ next) [
+                | inl q ↦ absurd (true≢false (sym (and_from _ _ (ap (live_at s) (sym q) ∙ live_flag s i g) (ap (λ (n : ℕ). agree_on s x n j) (sym q) ∙ f)) ∙ not_it))
+                | inr ne ↦ elim (cases_lt (i - 1) next) as (λ _. i ≤ next) [
+                  | inl o ↦ omega arith
+                  | inr o ↦ absurd (v.none (i - 1) (omega arith) (omega arith) (same_code i f ∙ sym (w.same p)))
+                ]
+              ];
+        },
+        omega arith,
+      )
+
   pub walking_none : (k : ℕ) → k ≡ 0 → Walking s x column j k → (i : ℕ) → Listed i (live_numbers s) → i < j → agree_on s x i j ≡ true → ⊥
   walking_none k e w i g m f = let a = (live_within s i g).0 in let r = w.rest i g m f in omega arith
 

@@ -24,11 +24,7 @@ pub(crate) struct Link {
 
 impl Link {
     // The link of a column. It takes a step a row, and memory for each row and each code.
-    pub(crate) fn of(
-        alloc: Global,
-        snapshot: &Snapshot,
-        column: u8,
-    ) -> Result<Link, AllocError>
+    pub(crate) fn of(alloc: Global, snapshot: &Snapshot, column: u8) -> Result<Link, AllocError>
         requires { column < length snapshot.now.codes }
         ensures link { IfOk result (IsLink snapshot.now) }
         ensures column { IfOk result (λ link. link.column ≡ column) }
@@ -78,12 +74,7 @@ pub(crate) fn up_to_date(
 }
 
 // The links of a later snapshot that go on from those of an earlier one.
-fn carried(
-    alloc: Global,
-    earlier: &Snapshot,
-    snapshot: &Snapshot,
-    links: Vec<Link>,
-) -> Vec<Link>
+fn carried(alloc: Global, earlier: &Snapshot, snapshot: &Snapshot, links: Vec<Link>) -> Vec<Link>
     requires { AreLinks earlier.now links.items }
     ensures { AreLinks snapshot.now result.items }
 {

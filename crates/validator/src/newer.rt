@@ -19,11 +19,7 @@ use std::alloc::{AllocError, Global};
 use std::sync::ledger::Ledger;
 
 // The live rows from a number on, ascending. It takes a step a number.
-fn rows_from(
-    alloc: Global,
-    snapshot: &Snapshot,
-    from: RowNo,
-) -> Result<Vec<RowNo>, AllocError>
+fn rows_from(alloc: Global, snapshot: &Snapshot, from: RowNo) -> Result<Vec<RowNo>, AllocError>
     ensures { IfOk result (λ rows. rows.items ≡ filter (nat_le from) (live_numbers snapshot.now)) }
 {
     let mut rows = Vec::new(alloc);
@@ -37,12 +33,7 @@ fn rows_from(
 }
 
 // Whether one of these pairs comes from the group of a row.
-fn is_told(
-    snapshot: &Snapshot,
-    columns: ColSet,
-    pairs: &[(RowNo, RowNo)],
-    row: RowNo,
-) -> bool
+fn is_told(snapshot: &Snapshot, columns: ColSet, pairs: &[(RowNo, RowNo)], row: RowNo) -> bool
     requires given { All (λ pair. pair.0 < snapshot.now.to) pairs.now }
     requires row { row < snapshot.now.to }
     requires columns { columns < 2 ^ length snapshot.now.codes }

@@ -197,7 +197,11 @@ impl Store {
         let first = asked.left.first()?;
         let column = lightest(asked.left, first, &self.hints);
         let rows = self.snapshot.live_count();
-        let new = self.snapshot.to().number().saturating_sub(asked.from.number());
+        let new = self
+            .snapshot
+            .to()
+            .number()
+            .saturating_sub(asked.from.number());
         let apart = rows.saturating_sub(self.hints[column as usize]);
         if asked.from.number() > 1 && (new <= FEW_ROWS || (new <= rows / 8 && new / 4 <= apart)) {
             Some(column)

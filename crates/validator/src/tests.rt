@@ -156,18 +156,36 @@ fn turn_at(turn: u32) -> (ColSet, RowNo) {
     }
 }
 
-// Compares what is answered on all left sides by one store, one after another, and its weights.
+// Compares what is answered in some turns by one store, one after another.
+fn compare_turns(
+    alloc: Global,
+    rt: &impl Abort,
+    sample: &Sample,
+    store: &mut Store,
+    turns: (u32, u32),
+) -> Result<(), AllocError>
+    requires { store.old ≡ sample.now.snapshot.value }
+    ensures { store.new ≡ store.old }
+{
+    for turn in turns.0..turns.1 {
+        let (left, from) = turn_at(turn);
+        compare_targets(alloc, rt, sample, store, left, from)?;
+    }
+    Ok(())
+}
+
+// Compares what is answered on all left sides by one store, which goes over to these rows, and to the same ones again, and its
+// weights.
 fn compare_left_sides(
     alloc: Global,
     rt: &impl Abort,
     sample: &Sample,
-    room: usize,
+    store: &mut Store,
 ) -> Result<(), AllocError> {
-    let mut store = Store::of(alloc, sample.snapshot.clone()?, room);
-    for turn in 0..64u32 {
-        let (left, from) = turn_at(turn);
-        compare_targets(alloc, rt, sample, &mut store, left, from)?;
-    }
+    store.renew(alloc, sample.snapshot.clone()?);
+    compare_turns(alloc, rt, sample, store, (0, 48))?;
+    store.renew(alloc, sample.snapshot.clone()?);
+    compare_turns(alloc, rt, sample, store, (48, 64))?;
     assert!(rt; sample.weighs(&store.weights(alloc)?));
     Ok(())
 }
@@ -179,8 +197,11 @@ fn answers_are_those_of_the_plain_programs(rt: HostRuntime) -> Result<(), Fail> 
     let alloc = rt.alloc();
     let mut samples = Samples::from_seed(1986);
     for room in &ROOMS {
-        let sample = drawn(alloc, &rt, &mut samples)?;
-        compare_left_sides(alloc, &rt, &sample, *room)?;
+        let first = drawn(alloc, &rt, &mut samples)?;
+        let mut store = Store::of(alloc, first.snapshot.clone()?, *room);
+        compare_left_sides(alloc, &rt, &first, &mut store)?;
+        let second = drawn(alloc, &rt, &mut samples)?;
+        compare_left_sides(alloc, &rt, &second, &mut store)?;
     }
     Ok(())
 }

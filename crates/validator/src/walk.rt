@@ -185,7 +185,10 @@ fn pair_of_group<L: Ledger>(
 }
 
 // Adds a pair, if there is one.
-pub(crate) fn add(pairs: &mut Vec<(RowNo, RowNo)>, pair: Option<(RowNo, RowNo)>) -> Result<(), AllocError>
+pub(crate) fn add(
+    pairs: &mut Vec<(RowNo, RowNo)>,
+    pair: Option<(RowNo, RowNo)>,
+) -> Result<(), AllocError>
     ensures { OnOk result (pairs.new.items ≡ pairs.old.items ++ option_to_list pair) }
 {
     if let Some(pair) = pair {
