@@ -65,15 +65,31 @@ impl Chain {
     }
 }
 
+// Whether two lists of one length have the same codes. It looks at all of them, so that a processor compares many at once.
+fn are_same(codes: &[u32], others: &[u32]) -> bool
+    requires { length codes.now ≡ length others.now }
+    ensures { result ≡ true → (k : ℕ) → k < length codes.now → slice_index codes.now k ≡ slice_index others.now k }
+{
+    let mut same = true;
+    for place in 0..codes.len() {
+        same = same & (codes[place] == others[place]);
+    }
+    same
+}
+
 // Whether two lists begin with the same codes, so many.
-//
-// It looks at all of them, which lets a processor compare many at once.
 pub(crate) fn begin_alike(codes: &Codes, others: &Codes, count: usize) -> bool
     requires first { count ≤ length codes.now }
     requires second { count ≤ length others.now }
     ensures { result ≡ true → (k : ℕ) → k < count → slice_index codes.now k ≡ slice_index others.now k }
 {
-    for place in 0..count {
+    let (first, _) = codes.parts();
+    let (second, _) = others.parts();
+    let shared = count.min(first.len()).min(second.len());
+    if !are_same(&first[..shared], &second[..shared]) {
+        return false;
+    }
+    for place in shared..count {
         if codes.get(place) != others.get(place) {
             return false;
         }

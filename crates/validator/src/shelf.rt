@@ -49,6 +49,8 @@ type Places = IndexMap<ColSet, usize, BuildHasherDefault<DefaultHasher>>;
 // The partitions that are kept, the weight of each column, which is how many rows it does not tell from an earlier one, and the
 // places where partitions are found.
 //
+// Columns are taken by `order`: their weights here or, where these are not known, as they were for earlier rows.
+//
 // The first `settled` partitions stay for good. They have `rows` rows in their groups, of the `room` that there is, and a partition
 // is large with more than `large` rows. Those behind them are the path: what the last search made on its way and may not stay. No
 // two of the path are by equally many columns.
@@ -56,6 +58,7 @@ type Places = IndexMap<ColSet, usize, BuildHasherDefault<DefaultHasher>>;
 pub(crate) struct Shelf {
     pub(crate) kept: Vec<Kept>,
     pub(crate) weights: [u32; COLUMN_PLACES],
+    pub(crate) order: [u32; COLUMN_PLACES],
     places: Places,
     settled: usize,
     rows: usize,
@@ -274,14 +277,15 @@ pub(crate) fn no_weights() -> [u32; COLUMN_PLACES]
 }
 
 impl Shelf {
-    // An empty shelf with room for this many rows, for a snapshot with this many.
-    pub(crate) fn of(alloc: Global, rows: usize, room: usize) -> Shelf
+    // An empty shelf with room for this many rows, for a snapshot with this many, whose columns are to be taken in this order.
+    pub(crate) fn of(alloc: Global, rows: usize, room: usize, order: [u32; COLUMN_PLACES]) -> Shelf
         ensures kept { result.kept.items ≡ [] }
         ensures weights { (s : CodeTable) → AreWeights s result.weights }
     {
         Shelf {
             kept: Vec::new(alloc),
             weights: no_weights(),
+            order,
             places: Places::with_hasher(alloc, BuildHasherDefault::new()),
             settled: 0,
             rows: 0,
@@ -290,15 +294,16 @@ impl Shelf {
         }
     }
 
-    // The weights that are known, and these for the other columns.
-    pub(crate) fn known_or(&self, hints: &[u32; COLUMN_PLACES]) -> [u32; COLUMN_PLACES] {
-        let mut all = *hints;
-        for (column, weight) in self.weights.iter().enumerate() {
-            if *weight != UNKNOWN {
-                all[column] = *weight;
+    // Whether the place in the order of one of these columns is not known.
+    fn lacks_order(&self, columns: ColSet) -> bool {
+        let mut left = columns;
+        while let Some(column) = left.first() {
+            if self.order[column as usize] == UNKNOWN {
+                return true;
             }
+            left = left.without(column);
         }
-        all
+        false
     }
 
     // Searches the groups by a left side for pairs that break its dependency.
@@ -321,7 +326,9 @@ impl Shelf {
         ensures few { IfOk result (λ pairs. vec_len pairs ≤ asked.now.most) }
         ensures steps { steps.new ≤ steps.old + new_rows snapshot.now asked.now.from }
     {
-        self.weigh(alloc, snapshot, asked.left)?;
+        if self.lacks_order(asked.left) {
+            self.weigh(alloc, snapshot, asked.left)?;
+        }
         self.shorten_path(asked.left);
         let found = self.search_kept(alloc, snapshot, asked, slots, steps);
         self.settle();
@@ -386,6 +393,7 @@ impl Shelf {
         self.kept.truncate(self.settled);
         let weight = push_column(alloc, snapshot, &mut self.kept, column)?;
         self.weights[column as usize] = weight;
+        self.order[column as usize] = weight;
         self.settle();
         self.kept.truncate(self.settled);
         Ok(())
@@ -431,7 +439,7 @@ impl Shelf {
             alloc,
             snapshot,
             &mut self.kept,
-            &self.weights,
+            &self.order,
             slots,
             base,
             rest,
@@ -459,7 +467,7 @@ impl Shelf {
         ensures place { IfOk result (λ k. k < vec_len self.new.kept) }
         ensures within { IfOk result (λ k. (d : Kept) → subset (slice_index_or self.new.kept.items k d).columns columns ≡ true) }
     {
-        let found = lightest_kept(&self.kept, &self.places, &self.weights, columns);
+        let found = lightest_kept(&self.kept, &self.places, &self.order, columns);
         if let Some(k) = largest(&self.kept, self.settled, columns, found) {
             return Ok(k);
         }

@@ -42,7 +42,6 @@ pub struct Store {
     slots: Vec<u32>,
     links: Vec<Link>,
     earlier: Option<Arc<Snapshot>>,
-    hints: [u32; COLUMN_PLACES],
     room: usize,
 }
 
@@ -68,11 +67,10 @@ impl Store {
         let rows = snapshot.to().number() as usize;
         Store {
             snapshot,
-            shelf: Shelf::of(alloc, rows, room),
+            shelf: Shelf::of(alloc, rows, room, no_weights()),
             slots: Vec::new(alloc),
             links: Vec::new(alloc),
             earlier: None,
-            hints: no_weights(),
             room,
         }
     }
@@ -86,8 +84,7 @@ impl Store {
         ensures { self.new ≡ snapshot.value }
     {
         let rows = snapshot.to().number() as usize;
-        self.hints = self.shelf.known_or(&self.hints);
-        self.shelf = Shelf::of(alloc, rows, self.room);
+        self.shelf = Shelf::of(alloc, rows, self.room, self.shelf.order);
         let last = mem::replace(&mut self.snapshot, snapshot);
         self.earlier = Some(links::kept_earlier(self.earlier.take(), last));
     }
@@ -195,14 +192,14 @@ impl Store {
         ensures { IfSome result (λ column. has asked.now.left column ≡ true) }
     {
         let first = asked.left.first()?;
-        let column = lightest(asked.left, first, &self.hints);
+        let column = lightest(asked.left, first, &self.shelf.order);
         let rows = self.snapshot.live_count();
         let new = self
             .snapshot
             .to()
             .number()
             .saturating_sub(asked.from.number());
-        let apart = rows.saturating_sub(self.hints[column as usize]);
+        let apart = rows.saturating_sub(self.shelf.order[column as usize]);
         if asked.from.number() > 1 && (new <= FEW_ROWS || (new <= rows / 8 && new / 4 <= apart)) {
             Some(column)
         } else {
