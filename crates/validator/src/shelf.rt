@@ -18,10 +18,15 @@ use std::hash::{BuildHasherDefault, DefaultHasher};
 use std::sync::ledger::Ledger;
 use stripped_partition::Partition;
 
-// The most columns of a set whose partition is kept, and the most partitions that are kept.
-const MOST_KEPT_COLUMNS: u32 = 4;
+// The most columns of a set whose partition is kept, where it has few rows and else.
+const MOST_KEPT_COLUMNS: u32 = 6;
 
-const MOST_KEPT: usize = 4096;
+const MOST_LARGE_COLUMNS: u32 = 4;
+
+const FEW_KEPT_ROWS: usize = 1024;
+
+// The most partitions that are kept.
+const MOST_KEPT: usize = 16384;
 
 // The weight of a column whose partition was not made yet.
 const UNKNOWN: u32 = u32::MAX;
@@ -176,7 +181,7 @@ fn push_all(alloc: Global, snapshot: &Snapshot, kept: &mut Vec<Kept>) -> Result<
     Ok(())
 }
 
-// The place of the kept partition by the most of the lightest of these columns, up to four of them.
+// The place of the kept partition by the most of the lightest of these columns, up to six of them.
 //
 // Partitions are refined by the lightest column first, so those that are kept are by the lightest columns of some left side.
 fn lightest_kept(
@@ -498,7 +503,7 @@ impl Shelf {
     {
         let columns = self.kept[k].columns;
         let rows = self.rows.saturating_add(self.kept[k].rows);
-        if columns.len() > MOST_KEPT_COLUMNS
+        if columns.len() > self.most_columns_of(k)
             || self.settled >= MOST_KEPT
             || rows > self.room_for(k)
         {
@@ -509,6 +514,17 @@ impl Shelf {
         }
         self.rows = rows;
         true
+    }
+
+    // By how many columns the partition at a place may be to stay: those by many columns are worth their place where they are small.
+    fn most_columns_of(&self, k: usize) -> u32
+        requires { k < vec_len self.now.kept }
+    {
+        if self.kept[k].rows > FEW_KEPT_ROWS {
+            MOST_LARGE_COLUMNS
+        } else {
+            MOST_KEPT_COLUMNS
+        }
     }
 
     // How many rows all that is kept may have with the partition at a place: half of the room, if it has more than half of the

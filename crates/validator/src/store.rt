@@ -25,16 +25,23 @@ const FEW_ROWS: u32 = 16;
 /// Stripped partitions of one snapshot, which verdicts start from. One worker owns it.
 ///
 /// It keeps the partition by each single column that a verdict or `weights` asked for, and those by two to four columns that it
-/// made on its way, 4,096 of them at most, as long as the rows of all that is kept fit its room. A partition with more than half
-/// of the snapshot's rows is kept only as long as they fit half of it.
+/// made on its way, by up to six where they have few rows, 16,384 of them at most, as long as the rows of all that is kept fit its
+/// room. A partition with more than half of the snapshot's rows is kept only as long as they fit half of it.
 ///
-/// What the last verdict made on its way and may not stay, being by more than four columns or without room, is the path. The next
+/// What the last verdict made on its way and may not stay, being by more columns or without room, is the path. The next
 /// verdict lets go of what is by columns that are not in its left side, and goes on from the rest. So verdicts are cheap in an
 /// order in which left sides that share their lightest columns follow each other (`weights`), with all targets of a left side in
 /// a row: each refines behind the columns that it shares with the one before, and nothing where the left side is the same.
 ///
 /// The path comes on top of the room. It has at most one partition for each number of columns up to that of the left side, and
-/// most of them have few rows. Contracts see the codes of the store's snapshot.
+/// most of them have few rows.
+///
+/// Where the new rows of a job are few, they are looked up one by one and no group is made: each new row is compared with the last
+/// row before it in its group, found among the rows with its code in the lightest column of the left side, which are linked. The
+/// links of a column take 4 bytes a row and a code, on top of the room, and a pass over the rows when they are first wanted; a
+/// store that goes over to later rows (`renew`) keeps them.
+///
+/// Contracts see the codes of the store's snapshot.
 #[derive(Drop)]
 pub struct Store {
     snapshot: Arc<Snapshot>,
@@ -93,10 +100,10 @@ impl Store {
     /// same live rows as the job's, which agree in the same columns. So a store serves all jobs on the same rows.
     ///
     /// It takes the columns of the left side in the order of how many rows they tell apart, the lightest first. It starts from the
-    /// kept partition by the most of the first of them, up to four, or from one of the path if that is by more columns, refines it
+    /// kept partition by the most of the first of them, up to six, or from one of the path if that is by more columns, refines it
     /// by the others but the last, and compares the rows of each group by the last one's codes, up to the first difference. So a
-    /// verdict takes time by the rows of that partition, not by how many are kept. After want of memory the store is as useful as
-    /// before.
+    /// verdict takes time by the rows of that partition, not by how many are kept; one on few new rows takes time by them and the rows
+    /// with their codes in one column. After want of memory the store is as useful as before.
     pub fn validate<L: Ledger>(
         &mut self,
         alloc: Global,
