@@ -19,8 +19,8 @@ use std::mem;
 use std::sync::Arc;
 use std::sync::ledger::Ledger;
 
-// The rows that are few enough to be looked up whatever the column.
-const FEW_ROWS: u32 = 16;
+// So many live rows are few enough that new ones are looked up whatever the column.
+const FEW_ROWS: u32 = 1000;
 
 /// Stripped partitions of one snapshot, which verdicts start from. One worker owns it.
 ///
@@ -206,8 +206,9 @@ impl Store {
             .to()
             .number()
             .saturating_sub(asked.from.number());
-        let apart = rows.saturating_sub(self.shelf.order[column as usize]);
-        if asked.from.number() > 1 && (new <= FEW_ROWS || (new <= rows / 8 && new / 4 <= apart)) {
+        let values = rows.saturating_sub(self.shelf.order[column as usize]);
+        let are_few = rows <= FEW_ROWS || (new <= rows / 8 && new <= values / 2);
+        if asked.from.number() > 1 && are_few {
             Some(column)
         } else {
             None
