@@ -4,6 +4,7 @@ use Rattle.std.specs.List.{All}
 use Rattle.col_set.specs.ColSet.{Columns, has, with, empty}
 use Rattle.rel_base.specs.CodeTable.{CodeTable}
 use Rattle.stripped_partition.specs.Stripped.{stripped, error_of}
+use Rattle.validator.specs.declared.shelf.TheConstants.{UNKNOWN}
 use Rattle.validator.specs.declared.shelf.Kept.{Kept}
 
 -- it is the stripped partition by its columns
@@ -19,7 +20,7 @@ weight_of s column = error_of (stripped s (with empty column))
 
 -- each is the weight of the column at its place, but for those that say that it is not known
 abbrev pub AreWeights : CodeTable → List ℕ → Type 0
-AreWeights s weights = (column : ℕ) → column < length weights → slice_index weights column ≢ 4294967295 → slice_index weights column ≡ weight_of s column
+AreWeights s weights = (column : ℕ) → column < length weights → slice_index weights column ≢ UNKNOWN → slice_index weights column ≡ weight_of s column
 
 -- the weights of these columns are known
 abbrev pub AreKnown : CodeTable → Columns → List ℕ → Type 0

@@ -4,26 +4,41 @@ ghost use Rattle.std.specs.Option.{ForSome};
 ghost use Rattle.col_set.specs.ColSet.{has, subset, union, with, empty};
 ghost use Rattle.rel_base.specs.CodeTable.{CodeTable};
 ghost use Rattle.validator.specs.Kept.{AreKept, AreWeights, AreKnown, weight_of};
-ghost use Rattle.validator.specs.Verdicts.{AreFound, IsFitting, new_rows};
+ghost use Rattle.validator.specs.Asking.{IsAsked};
+ghost use Rattle.validator.specs.Verdicts.{AreFound, new_rows};
 ghost use Rattle.validator.specs.Walk.{IsClear, plus};
 ghost use Rattle.validator.specs.declared.shelf.Kept.{Kept};
 
 use crate::walk::{self, Question};
-use col_set::ColSet;
+use col_set::{ColSet, Target};
 use indexmap::IndexMap;
-use rel_base::{COLUMN_PLACES, Job, MOST_COLUMNS, RowNo, Snapshot, Steps};
+use rel_base::{COLUMN_PLACES, MOST_COLUMNS, RowNo, Snapshot, Steps};
 use std::alloc::{AllocError, Global};
 use std::hash::{BuildHasherDefault, DefaultHasher};
 use std::sync::ledger::Ledger;
 use stripped_partition::Partition;
 
-// The most columns of a set whose partition is kept, and the most partitions that are kept.
-const MOST_KEPT_COLUMNS: u32 = 4;
+// The most columns of a set whose partition is kept, where it has few rows and else.
+const MOST_KEPT_COLUMNS: u32 = 6;
 
-const MOST_KEPT: usize = 4096;
+const MOST_LARGE_COLUMNS: u32 = 4;
+
+const FEW_KEPT_ROWS: usize = 1024;
+
+// The most partitions that are kept.
+const MOST_KEPT: usize = 16384;
 
 // The weight of a column whose partition was not made yet.
 const UNKNOWN: u32 = u32::MAX;
+
+// What is searched for: pairs of rows that break a dependency which holds among the rows below a number, up to so many.
+#[derive(Clone, Copy)]
+pub(crate) struct Asked {
+    pub(crate) left: ColSet,
+    pub(crate) target: Target,
+    pub(crate) from: RowNo,
+    pub(crate) most: usize,
+}
 
 // The partition by some columns, and how many rows its groups have.
 #[derive(Drop)]
@@ -39,6 +54,8 @@ type Places = IndexMap<ColSet, usize, BuildHasherDefault<DefaultHasher>>;
 // The partitions that are kept, the weight of each column, which is how many rows it does not tell from an earlier one, and the
 // places where partitions are found.
 //
+// Columns are taken by `order`: their weights here or, where these are not known, as they were for earlier rows.
+//
 // The first `settled` partitions stay for good. They have `rows` rows in their groups, of the `room` that there is, and a partition
 // is large with more than `large` rows. Those behind them are the path: what the last search made on its way and may not stay. No
 // two of the path are by equally many columns.
@@ -46,6 +63,7 @@ type Places = IndexMap<ColSet, usize, BuildHasherDefault<DefaultHasher>>;
 pub(crate) struct Shelf {
     pub(crate) kept: Vec<Kept>,
     pub(crate) weights: [u32; COLUMN_PLACES],
+    pub(crate) order: [u32; COLUMN_PLACES],
     places: Places,
     settled: usize,
     rows: usize,
@@ -74,7 +92,7 @@ fn place_of(kept: &[Kept], places: &Places, columns: ColSet) -> Option<usize>
 }
 
 // The column of these that tells the most rows apart, as far as that is known.
-fn lightest(columns: ColSet, first: u8, weights: &[u32; COLUMN_PLACES]) -> u8
+pub(crate) fn lightest(columns: ColSet, first: u8, weights: &[u32; COLUMN_PLACES]) -> u8
     requires first { has columns first ≡ true }
     requires bound { first < MOST_COLUMNS }
     ensures column { has columns result ≡ true }
@@ -163,7 +181,7 @@ fn push_all(alloc: Global, snapshot: &Snapshot, kept: &mut Vec<Kept>) -> Result<
     Ok(())
 }
 
-// The place of the kept partition by the most of the lightest of these columns, up to four of them.
+// The place of the kept partition by the most of the lightest of these columns, up to six of them.
 //
 // Partitions are refined by the lightest column first, so those that are kept are by the lightest columns of some left side.
 fn lightest_kept(
@@ -257,21 +275,22 @@ fn note(places: &mut Places, columns: ColSet, k: usize) -> bool {
 }
 
 // No column's weight is known.
-fn no_weights() -> [u32; COLUMN_PLACES]
+pub(crate) fn no_weights() -> [u32; COLUMN_PLACES]
     ensures { (s : CodeTable) → AreWeights s result }
 {
     [UNKNOWN; COLUMN_PLACES]
 }
 
 impl Shelf {
-    // An empty shelf with room for this many rows, for a snapshot with this many.
-    pub(crate) fn of(alloc: Global, rows: usize, room: usize) -> Shelf
+    // An empty shelf with room for this many rows, for a snapshot with this many, whose columns are to be taken in this order.
+    pub(crate) fn of(alloc: Global, rows: usize, room: usize, order: [u32; COLUMN_PLACES]) -> Shelf
         ensures kept { result.kept.items ≡ [] }
         ensures weights { (s : CodeTable) → AreWeights s result.weights }
     {
         Shelf {
             kept: Vec::new(alloc),
             weights: no_weights(),
+            order,
             places: Places::with_hasher(alloc, BuildHasherDefault::new()),
             settled: 0,
             rows: 0,
@@ -280,31 +299,43 @@ impl Shelf {
         }
     }
 
-    // Searches the groups by a job's left side for pairs that break its dependency, up to so many.
+    // Whether the place in the order of one of these columns is not known.
+    fn lacks_order(&self, columns: ColSet) -> bool {
+        let mut left = columns;
+        while let Some(column) = left.first() {
+            if self.order[column as usize] == UNKNOWN {
+                return true;
+            }
+            left = left.without(column);
+        }
+        false
+    }
+
+    // Searches the groups by a left side for pairs that break its dependency.
     pub(crate) fn search<L: Ledger>(
         &mut self,
         alloc: Global,
-        job: &Job,
-        most: usize,
+        snapshot: &Snapshot,
+        asked: &Asked,
         slots: &mut Vec<u32>,
         steps: &mut Steps<L>,
     ) -> Result<Vec<(RowNo, RowNo)>, AllocError>
-        requires some { 0 < most }
-        requires fitting { IsFitting job.now }
-        requires kept { AreKept job.now.snapshot self.old.kept.items }
-        requires weights { AreWeights job.now.snapshot self.old.weights }
+        requires asked { IsAsked snapshot.now asked.now }
+        requires kept { AreKept snapshot.now self.old.kept.items }
+        requires weights { AreWeights snapshot.now self.old.weights }
         requires clear { IsClear slots.old.items }
-        ensures kept { AreKept job.now.snapshot self.new.kept.items }
-        ensures weights { AreWeights job.now.snapshot self.new.weights }
+        ensures kept { AreKept snapshot.now self.new.kept.items }
+        ensures weights { AreWeights snapshot.now self.new.weights }
         ensures clear { OnOk result (IsClear slots.new.items) }
-        ensures pairs { IfOk result (λ pairs. AreFound job.now.snapshot job.now.left job.now.target pairs.items) }
-        ensures few { IfOk result (λ pairs. vec_len pairs ≤ most) }
-        ensures steps { steps.new ≤ steps.old + new_rows job.now.snapshot job.now.from }
+        ensures pairs { IfOk result (λ pairs. AreFound snapshot.now asked.now.left asked.now.target pairs.items) }
+        ensures few { IfOk result (λ pairs. vec_len pairs ≤ asked.now.most) }
+        ensures steps { steps.new ≤ steps.old + new_rows snapshot.now asked.now.from }
     {
-        let left = job.left();
-        self.weigh(alloc, job.snapshot(), left)?;
-        self.shorten_path(left);
-        let found = self.search_kept(alloc, job, most, slots, steps);
+        if self.lacks_order(asked.left) {
+            self.weigh(alloc, snapshot, asked.left)?;
+        }
+        self.shorten_path(asked.left);
+        let found = self.search_kept(alloc, snapshot, asked, slots, steps);
         self.settle();
         found
     }
@@ -367,6 +398,7 @@ impl Shelf {
         self.kept.truncate(self.settled);
         let weight = push_column(alloc, snapshot, &mut self.kept, column)?;
         self.weights[column as usize] = weight;
+        self.order[column as usize] = weight;
         self.settle();
         self.kept.truncate(self.settled);
         Ok(())
@@ -391,40 +423,37 @@ impl Shelf {
     fn search_kept<L: Ledger>(
         &mut self,
         alloc: Global,
-        job: &Job,
-        most: usize,
+        snapshot: &Snapshot,
+        asked: &Asked,
         slots: &mut Vec<u32>,
         steps: &mut Steps<L>,
     ) -> Result<Vec<(RowNo, RowNo)>, AllocError>
-        requires some { 0 < most }
-        requires fitting { IsFitting job.now }
-        requires kept { AreKept job.now.snapshot self.old.kept.items }
+        requires asked { IsAsked snapshot.now asked.now }
+        requires kept { AreKept snapshot.now self.old.kept.items }
         requires clear { IsClear slots.old.items }
-        ensures kept { AreKept job.now.snapshot self.new.kept.items }
+        ensures kept { AreKept snapshot.now self.new.kept.items }
         ensures weights { self.new.weights ≡ self.old.weights }
         ensures clear { OnOk result (IsClear slots.new.items) }
-        ensures pairs { IfOk result (λ pairs. AreFound job.now.snapshot job.now.left job.now.target pairs.items) }
-        ensures few { IfOk result (λ pairs. vec_len pairs ≤ most) }
-        ensures steps { steps.new ≤ steps.old + new_rows job.now.snapshot job.now.from }
+        ensures pairs { IfOk result (λ pairs. AreFound snapshot.now asked.now.left asked.now.target pairs.items) }
+        ensures few { IfOk result (λ pairs. vec_len pairs ≤ asked.now.most) }
+        ensures steps { steps.new ≤ steps.old + new_rows snapshot.now asked.now.from }
     {
-        let snapshot = job.snapshot();
-        let left = job.left();
-        let base = self.base(alloc, snapshot, left)?;
-        let rest = left.minus(self.kept[base].columns);
+        let base = self.base(alloc, snapshot, asked.left)?;
+        let rest = asked.left.minus(self.kept[base].columns);
         let (k, by) = refine_kept(
             alloc,
             snapshot,
             &mut self.kept,
-            &self.weights,
+            &self.order,
             slots,
             base,
             rest,
         )?;
         let question = Question {
-            target: job.target(),
+            target: asked.target,
             by,
-            from: job.from(),
-            most,
+            from: asked.from,
+            most: asked.most,
         };
         let partition = &self.kept[k].partition;
         walk::pairs_in_groups(alloc, partition, snapshot, &question, slots, steps)
@@ -443,7 +472,7 @@ impl Shelf {
         ensures place { IfOk result (λ k. k < vec_len self.new.kept) }
         ensures within { IfOk result (λ k. (d : Kept) → subset (slice_index_or self.new.kept.items k d).columns columns ≡ true) }
     {
-        let found = lightest_kept(&self.kept, &self.places, &self.weights, columns);
+        let found = lightest_kept(&self.kept, &self.places, &self.order, columns);
         if let Some(k) = largest(&self.kept, self.settled, columns, found) {
             return Ok(k);
         }
@@ -474,7 +503,7 @@ impl Shelf {
     {
         let columns = self.kept[k].columns;
         let rows = self.rows.saturating_add(self.kept[k].rows);
-        if columns.len() > MOST_KEPT_COLUMNS
+        if columns.len() > self.most_columns_of(k)
             || self.settled >= MOST_KEPT
             || rows > self.room_for(k)
         {
@@ -485,6 +514,17 @@ impl Shelf {
         }
         self.rows = rows;
         true
+    }
+
+    // By how many columns the partition at a place may be to stay: those by many columns are worth their place where they are small.
+    fn most_columns_of(&self, k: usize) -> u32
+        requires { k < vec_len self.now.kept }
+    {
+        if self.kept[k].rows > FEW_KEPT_ROWS {
+            MOST_LARGE_COLUMNS
+        } else {
+            MOST_KEPT_COLUMNS
+        }
     }
 
     // How many rows all that is kept may have with the partition at a place: half of the room, if it has more than half of the

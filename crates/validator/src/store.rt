@@ -1,38 +1,55 @@
 // Verdicts that start from kept partitions.
-ghost use Rattle.std.specs.Prelude.{◌≡◌, ◌<◌, ◌≤◌, ◌+◌, ◌↔◌, ℕ, [], true, length, slice_index, vec_len, IfOk};
+ghost use Rattle.std.specs.Prelude.{◌≡◌, ◌<◌, ◌≤◌, ◌+◌, ◌↔◌, ℕ, [], true, length, slice_index, vec_len, IfOk, IfSome};
 ghost use Rattle.std.specs.List.{All};
-ghost use Rattle.col_set.specs.ColSet.{with, empty};
+ghost use Rattle.col_set.specs.ColSet.{has, with, empty};
+ghost use Rattle.rel_base.specs.Alike.{Alike};
 ghost use Rattle.rel_base.specs.Shows.{holds_in};
 ghost use Rattle.stripped_partition.specs.Stripped.{stripped, error_of};
+ghost use Rattle.validator.specs.Asking.{IsAsked};
 ghost use Rattle.validator.specs.Verdicts.{AreApart, AreFound, IsFitting, IsVerdict, new_rows};
 ghost use Rattle.validator.specs.declared.verdict.Verdict.TheVariants.{Holds, Broken};
 
-use crate::shelf::Shelf;
+use crate::links::{self, Link};
+use crate::shelf::{Asked, Shelf, lightest, no_weights};
 use crate::{Verdict, judge};
 use rel_base::{COLUMN_PLACES, Job, RowNo, Snapshot, Steps};
 use std::alloc::{AllocError, Global};
 use std::marker::Model;
+use std::mem;
 use std::sync::Arc;
 use std::sync::ledger::Ledger;
+
+// So many live rows are few enough that new ones are looked up whatever the column.
+const FEW_ROWS: u32 = 1000;
 
 /// Stripped partitions of one snapshot, which verdicts start from. One worker owns it.
 ///
 /// It keeps the partition by each single column that a verdict or `weights` asked for, and those by two to four columns that it
-/// made on its way, 4,096 of them at most, as long as the rows of all that is kept fit its room. A partition with more than half
-/// of the snapshot's rows is kept only as long as they fit half of it.
+/// made on its way, by up to six where they have few rows, 16,384 of them at most, as long as the rows of all that is kept fit its
+/// room. A partition with more than half of the snapshot's rows is kept only as long as they fit half of it.
 ///
-/// What the last verdict made on its way and may not stay, being by more than four columns or without room, is the path. The next
+/// What the last verdict made on its way and may not stay, being by more columns or without room, is the path. The next
 /// verdict lets go of what is by columns that are not in its left side, and goes on from the rest. So verdicts are cheap in an
 /// order in which left sides that share their lightest columns follow each other (`weights`), with all targets of a left side in
 /// a row: each refines behind the columns that it shares with the one before, and nothing where the left side is the same.
 ///
 /// The path comes on top of the room. It has at most one partition for each number of columns up to that of the left side, and
-/// most of them have few rows. Contracts see the codes of the store's snapshot.
+/// most of them have few rows.
+///
+/// Where the new rows of a job are few, they are looked up one by one and no group is made: each new row is compared with the last
+/// row before it in its group, found among the rows with its code in the lightest column of the left side, which are linked. The
+/// links of a column take 4 bytes a row and a code, on top of the room, and a pass over the rows when they are first wanted; a
+/// store that goes over to later rows (`renew`) keeps them.
+///
+/// Contracts see the codes of the store's snapshot.
 #[derive(Drop)]
 pub struct Store {
     snapshot: Arc<Snapshot>,
     shelf: Shelf,
     slots: Vec<u32>,
+    links: Vec<Link>,
+    earlier: Option<Arc<Snapshot>>,
+    room: usize,
 }
 
 impl Model for Store {
@@ -41,11 +58,12 @@ impl Model for Store {
     ghost Value = { CodeTable };
 
     ghost use Rattle.validator.specs.Kept.{AreKept, AreWeights};
+    ghost use Rattle.validator.specs.Links.{AreLinks, linked_of};
     ghost use Rattle.validator.specs.Walk.{IsClear};
 
     ghost view = { λ s. s.snapshot.value };
 
-    ghost invariant = { λ s. AreKept s.snapshot.value s.shelf.kept.items × AreWeights s.snapshot.value s.shelf.weights × IsClear s.slots.items };
+    ghost invariant = { λ s. AreKept s.snapshot.value s.shelf.kept.items × AreWeights s.snapshot.value s.shelf.weights × IsClear s.slots.items × AreLinks (linked_of (λ earlier. earlier.value) s.snapshot.value s.earlier) s.links.items };
 }
 
 impl Store {
@@ -56,25 +74,43 @@ impl Store {
         let rows = snapshot.to().number() as usize;
         Store {
             snapshot,
-            shelf: Shelf::of(alloc, rows, room),
+            shelf: Shelf::of(alloc, rows, room, no_weights()),
             slots: Vec::new(alloc),
+            links: Vec::new(alloc),
+            earlier: None,
+            room,
         }
     }
 
-    /// Validates a job on the store's snapshot, as `validate` does, with the same answer to whether the dependency holds.
+    /// Goes over to another snapshot, mostly a later one of the same relation. It takes no memory, and some steps a column.
+    ///
+    /// The partitions go. What look-ups of new rows made stays, and serves the new snapshot where the rows that both have are coded
+    /// alike, as those of one row log are: the first look-up compares the codes of all rows in each column that look-ups go by, which
+    /// takes little against making it anew.
+    pub fn renew(&mut self, alloc: Global, snapshot: Arc<Snapshot>)
+        ensures { self.new ≡ snapshot.value }
+    {
+        let rows = snapshot.to().number() as usize;
+        self.shelf = Shelf::of(alloc, rows, self.room, self.shelf.order);
+        let last = mem::replace(&mut self.snapshot, snapshot);
+        self.earlier = Some(links::kept_earlier(self.earlier.take(), last));
+    }
+
+    /// Validates a job as `validate` does, with the same answer to whether the dependency holds, on the store's snapshot: one of the
+    /// same live rows as the job's, which agree in the same columns. So a store serves all jobs on the same rows.
     ///
     /// It takes the columns of the left side in the order of how many rows they tell apart, the lightest first. It starts from the
-    /// kept partition by the most of the first of them, up to four, or from one of the path if that is by more columns, refines it
+    /// kept partition by the most of the first of them, up to six, or from one of the path if that is by more columns, refines it
     /// by the others but the last, and compares the rows of each group by the last one's codes, up to the first difference. So a
-    /// verdict takes time by the rows of that partition, not by how many are kept. After want of memory the store is as useful as
-    /// before.
+    /// verdict takes time by the rows of that partition, not by how many are kept; one on few new rows takes time by them and the rows
+    /// with their codes in one column. After want of memory the store is as useful as before.
     pub fn validate<L: Ledger>(
         &mut self,
         alloc: Global,
         job: &Job,
         steps: &mut Steps<L>,
     ) -> Result<Verdict, AllocError>
-        requires same { self.old ≡ job.now.snapshot }
+        requires alike { Alike self.old job.now.snapshot }
         requires fitting { IsFitting job.now }
         ensures verdict { IfOk result (IsVerdict job.now) }
         ensures exactly { IfOk result (λ verdict. (verdict ≡ Holds job.now.to) ↔ (holds_in job.now.snapshot job.now.left job.now.target ≡ true)) }
@@ -85,7 +121,7 @@ impl Store {
         Ok(judge::verdict_of(job, &pairs))
     }
 
-    /// Pairs of live rows that break a job's dependency on the store's snapshot: up to so many, and none exactly where it holds.
+    /// Pairs of live rows that break a job's dependency, on a store of the same rows: up to so many, and none exactly where it holds.
     ///
     /// Of each pair the smaller number comes first, and the two rows agree on the left side and differ on the target. No two pairs
     /// come from one group of rows that agree on the left side. The work of a verdict that fails is nearly all in the refining of
@@ -101,7 +137,7 @@ impl Store {
         steps: &mut Steps<L>,
     ) -> Result<Vec<(RowNo, RowNo)>, AllocError>
         requires some { 0 < most }
-        requires same { self.old ≡ job.now.snapshot }
+        requires alike { Alike self.old job.now.snapshot }
         requires fitting { IsFitting job.now }
         ensures pairs { IfOk result (λ pairs. All (λ pair. IsVerdict job.now (Broken pair.0 pair.1)) pairs.items) }
         ensures groups { IfOk result (λ pairs. AreApart job.now.snapshot job.now.left pairs.items) }
@@ -129,7 +165,7 @@ impl Store {
         self.shelf.weights(alloc, &self.snapshot)
     }
 
-    // Searches for pairs that break a job's dependency, and keeps the partitions that are made for it, for good or as the path.
+    // Searches for pairs that break a job's dependency.
     fn search<L: Ledger>(
         &mut self,
         alloc: Global,
@@ -138,14 +174,84 @@ impl Store {
         steps: &mut Steps<L>,
     ) -> Result<Vec<(RowNo, RowNo)>, AllocError>
         requires some { 0 < most }
-        requires same { self.old ≡ job.now.snapshot }
+        requires alike { Alike self.old job.now.snapshot }
         requires fitting { IsFitting job.now }
         ensures pairs { IfOk result (λ pairs. AreFound job.now.snapshot job.now.left job.now.target pairs.items) }
         ensures few { IfOk result (λ pairs. vec_len pairs ≤ most) }
         ensures steps { steps.new ≤ steps.old + new_rows job.now.snapshot job.now.from }
         ensures store { self.new ≡ self.old }
     {
-        let found = self.shelf.search(alloc, job, most, &mut self.slots, steps);
+        let asked = Asked {
+            left: job.left(),
+            target: job.target(),
+            from: job.from(),
+            most,
+        };
+        match self.column_for(&asked) {
+            Some(column) => self.look_up(alloc, &asked, column, steps),
+            None => self.search_groups(alloc, &asked, steps),
+        }
+    }
+
+    // The column of the left side by which new rows are looked up, where they are few: the one that tells the most rows apart, as far
+    // as that is known.
+    fn column_for(&self, asked: &Asked) -> Option<u8>
+        ensures { IfSome result (λ column. has asked.now.left column ≡ true) }
+    {
+        let first = asked.left.first()?;
+        let column = lightest(asked.left, first, &self.shelf.order);
+        let rows = self.snapshot.live_count();
+        let new = self
+            .snapshot
+            .to()
+            .number()
+            .saturating_sub(asked.from.number());
+        let values = rows.saturating_sub(self.shelf.order[column as usize]);
+        let are_few = rows <= FEW_ROWS || (new <= rows / 8 && new <= values / 2);
+        if asked.from.number() > 1 && are_few {
+            Some(column)
+        } else {
+            None
+        }
+    }
+
+    // Looks up each new row among the rows with its code in a column.
+    fn look_up<L: Ledger>(
+        &mut self,
+        alloc: Global,
+        asked: &Asked,
+        column: u8,
+        steps: &mut Steps<L>,
+    ) -> Result<Vec<(RowNo, RowNo)>, AllocError>
+        requires asked { IsAsked self.old asked.now }
+        requires column { has asked.now.left column ≡ true }
+        ensures pairs { IfOk result (λ pairs. AreFound self.old asked.now.left asked.now.target pairs.items) }
+        ensures few { IfOk result (λ pairs. vec_len pairs ≤ asked.now.most) }
+        ensures steps { steps.new ≤ steps.old + new_rows self.old asked.now.from }
+        ensures store { self.new ≡ self.old }
+    {
+        let kept = mem::replace(&mut self.links, Vec::new(alloc));
+        let mut links = links::up_to_date(alloc, self.earlier.take(), &self.snapshot, kept);
+        let found = links::look_up(alloc, &self.snapshot, &mut links, column, asked, steps);
+        self.links = links;
+        found
+    }
+
+    // Searches the groups by the left side, and keeps the partitions that are made for it, for good or as the path.
+    fn search_groups<L: Ledger>(
+        &mut self,
+        alloc: Global,
+        asked: &Asked,
+        steps: &mut Steps<L>,
+    ) -> Result<Vec<(RowNo, RowNo)>, AllocError>
+        requires { IsAsked self.old asked.now }
+        ensures pairs { IfOk result (λ pairs. AreFound self.old asked.now.left asked.now.target pairs.items) }
+        ensures few { IfOk result (λ pairs. vec_len pairs ≤ asked.now.most) }
+        ensures steps { steps.new ≤ steps.old + new_rows self.old asked.now.from }
+        ensures store { self.new ≡ self.old }
+    {
+        let shelf = &mut self.shelf;
+        let found = shelf.search(alloc, &self.snapshot, asked, &mut self.slots, steps);
         if found.is_err() {
             self.slots = Vec::new(alloc);
         }
