@@ -1,5 +1,5 @@
 -- One turn of `finish`: the first unfinished candidate is validated, and its verdict is booked.
-use Rattle.std.proofs.Common.{inl, inr, ◌≡◌, ℕ, ◌<◌, Bool, true, false, not, refl, sym, ap, ◌∙◌, subst, List, [], ◌∷◌, ◌++◌, length, length-append, Option, Some, None, Result, Ok, Err, IfOk, IsTrue, ◌↔◌}
+use Rattle.std.proofs.Common.{inl, inr, ◌≡◌, ℕ, ◌<◌, Bool, true, false, not, refl, sym, ap, ◌∙◌, subst, List, [], ◌∷◌, ◌++◌, length, length-append, Option, Some, None, Result, Ok, Err, IfOk, OnErr, IsTrue, ◌↔◌}
 use Rattle.std.specs.Option.{is_some, option_map}
 use Rattle.std.proofs.lemmas.Bool.{true≢false, false≢true, eq-eqb}
 use Rattle.std.proofs.lemmas.List.{append_assoc, append-nil}
@@ -69,6 +69,10 @@ settled-first s first b is i = settled-is s (first_unfinished s) b refl (sym (so
     some-map : (o : Option (Target × Cand)) → is_some (option_map place o) ≡ is_some o
     some-map None = refl
     some-map (Some e) = refl
+
+pub on-err : {X E : Type 0} (r : Result X E) (P : Type 0) → P → OnErr r P
+on-err (Ok x) P h = tt
+on-err (Err e) P h = h
 
 pub both-ok : {X E : Type 0} (r : Result X E) (P Q R : X → Type 0) → IfOk r P → IfOk r Q → ((x : X) → P x → Q x → R x) → IfOk r R
 both-ok (Ok x) P Q R p q f = f x p q

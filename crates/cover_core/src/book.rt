@@ -8,7 +8,8 @@ ghost use Rattle.rel_base.specs.RowState.{opened, width};
 ghost use Rattle.rel_base.specs.Shows.{holds_in};
 ghost use Rattle.rel_base.specs.Covers.{covers};
 ghost use Rattle.rel_base.specs.Batches.{IsAsWide};
-ghost use Rattle.cover_steps.specs.Core.{opened_core, entries, first_unfinished as first_unfinished_of};
+ghost use Rattle.rel_base.specs.Validity.{agree_of};
+ghost use Rattle.cover_steps.specs.Core.{opened_core, entries, refutes_some, first_drawable as first_drawable_of, first_unfinished as first_unfinished_of};
 ghost use Rattle.cover_steps.specs.Steps as steps;
 ghost use Rattle.cover_steps.specs.Sound.{Sound, Fits, IsMarked};
 ghost use Rattle.cover_core.specs.Evidences.{IsEvidence};
@@ -117,12 +118,14 @@ impl Book {
 
     /// The first candidate, by target and in report order, that is unfinished and not held, as a job; it is held from then on.
     ///
-    /// It goes on from where the last draw ended: candidates that are finished or held are passed over once, and again only after
-    /// a call that made new candidates, applied a batch, gave a job back or marked one that came late. It fails only where no
-    /// further owner of the snapshot can be counted, and then nothing changed.
+    /// It goes on from where the last draw ended: candidates that are finished or held are passed over once. A call that made new
+    /// candidates, gave a job back or marked one that came late takes the search back to the first of these, and no further;
+    /// after a batch it begins anew. It fails only where a job is to be made and no further owner of the snapshot can be counted,
+    /// and then nothing changed.
     pub fn draw(&mut self) -> Result<Draw, AllocError>
         ensures step { IfOk result (λ draw. steps.Drawing self.old (reply_of_draw draw) self.new) }
         ensures refused { OnErr result (self.new ≡ self.old) }
+        ensures wanted { OnErr result (first_drawable_of self.old ≢ None) }
         ensures drawn { IfOk result (λ draw. IfJob draw (Fits self.new.rows)) }
         ensures rows { self.new.rows ≡ self.old.rows }
         ensures fits { (job : JobParts) → Fits self.old.rows job → Fits self.new.rows job }
@@ -149,12 +152,13 @@ impl Book {
 
     /// Says that two different rows agree on some columns only, which refutes dependencies.
     ///
-    /// It takes a step a candidate, and copies the lists of those targets of which their agree set refutes a candidate.
-    /// After want of memory nothing changed; `Gone` and `Known` take no memory.
+    /// It takes a step a witness, which tells the targets of which their agree set refutes a candidate, and copies the lists of
+    /// these alone. It fails only where there are such targets, and then nothing changed: `Gone` and `Known` take no memory.
     pub fn refute(&mut self, i: RowNo, j: RowNo) -> Result<Refutation, AllocError>
         requires { i ≢ j }
         ensures step { IfOk result (λ refutation. steps.Refuting self.old i j (reply_of_refutation refutation) self.new) }
         ensures refused { OnErr result (self.new ≡ self.old) }
+        ensures wanted { OnErr result (steps.AreLive self.old.rows i j × (refutes_some self.old (agree_of self.old.rows i j) ≡ true)) }
         ensures rows { self.new.rows ≡ self.old.rows }
         ensures fits { (job : JobParts) → Fits self.old.rows job → Fits self.new.rows job }
         ensures sound { Sound self.new }
@@ -259,11 +263,12 @@ impl Book {
         }
     }
 
-    /// The covers of the rows, where each candidate is known to hold in all rows, or else the first candidate that is not.
-    /// Want of memory comes only where the covers are to be made.
+    /// The covers of the rows, where each candidate is known to hold in all rows, or else the first candidate that is not, which
+    /// takes a look alone. Want of memory comes only where the covers are to be made.
     pub fn settle(&self) -> Result<Settling, AllocError>
         ensures step { IfOk result (λ settling. steps.Settling self.now (reply_of_settle settling) self.now) }
         ensures exact { IfOk result (λ settling. IfReady settling (λ found. found ≡ covers self.now.rows)) }
+        ensures wanted { OnErr result (first_unfinished_of self.now ≡ None) }
     {
         match self.first() {
             Some(first) => Ok(Settling::NotYet {
@@ -275,7 +280,7 @@ impl Book {
         }
     }
 
-    /// Whether each candidate is known to hold in all rows. It takes no memory.
+    /// Whether each candidate is known to hold in all rows. It takes a look, and no memory.
     pub fn settled(&self) -> bool
         ensures { IsTrue result ↔ (first_unfinished_of self.now ≡ None) }
     {

@@ -161,16 +161,16 @@ pub(crate) fn move_both_back(
         candidates,
         concerned,
         &mut cursors.unfinished,
-        |cand: Cand| -> bool
-            ensures { result ≡ is_unfinished next cand }
-        { cand.upto < next },
+        |new: Cand| -> bool
+            ensures { result ≡ is_unfinished next new }
+        { new.upto < next },
     );
     move_back(
         candidates,
         concerned,
         &mut cursors.drawable,
-        |cand: Cand| -> bool
-            ensures { result ≡ is_drawable next cand }
-        { cand.upto < next && !cand.held },
+        |new: Cand| -> bool
+            ensures { result ≡ is_drawable next new }
+        { new.upto < next && !new.held },
     );
 }

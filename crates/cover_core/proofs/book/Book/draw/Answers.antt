@@ -5,7 +5,8 @@ use Rattle.cover_core.specs.Past.{IsPast}
 use Rattle.cover_core.specs.Replies.{reply_of_draw}
 use Rattle.cover_core.specs.declared.answers.Draw.{Draw}
 use Rattle.cover_core.proofs.Calls.{with_lists}
-use Rattle.cover_core.proofs.Whole.{DrawAll, draw-all, draw-target, none_drawable}
+use Rattle.cover_core.proofs.Whole.{DrawAll, draw-all, draw-target, none_drawable, some_drawable}
+use Rattle.cover_core.proofs.Turn.{on-err}
 use Rattle.cover_core.proofs.Cursors.{past-held, to_search, searched, first-told, first-none}
 use Rattle.cover_core.proofs.book.Book.draw.Goals as goal
 
@@ -51,3 +52,6 @@ returns-after-first-clause-step c =
           subst (λ (m : Core). steps.Drawing m (reply_of_draw c.match-first.result) same) c.self.view_is
           (subst (λ (d : Draw). steps.Drawing same (reply_of_draw d) same) (sym w.result-is) (first-none same c.first.result c.first.ensures w.in-None-first.is, refl))
     ]
+
+pub returns-in_err-snapshot-in-Some-clause-wanted : goal.returns-in_err-snapshot-in-Some-clause-wanted
+returns-in_err-snapshot-in-Some-clause-wanted c = on-err c.from_residual.result _ (some_drawable _ _ _ c.self.invariant.0 c.self.view_is c.next-next.result c.first_drawable.result (c.in-Some.target, c.in-Some.cand) c.next-next.ensures.value c.first_drawable.ensures.found c.in-Some.is)

@@ -5,6 +5,7 @@ use Rattle.cover_core.specs.Concerning.{AreConcerned}
 use Rattle.cover_core.proofs.Calls.{are_least}
 use Rattle.cover_core.proofs.Concerning.{known-found, news-found, same-unconcerned, renewed-width}
 use Rattle.cover_core.proofs.Whole.{RefuteAll, refute-all, live-found}
+use Rattle.cover_core.proofs.Turn.{on-err}
 use Rattle.cover_core.proofs.Cursors.{past-but, past-moved, searched}
 use Rattle.cover_core.proofs.book.Book.refute.Goals as goal
 
@@ -32,3 +33,9 @@ returns-clause-step c = (live-found _ _ _ c.self.invariant.0 c.self.view_is c.ar
 
 pub returns-clause-sound : goal.returns-clause-sound
 returns-clause-sound c = (refute-all _ _ _ c.self.invariant.0 c.self.view_is c.args.i c.args.j c.agree-agree.result c.add.new.self c.put_all.new.candidates c.requires (live-found _ _ _ c.self.invariant.0 c.self.view_is c.args.i c.args.j c.is_live.result c.is_live-2.result c.is_live.ensures.value c.if-not-is_live.false c.is_live-2.ensures.value c.if-not-is_live-2.false) (news-found _ _ _ c.self.invariant.0 c.self.view_is c.args.i c.args.j c.agree-agree.result c.columns.result c.by-concerned.result c.agree-agree.ensures c.columns.ensures.width c.by-concerned.ensures (λ none. false≢true (sym c.if-is_none.false ∙ c.is_none.ensures.1 none))) c.agree-agree.ensures c.in_ok-add.ensures.ok (c.put_all.ensures _ (c.in_ok-parts.ensures (sets_of c.self.inside.witnesses) (are_least _ _ c.self.invariant.0) (subst (λ (n : ℕ). AreConcerned n (sets_of c.self.inside.witnesses) c.agree-agree.result c.by-concerned.result) c.columns.ensures.width c.by-concerned.ensures)))).kept.sound
+
+pub returns-in_err-parts-clause-wanted : goal.returns-in_err-parts-clause-wanted
+returns-in_err-parts-clause-wanted c = on-err c.from_residual.result _ (live-found _ _ _ c.self.invariant.0 c.self.view_is c.args.i c.args.j c.is_live.result c.is_live-2.result c.is_live.ensures.value c.if-not-is_live.false c.is_live-2.ensures.value c.if-not-is_live-2.false, news-found _ _ _ c.self.invariant.0 c.self.view_is c.args.i c.args.j c.agree-agree.result c.columns.result c.by-concerned.result c.agree-agree.ensures c.columns.ensures.width c.by-concerned.ensures (λ none. false≢true (sym c.if-is_none.false ∙ c.is_none.ensures.1 none)))
+
+pub returns-in_err-add-clause-wanted : goal.returns-in_err-add-clause-wanted
+returns-in_err-add-clause-wanted c = on-err c.from_residual-in_err-add.result _ (live-found _ _ _ c.self.invariant.0 c.self.view_is c.args.i c.args.j c.is_live.result c.is_live-2.result c.is_live.ensures.value c.if-not-is_live.false c.is_live-2.ensures.value c.if-not-is_live-2.false, news-found _ _ _ c.self.invariant.0 c.self.view_is c.args.i c.args.j c.agree-agree.result c.columns.result c.by-concerned.result c.agree-agree.ensures c.columns.ensures.width c.by-concerned.ensures (λ none. false≢true (sym c.if-is_none.false ∙ c.is_none.ensures.1 none)))
