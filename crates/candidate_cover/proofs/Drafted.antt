@@ -1,11 +1,11 @@
 -- A draft's lists as candidates with marks, and the other way round.
-use Rattle.std.proofs.Common.{◌≡◌, ℕ, ◌+◌, ◌≤◌, Bool, true, false, cond, eqb, refl, sym, ap, ap₂, ◌∙◌, subst, arith, List, [], ◌∷◌, ◌++◌, length, map, get_or, take, Some, None, Vec}
+use Rattle.std.proofs.Common.{◌≡◌, ℕ, ◌+◌, ◌≤◌, Bool, true, false, cond, eqb, refl, sym, ap, ap₂, ◌∙◌, subst, arith, List, [], ◌∷◌, ◌++◌, length, map, get_or, Some, None, Vec}
 use Rattle.std.specs.List.{find}
 use Rattle.std.specs.declared.alloc.Global.{Global}
 use Rattle.std.specs.Option.{unwrap_or, option_map}
 use Rattle.std.proofs.lemmas.Bool.{eqb-true}
 use Rattle.std.proofs.lemmas.Option.{same_Some, none-some}
-use Rattle.std.proofs.lemmas.List.{take_all, map-append, length-map}
+use Rattle.std.proofs.lemmas.List.{map-append, length-map}
 use Rattle.std.proofs.lemmas.List.FromFn.{length-map-range_with_len, get_or-map-range_with_len}
 use Rattle.col_set.specs.declared.target.Target.{Target}
 use Rattle.col_set.specs.declared.target.Target.TheVariants.{Col, RowId}
@@ -16,8 +16,7 @@ use Rattle.col_set.specs.Lists.{Rises}
 use Rattle.col_set.proofs.Places.{same_rising}
 use Rattle.col_set.proofs.More.{Rises-least}
 use Rattle.col_set.proofs.Least.{Listed-least, IsLeast-listed}
-use Rattle.set_tree.specs.Pairs.{keys, IsInOrder, value_at}
-use Rattle.set_tree.proofs.Added.{keys-listed}
+use Rattle.candidate_cover.specs.Pairs.{value_at}
 use Rattle.candidate_cover.specs.declared.cand.Cand.{Cand}
 use Rattle.candidate_cover.specs.declared.cand.Mark.{Mark}
 use Rattle.candidate_cover.specs.Lists.{CandLists}
@@ -27,7 +26,7 @@ use Rattle.candidate_cover.specs.Drafts.{AreLeast, AreDrafted, lists_behind}
 use Rattle.candidate_cover.specs.Marks.{cand, cands, fresh_mark, HasMembers}
 use Rattle.candidate_cover.proofs.Evidence.{among_from, least_from, lists_least}
 use Rattle.candidate_cover.proofs.Growing.{upto_more}
-use Rattle.candidate_cover.proofs.Parts.{lefts-cands, found_fresh}
+use Rattle.candidate_cover.proofs.Parts.{found_fresh}
 use Rattle.candidate_cover.proofs.Remarked.{no_key_of_none}
 
 -- ---- marks
@@ -53,14 +52,6 @@ kept_value (p ∷ ps) x v e = by (eqb p.0 x) refl e (kept_value ps x v)
 
 pub kept_none : (ps : List (ℕ × Mark)) (x : ℕ) (m : Mark) → m ≡ fresh_mark → None ≡ value_at ps x → cand (x, m) ≡ kept_or_fresh (cands ps) x
 kept_none ps x m f e = ap (λ (m : Mark). cand (x, m)) f ∙ sym (ap (λ r. unwrap_or r (fresh x)) (found_fresh ps x (no_key_of_none ps x e)))
-
--- ---- order
-keys_order : (ps : List (ℕ × Mark)) → Rises report_cmp (keys ps) → IsInOrder ps
-keys_order [] r = tt
-keys_order (p ∷ ps) r = ((λ q h. r.0 q.0 (keys-listed ps q h)), keys_order ps r.1)
-
-pub marked_order : (ps : List (ℕ × Mark)) (cs : List Cand) (xs : List ℕ) (i : ℕ) → cands ps ≡ map (kept_or_fresh cs) (take i xs) → length xs ≤ i → Rises report_cmp xs → IsInOrder ps
-marked_order ps cs xs i e l r = keys_order ps (subst (Rises report_cmp) (sym (sym (lefts-cands ps) ∙ ap lefts e ∙ lefts_kept cs (take i xs) ∙ take_all i xs l)) r)
 
 -- ---- left sides
 pub lists_members : (u : ℕ) (ws : List ℕ) (t : Target) (xs ys : List ℕ) → HasMembers xs ys → ListsLeast u ws t xs → ListsLeast u ws t ys

@@ -1,10 +1,14 @@
+pub mod Cuts
 pub mod Drafted
 pub mod Drafting
 pub mod Evidence
-pub mod Growing
 pub mod Exploring
+pub mod Flat
+pub mod Growing
 pub mod Parts
+pub mod Places
 pub mod Remarked
 pub mod Sorting
 pub mod Splitting
 pub mod Targets
+pub mod Toggling

@@ -2,28 +2,27 @@
 use Rattle.std.proofs.Common.{inl, inr, ◌≡◌, ◌⊎◌, ℕ, Bool, true, false, cond, not, eqb, refl, sym, ap, ap₂, ◌∙◌, subst, List, [], ◌∷◌, ◌++◌, map, Some, None}
 use Rattle.std.specs.List.{filter, find, list_any}
 use Rattle.std.specs.Option.{unwrap_or}
-use Rattle.std.proofs.lemmas.Bool.{true≢false, false_from_ne_true, not-true, eq-eqb, or_parts, cases_Bool}
+use Rattle.std.proofs.lemmas.Bool.{true≢false, false_from_ne_true, not-true, not_from_false, eq-eqb, or_parts, cases_Bool}
 use Rattle.col_set.specs.declared.target.Target.{Target}
-use Rattle.col_set.specs.ColSet.{IsSubset, with, subset, report_cmp}
+use Rattle.col_set.specs.ColSet.{IsSubset, has, subset, report_cmp}
 use Rattle.col_set.specs.Columns.{report_total}
 use Rattle.col_set.specs.Target.{has_target}
 use Rattle.col_set.specs.Evidence.{refuted, least}
-use Rattle.col_set.specs.Subsets.{IsSubset-refl, IsSubset-trans, IsSubset-antisymm, subset-true, true-subset, has-with_itself}
-use Rattle.col_set.specs.Lists.{Listed, Rises, Rises-filter, Listed-filter, Listed-filter_parts, Listed-append_cases, Listed-append_left, Listed-append_right, list_any_at, list_any_which}
+use Rattle.col_set.specs.Subsets.{IsSubset-refl, IsSubset-trans, IsSubset-antisymm, IsSubset-with, subset-true, true-subset, has-with_itself}
+use Rattle.col_set.specs.Lists.{Listed, Rises, Listed-filter, Listed-filter_parts, Listed-append_cases, Listed-append_left, Listed-append_right, list_any_at, list_any_which}
 use Rattle.col_set.proofs.Places.{same_rising}
 use Rattle.col_set.proofs.More.{Rises-least}
 use Rattle.col_set.proofs.Least.{Listed-least, IsLeast-listed}
-use Rattle.set_tree.specs.Pairs.{keys, IsInOrder, is_key, added, inside as inside_pairs, not_inside}
-use Rattle.set_tree.proofs.Places.{apart_from_less}
-use Rattle.set_tree.proofs.Merging.{IsInOrder-added}
-use Rattle.set_tree.proofs.Added.{keys-listed, Rises-keys, keys-filter, is_key-listed, no_key, IsNew, added_has, added_only, keys_added, added_keys}
+use Rattle.candidate_cover.specs.Pairs.{keys, IsInOrder, is_key}
+use Rattle.candidate_cover.proofs.Places.{apart_from_less}
+use Rattle.candidate_cover.proofs.Toggling.{keys-listed, listed-keys, Rises-keys, is_key-listed, key_which, IsToggled, toggled_is}
 use Rattle.candidate_cover.specs.declared.cand.Cand.{Cand}
 use Rattle.candidate_cover.specs.declared.cand.Mark.{Mark}
 use Rattle.candidate_cover.specs.Cands.{lefts, fresh, kept_or_fresh}
-use Rattle.candidate_cover.specs.Growth.{choices, IsLeastAmong, ListsLeast, near, grown, IsExplored}
-use Rattle.candidate_cover.specs.Marks.{cand, cands, fresh_mark, HasMembers, IsGrown, IsGeneralised}
+use Rattle.candidate_cover.specs.Growth.{choices, IsLeastAmong, ListsLeast, inside, outside, near, grown, IsExplored}
+use Rattle.candidate_cover.specs.Marks.{cand, cands, fresh_mark, IsGrown, IsGeneralised}
 use Rattle.candidate_cover.proofs.Evidence.{among_from, least_from, lists_least, choice_parts, stands_left, stands_right, stands_both, HasLeast, least_under}
-use Rattle.candidate_cover.proofs.Growing.{lists_after, grown_parts, not_inside as lies_outside}
+use Rattle.candidate_cover.proofs.Growing.{lists_after, Grows, grown_parts}
 
 pub lefts-cands : (ps : List (ℕ × Mark)) → lefts (cands ps) ≡ keys ps
 lefts-cands [] = refl
@@ -66,125 +65,159 @@ keys_least n ws t new o f g = lefts-cands new ∙ same_rising report_total (keys
     (λ x h. Listed-least n ws t x (least_from n ws t x (f x h)))
     (λ x h. g x (among_from n ws t x (IsLeast-listed n ws t x h)))
 
--- the left sides of a list to which sets were added
-module _ (ps : List (ℕ × Mark)) (xs found : List ℕ) (new : List (ℕ × Mark)) (m : HasMembers found xs) (is : new ≡ added ps xs fresh_mark) where
-  left_of : (x : ℕ) → Listed x (keys new) → Listed x (keys ps) ⊎ Listed x found
-  left_of x h = elim (keys_added ps xs fresh_mark x (subst (λ (qs : List (ℕ × Mark)). Listed x (keys qs)) is h)) as (λ _. Listed x (keys ps) ⊎ Listed x found) [ inl g ↦ inl g | inr g ↦ inr (m.each x g) ]
+-- the left sides of a list in which sets changed sides
+module _ (old : List (ℕ × Mark)) (xs : List ℕ) (new : List (ℕ × Mark)) (t : IsToggled old xs fresh_mark new) where
+  left_of : (x : ℕ) → Listed x (keys new) → (Listed x (keys old) × (Listed x xs → ⊥)) ⊎ (Listed x xs × (is_key old x ≡ false))
+  left_of x h =
+      let w = listed-keys new x h in
+      elim (t.each w.0 w.1) as (λ _. (Listed x (keys old) × (Listed x xs → ⊥)) ⊎ (Listed x xs × (is_key old x ≡ false))) [
+        | inl i ↦ inl (subst (λ (y : ℕ). Listed y (keys old)) (sym w.2) (keys-listed old w.0 i.listed), λ g. i.apart (subst (λ (y : ℕ). Listed y xs) w.2 g))
+        | inr i ↦ inr (subst (λ (y : ℕ). Listed y xs) (sym w.2) i.listed, ap (is_key old) w.2 ∙ i.absent)
+      ]
 
-  kept_left : (x : ℕ) → Listed x (keys ps) → Listed x (keys new)
-  kept_left x h = subst (λ (qs : List (ℕ × Mark)). Listed x (keys qs)) (sym is) (added_keys ps xs fresh_mark x h)
+  kept_left : (x : ℕ) → Listed x (keys old) → (Listed x xs → ⊥) → Listed x (keys new)
+  kept_left x h f =
+      let w = listed-keys old x h in
+      subst (λ (y : ℕ). Listed y (keys new)) (sym w.2) (keys-listed new w.0 (t.old w.0 (record { listed = w.1; apart = λ g. f (subst (λ (y : ℕ). Listed y xs) (sym w.2) g) })))
 
-  new_left : (x : ℕ) → Listed x found → Listed x (keys new)
-  new_left x h = subst (λ (qs : List (ℕ × Mark)). Listed x (keys qs)) (sym is) (added_has ps xs fresh_mark x (m.every x h))
+  new_left : (x : ℕ) → Listed x xs → is_key old x ≡ false → Listed x (keys new)
+  new_left x h e = keys-listed new (x, fresh_mark) (t.added x h e)
+
+  toggled_keeps : Keeps old new
+  toggled_keeps = record { each = λ p h. elim (t.each p h) as (λ _. Listed p old ⊎ ((p.1 ≡ fresh_mark) × (is_key old p.0 ≡ false))) [ inl i ↦ inl i.listed | inr i ↦ inr (i.value, i.absent) ] }
+
+key_listed : (ps : List (ℕ × Mark)) (x : ℕ) → Listed x (keys ps) → is_key ps x ≡ true
+key_listed ps x h = let w = listed-keys ps x h in is_key-listed ps w.0 x w.1 (sym w.2)
+
+listed_key : (ps : List (ℕ × Mark)) (x : ℕ) → is_key ps x ≡ true → Listed x (keys ps)
+listed_key ps x e = let w = key_which ps x e in subst (λ (y : ℕ). Listed y (keys ps)) w.2 (keys-listed ps w.0 w.1)
+
+no_key_from : (ps : List (ℕ × Mark)) (x : ℕ) → (Listed x (keys ps) → ⊥) → is_key ps x ≡ false
+no_key_from ps x f = false_from_ne_true _ (λ e. f (listed_key ps x e))
 
 -- ---- after one more agree set
 module _ (n : ℕ) (t : Target) (z : ℕ) (old new : List (ℕ × Mark)) (g : IsGrown n t z old new) where
-  pub grown_order : IsInOrder new
-  grown_order = subst IsInOrder (sym g.is) (IsInOrder-added fresh_mark (not_inside old z) g.sets g.order)
+  made : IsToggled old g.sets fresh_mark new
+  made = subst (IsToggled old g.sets fresh_mark) (sym g.is) (toggled_is old g.sets fresh_mark g.from g.order)
+
+  abbrev ins : List ℕ
+  ins = inside z (keys old)
+
+  abbrev outs : List ℕ
+  outs = outside z (keys old)
+
+  abbrev more : List ℕ
+  more = grown n (choices n t) z ins (near z outs)
 
   pub grown_least : has_target z t ≡ false → (ws : List ℕ) → lefts (cands old) ≡ least n ws t → lefts (cands new) ≡ least n (ws ++ z ∷ []) t
-  grown_least apart ws e = keys_least n (ws ++ z ∷ []) t new grown_order
-      (λ x h. only x (left_of (not_inside old z) g.sets (grown n (choices n t) z (keys (inside_pairs old z)) (near z (keys (not_inside old z)))) new g.members g.is x h))
-      (λ x i. every x (Listed-append_cases x (keys (not_inside old z)) (grown n (choices n t) z (keys (inside_pairs old z)) (near z (keys (not_inside old z)))) (after.every x i)))
+  grown_least apart ws e = keys_least n (ws ++ z ∷ []) t new made.order
+      (λ x h. only x (left_of old g.sets new made x h))
+      (λ x i. every x (Listed-append_cases x outs more (after.every x i)))
     where
       before : ListsLeast (choices n t) ws t (keys old)
       before = subst (ListsLeast (choices n t) ws t) (sym (sym (lefts-cands old) ∙ e)) (lists_least n ws t)
 
-      after : ListsLeast (choices n t) (ws ++ z ∷ []) t (keys (not_inside old z) ++ grown n (choices n t) z (keys (inside_pairs old z)) (near z (keys (not_inside old z))))
-      after = subst (ListsLeast (choices n t) (ws ++ z ∷ []) t)
-          (sym (ap₂ (λ (o i : List ℕ). o ++ grown n (choices n t) z i (near z o)) (keys-filter (λ x. not (subset x z)) old) (keys-filter (λ x. subset x z) old)))
-          (lists_after n (choices n t) ws t z (choice_parts n t (choices n t) (IsSubset-refl (choices n t))).0 apart (keys old) before)
+      after : ListsLeast (choices n t) (ws ++ z ∷ []) t (outs ++ more)
+      after = lists_after n (choices n t) ws t z (choice_parts n t (choices n t) (IsSubset-refl (choices n t))).0 apart (keys old) before
 
-      only : (x : ℕ) → Listed x (keys (not_inside old z)) ⊎ Listed x (grown n (choices n t) z (keys (inside_pairs old z)) (near z (keys (not_inside old z)))) → IsLeastAmong (choices n t) (ws ++ z ∷ []) t x
-      only x (inl h) = after.each x (Listed-append_left x (keys (not_inside old z)) (grown n (choices n t) z (keys (inside_pairs old z)) (near z (keys (not_inside old z)))) h)
-      only x (inr h) = after.each x (Listed-append_right x (keys (not_inside old z)) (grown n (choices n t) z (keys (inside_pairs old z)) (near z (keys (not_inside old z)))) h)
+      -- a set that grows was no left side before
+      unknown : (x : ℕ) → Listed x more → Listed x (keys old) → ⊥
+      unknown x h k =
+          let w : Grows n (choices n t) z ins (near z outs) x = grown_parts n (choices n t) z ins (near z outs) x h in
+          let q = Listed-filter_parts (λ x. subset x z) w.from (keys old) w.listed in
+          let same : w.from ≡ x = (before.each x k).smallest w.from (subst (IsSubset w.from) (sym w.same) (IsSubset-with w.from w.column)) (before.each w.from q.0).stands in
+          true≢false (sym ((subset-true q.1).each w.column (ap (λ (v : ℕ). has v w.column) (same ∙ w.same) ∙ has-with_itself w.from w.column)) ∙ w.out)
 
-      every : (x : ℕ) → Listed x (keys (not_inside old z)) ⊎ Listed x (grown n (choices n t) z (keys (inside_pairs old z)) (near z (keys (not_inside old z)))) → Listed x (keys new)
-      every x (inl h) = kept_left (not_inside old z) g.sets (grown n (choices n t) z (keys (inside_pairs old z)) (near z (keys (not_inside old z)))) new g.members g.is x h
-      every x (inr h) = new_left (not_inside old z) g.sets (grown n (choices n t) z (keys (inside_pairs old z)) (near z (keys (not_inside old z)))) new g.members g.is x h
+      changed : (x : ℕ) → Listed x g.sets → Listed x ins ⊎ Listed x more
+      changed x h = Listed-append_cases x ins more (g.members.each x h)
+
+      only : (x : ℕ) → (Listed x (keys old) × (Listed x g.sets → ⊥)) ⊎ (Listed x g.sets × (is_key old x ≡ false)) → IsLeastAmong (choices n t) (ws ++ z ∷ []) t x
+      only x (inl h) = after.each x (Listed-append_left x outs more (Listed-filter (λ x. not (subset x z)) x (keys old) h.0 (not_from_false _ (false_from_ne_true _ (λ s.
+          h.1 (g.members.every x (Listed-append_left x ins more (Listed-filter (λ x. subset x z) x (keys old) h.0 s))))))))
+      only x (inr h) = elim (changed x h.0) as (λ _. IsLeastAmong (choices n t) (ws ++ z ∷ []) t x) [
+        | inl i ↦ absurd (true≢false (sym (key_listed old x (Listed-filter_parts (λ x. subset x z) x (keys old) i).0) ∙ h.1))
+        | inr i ↦ after.each x (Listed-append_right x outs more i)
+      ]
+
+      every : (x : ℕ) → Listed x outs ⊎ Listed x more → Listed x (keys new)
+      every x (inl h) =
+          let q = Listed-filter_parts (λ x. not (subset x z)) x (keys old) h in
+          kept_left old g.sets new made x q.0 (λ c. elim (changed x c) as (λ _. ⊥) [
+            | inl i ↦ true≢false (sym (Listed-filter_parts (λ x. subset x z) x (keys old) i).1 ∙ not-true _ q.1)
+            | inr i ↦ unknown x i q.0
+          ])
+      every x (inr h) = new_left old g.sets new made x (g.members.every x (Listed-append_right x ins more h)) (no_key_from old x (unknown x h))
 
   pub grown_marks : Keeps old new
-  grown_marks = record { each = λ p h. each p (added_only (not_inside old z) g.sets fresh_mark p (subst (λ (qs : List (ℕ × Mark)). Listed p qs) g.is h)) }
-    where
-      -- a set that grows lies not inside z
-      out : (x : ℕ) → Listed x g.sets → subset x z ≡ false
-      out x h =
-          let w = grown_parts n (choices n t) z (keys (inside_pairs old z)) (near z (keys (not_inside old z))) x (g.members.each x h) in
-          ap (λ v. subset v z) w.same ∙ lies_outside (with w.from w.column) z w.column (has-with_itself w.from w.column) w.out
-
-      each : (p : ℕ × Mark) → Listed p (not_inside old z) ⊎ IsNew (not_inside old z) g.sets fresh_mark p → Listed p old ⊎ ((p.1 ≡ fresh_mark) × (is_key old p.0 ≡ false))
-      each p (inl h) = inl (Listed-filter_parts (λ p. not (subset p.0 z)) p old h).0
-      each p (inr k) = inr (
-        k.value,
-        no_key old p.0 (λ q h e. true≢false (sym (is_key-listed (not_inside old z) q p.0
-            (Listed-filter (λ p. not (subset p.0 z)) q old h (ap not (ap (λ v. subset v z) e ∙ out p.0 k.listed))) e) ∙ k.absent)),
-      )
+  grown_marks = toggled_keeps old g.sets new made
 
 -- ---- after agree sets were withdrawn
-module _ (n : ℕ) (t : Target) (rest gone found : List ℕ) (old new : List (ℕ × Mark)) (o : IsInOrder old) (g : IsGeneralised found old new)
+module _ (n : ℕ) (t : Target) (rest gone found : List ℕ) (old new : List (ℕ × Mark)) (g : IsGeneralised found old new)
     (x : IsExplored (choices n t) rest gone t found) (e : lefts (cands old) ≡ least n (rest ++ gone) t) where
   before : ListsLeast (choices n t) (rest ++ gone) t (keys old)
   before = subst (ListsLeast (choices n t) (rest ++ gone) t) (sym (sym (lefts-cands old) ∙ e)) (lists_least n (rest ++ gone) t)
 
   abbrev above : ℕ → Bool
-  above y = list_any (λ v. subset v y) g.sets
+  above y = list_any (λ v. subset v y) found
 
-  abbrev left : List (ℕ × Mark)
-  left = filter (λ p. not (above p.0)) old
+  abbrev blocked : List ℕ
+  blocked = filter (λ y. list_any (λ v. subset v y) found) (keys old)
 
-  pub general_order : IsInOrder new
-  general_order = subst IsInOrder (sym g.is) (IsInOrder-added fresh_mark left g.sets (Rises-filter (λ p q. report_cmp p.0 q.0) (λ p. not (above p.0)) old o))
+  general : IsToggled old g.sets fresh_mark new
+  general = subst (IsToggled old g.sets fresh_mark) (sym g.is) (toggled_is old g.sets fresh_mark g.from g.order)
 
-  left_parts : (y : ℕ) → Listed y (keys left) → Listed y (keys old) × (above y ≡ false)
-  left_parts y h = let w = Listed-filter_parts (λ v. not (above v)) y (keys old) (subst (λ (vs : List ℕ). Listed y vs) (keys-filter (λ v. not (above v)) old) h) in (w.0, not-true _ w.1)
+  altered : (y : ℕ) → Listed y g.sets → Listed y found ⊎ Listed y blocked
+  altered y h = Listed-append_cases y found blocked (g.members.each y h)
 
-  left_from : (y : ℕ) → Listed y (keys old) → above y ≡ false → Listed y (keys left)
-  left_from y h i = subst (λ (vs : List ℕ). Listed y vs) (sym (keys-filter (λ v. not (above v)) old)) (Listed-filter (λ v. not (above v)) y (keys old) h (ap not i))
+  -- a found set was no left side before
+  unseen : (y : ℕ) → Listed y found → Listed y (keys old) → ⊥
+  unseen y h k = true≢false (sym (x.each y h).1 ∙ stands_right rest gone t y (before.each y k).stands)
 
-  only : (y : ℕ) → Listed y (keys left) ⊎ Listed y found → IsLeastAmong (choices n t) rest t y
-  only y (inr h) = (x.each y h).0
-  only y (inl h) =
-      let w = left_parts y h in
-      let i = before.each y w.0 in
+  found_above : (y : ℕ) → Listed y found → above y ≡ true
+  found_above y h = list_any_at (λ v. subset v y) y found h (true-subset (IsSubset-refl y))
+
+  stays : (y : ℕ) → Listed y (keys old) → above y ≡ false → IsLeastAmong (choices n t) rest t y
+  stays y h none =
+      let i = before.each y h in
       record {
         within = i.within;
         stands = stands_left rest gone t y i.stands;
-        smallest = λ v s r. at v s r i w.1 (least_under (choices n t) rest t v (IsSubset-trans s i.within) r);
+        smallest = λ v s r. at v s r i (least_under (choices n t) rest t v (IsSubset-trans s i.within) r);
       }
     where
-      at : (v : ℕ) → IsSubset v y → refuted rest t v ≡ false → IsLeastAmong (choices n t) (rest ++ gone) t y → above y ≡ false → HasLeast (choices n t) rest t v → v ≡ y
-      at v s r i none m = by (cases_Bool (refuted gone t m.set))
+      at : (v : ℕ) → IsSubset v y → refuted rest t v ≡ false → IsLeastAmong (choices n t) (rest ++ gone) t y → HasLeast (choices n t) rest t v → v ≡ y
+      at v s r i m = by (cases_Bool (refuted gone t m.set))
         where
           by : (refuted gone t m.set ≡ true) ⊎ (refuted gone t m.set ≡ false) → v ≡ y
-          by (inl h) = absurd (true≢false (sym (list_any_at (λ v. subset v y) m.set g.sets (g.members.every m.set (x.every m.set m.least h)) (true-subset (IsSubset-trans m.inside s))) ∙ none))
+          by (inl h) = absurd (true≢false (sym (list_any_at (λ v. subset v y) m.set found (x.every m.set m.least h) (true-subset (IsSubset-trans m.inside s))) ∙ none))
           by (inr h) = IsSubset-antisymm s (subst (λ (a : ℕ). IsSubset a v) (i.smallest m.set (IsSubset-trans m.inside s) (stands_both rest gone t m.set m.least.stands h)) m.inside)
 
-  every : (y : ℕ) → IsLeastAmong (choices n t) rest t y → Listed y (keys left) ⊎ Listed y found
+  only : (y : ℕ) → (Listed y (keys old) × (Listed y g.sets → ⊥)) ⊎ (Listed y g.sets × (is_key old y ≡ false)) → IsLeastAmong (choices n t) rest t y
+  only y (inl h) = stays y h.0 (false_from_ne_true _ (λ a. h.1 (g.members.every y (Listed-append_right y found blocked (Listed-filter above y (keys old) h.0 a)))))
+  only y (inr h) = elim (altered y h.0) as (λ _. IsLeastAmong (choices n t) rest t y) [
+    | inl i ↦ (x.each y i).0
+    | inr i ↦ absurd (true≢false (sym (key_listed old y (Listed-filter_parts above y (keys old) i).0) ∙ h.1))
+  ]
+
+  every : (y : ℕ) → IsLeastAmong (choices n t) rest t y → Listed y (keys new)
   every y i = by (cases_Bool (refuted gone t y))
     where
-      by : (refuted gone t y ≡ true) ⊎ (refuted gone t y ≡ false) → Listed y (keys left) ⊎ Listed y found
-      by (inl h) = inr (x.every y i h)
-      by (inr h) = inl (left_from y
-          (before.every y (record { within = i.within; stands = stands_both rest gone t y i.stands h; smallest = λ v s r. i.smallest v s (stands_left rest gone t v r) }))
-          (false_from_ne_true _ (λ a.
-          let w = list_any_which (λ v. subset v y) g.sets a in
-          let k = x.each w.0 (g.members.each w.0 w.1) in
-          let same : w.0 ≡ y = i.smallest w.0 (subset-true w.2) k.0.stands in
-          true≢false (sym (ap (refuted gone t) (sym same) ∙ k.1) ∙ h))))
+      by : (refuted gone t y ≡ true) ⊎ (refuted gone t y ≡ false) → Listed y (keys new)
+      by (inl h) = let f = x.every y i h in new_left old g.sets new general y (g.members.every y (Listed-append_left y found blocked f)) (no_key_from old y (unseen y f))
+      by (inr h) =
+          let k = before.every y (record { within = i.within; stands = stands_both rest gone t y i.stands h; smallest = λ v s r. i.smallest v s (stands_left rest gone t v r) }) in
+          let none : above y ≡ false = false_from_ne_true _ (λ a.
+          let w = list_any_which (λ v. subset v y) found a in
+          let f = x.each w.0 w.1 in
+          let same : w.0 ≡ y = i.smallest w.0 (subset-true w.2) f.0.stands in
+          true≢false (sym (ap (refuted gone t) (sym same) ∙ f.1) ∙ h)) in
+          kept_left old g.sets new general y k (λ c. elim (altered y c) as (λ _. ⊥) [
+            | inl f ↦ true≢false (sym (found_above y f) ∙ none)
+            | inr f ↦ true≢false (sym (Listed-filter_parts above y (keys old) f).1 ∙ none)
+          ])
 
   pub general_least : lefts (cands new) ≡ least n rest t
-  general_least = keys_least n rest t new general_order
-      (λ y h. only y (left_of left g.sets found new g.members g.is y h))
-      (λ y i. elim (every y i) as (λ _. Listed y (keys new)) [ inl h ↦ kept_left left g.sets found new g.members g.is y h | inr h ↦ new_left left g.sets found new g.members g.is y h ])
+  general_least = keys_least n rest t new general.order (λ y h. only y (left_of old g.sets new general y h)) every
 
   pub general_marks : Keeps old new
-  general_marks = record { each = λ p h. each p (added_only left g.sets fresh_mark p (subst (λ (qs : List (ℕ × Mark)). Listed p qs) g.is h)) }
-    where
-      each : (p : ℕ × Mark) → Listed p left ⊎ IsNew left g.sets fresh_mark p → Listed p old ⊎ ((p.1 ≡ fresh_mark) × (is_key old p.0 ≡ false))
-      each p (inl h) = inl (Listed-filter_parts (λ p. not (above p.0)) p old h).0
-      each p (inr k) = inr (
-        k.value,
-        no_key old p.0 (λ q h i.
-            let b = before.each q.0 (keys-listed old q h) in
-            true≢false (sym (x.each p.0 (g.members.each p.0 k.listed)).1 ∙ ap (refuted gone t) (sym i) ∙ stands_right rest gone t q.0 b.stands)),
-      )
+  general_marks = toggled_keeps old g.sets new general

@@ -12,12 +12,12 @@ use Rattle.col_set.specs.declared.target.Target.TheVariants.{Col}
 use Rattle.col_set.specs.Target.{IsColumnTarget}
 use Rattle.col_set.specs.ColSet.{report_cmp, columns, size}
 use Rattle.col_set.specs.Lists.{Listed}
-use Rattle.set_tree.specs.Pairs.{IsInOrder, is_key, value_at, with_value, with_values, from as pairs_from}
-use Rattle.set_tree.proofs.Places.{apart_from_less}
+use Rattle.candidate_cover.specs.Pairs.{IsInOrder, is_key, value_at, with_value, from as pairs_from}
+use Rattle.candidate_cover.proofs.Places.{apart_from_less}
 use Rattle.candidate_cover.specs.declared.cand.Cand.{Cand}
 use Rattle.candidate_cover.specs.declared.cand.Mark.{Mark}
 use Rattle.candidate_cover.specs.Lists.{CandLists}
-use Rattle.candidate_cover.specs.Cands.{width, cands_of, with_list, is_listed, all_free, from}
+use Rattle.candidate_cover.specs.Cands.{width, cands_of, with_list, is_listed, from}
 use Rattle.candidate_cover.specs.Marks.{cand, cands}
 
 -- ---- look-ups
@@ -129,8 +129,3 @@ module _ (r : List (ℕ × Mark)) (ts : List (List (ℕ × Mark))) (now : CandLi
   col_written new cs e =
       ap (λ (us : List (List Cand)). record { rows = cands r; columns = us }) (map-set cands ts a new ∙ ap (set (map cands ts) a) e)
       ∙ ap (λ (c : CandLists). with_list c (Col a) cs) view ∙ ap (λ (u : Target). with_list now u cs) (sym is)
-
--- ---- candidates that nobody holds
-pub cands-free : (ps : List (ℕ × Mark)) → cands (with_values (λ m. record { upto = m.upto; held = false }) ps) ≡ all_free (cands ps)
-cands-free [] = refl
-cands-free (p ∷ ps) = ap (λ (cs : List Cand). record { left = p.0; upto = p.1.upto; held = false } ∷ cs) (cands-free ps)

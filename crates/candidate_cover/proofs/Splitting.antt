@@ -1,5 +1,5 @@
 -- A list of column sets, split in place by how they lie to a set.
-use Rattle.std.proofs.Common.{◌≡◌, ℕ, ◌+◌, ◌<◌, ◌≤◌, Bool, true, false, cond, not, eqb, sym, ap, ◌∙◌, subst, arith, List, [], ◌∷◌, ◌++◌, length, get_or, set, take}
+use Rattle.std.proofs.Common.{◌≡◌, ℕ, ◌+◌, ◌<◌, ◌≤◌, Bool, true, false, cond, not, eqb, sym, ap, ◌∙◌, subst, arith, List, [], ◌∷◌, ◌++◌, length, get_or, set, take, append_assoc}
 use Rattle.std.specs.List.{filter}
 use Rattle.std.proofs.lemmas.Bool.{true≢false, and_parts, and_from, not-true, not_from_false, false_from_ne_true, true_from_ne_false, eqb-true, eq-eqb, ne_eqb}
 use Rattle.std.proofs.lemmas.List.{append-nil, drop_more}
@@ -65,3 +65,25 @@ module _ (nearby more : List ℕ) (x r n : ℕ) (size_is : n ≡ size r) where
 
   pub copy_none : (n ≡ 1 → ⊥) → more ≡ nearby → more ≡ nearby ++ cond (eqb (size r) 1) (x ∷ []) []
   copy_none e m = m ∙ sym (ap (λ b. nearby ++ cond b (x ∷ []) []) (ne_eqb (size r) 1 (λ i. e (size_is ∙ i))) ∙ append-nil nearby)
+
+-- ---- one set more of a list that stays as it is
+module _ (z : ℕ) (xs : List ℕ) (i x : ℕ) (l : i < length xs) (is : x ≡ get_or xs i x) where
+  pub filter_next : (p : ℕ → Bool) → filter p (take (i + 1) xs) ≡ filter p (take i xs) ++ cond (p x) (x ∷ []) []
+  filter_next p = filter_more p xs i x l ∙ ap (λ (y : ℕ). filter p (take i xs) ++ cond (p y) (y ∷ []) []) (sym is)
+
+  pub inside_next : (b : Bool) → subset x z ≡ b → inside z (take (i + 1) xs) ≡ inside z (take i xs) ++ cond b (x ∷ []) []
+  inside_next b e = filter_next (λ x. subset x z) ∙ ap (λ c. inside z (take i xs) ++ cond c (x ∷ []) []) e
+
+  pub near_same : subset x z ≡ true → near z (outside z (take (i + 1) xs)) ≡ near z (outside z (take i xs))
+  near_same e = ap (near z) (filter_next (λ x. not (subset x z)) ∙ ap (λ c. outside z (take i xs) ++ cond (not c) (x ∷ []) []) e ∙ append-nil _)
+
+  pub near_next : (b : Bool) → subset x z ≡ false → one_outside z x ≡ b → near z (outside z (take (i + 1) xs)) ≡ near z (outside z (take i xs)) ++ cond b (x ∷ []) []
+  near_next b e f =
+      ap (near z) (filter_next (λ x. not (subset x z)) ∙ ap (λ c. outside z (take i xs) ++ cond (not c) (x ∷ []) []) e) ∙ filter-append (one_outside z) (outside z (take i xs)) (x ∷ [])
+      ∙ ap (λ c. near z (outside z (take i xs)) ++ cond c (x ∷ []) []) f
+
+-- one set more, where it passes
+pub kept_next : (p : ℕ → Bool) (xs : List ℕ) (i x : ℕ) → i < length xs → x ≡ get_or xs i x → (old now : List ℕ) → now ≡ old ++ filter p (take i xs) → (b : Bool) → p x ≡ b → now ++ cond b (x ∷ []) [] ≡ old ++ filter p (take (i + 1) xs)
+kept_next p xs i x l is old now e b f =
+    ap (λ (ys : List ℕ). ys ++ cond b (x ∷ []) []) e ∙ append_assoc old (filter p (take i xs)) (cond b (x ∷ []) [])
+    ∙ ap (λ (ys : List ℕ). old ++ ys) (sym (filter_next 0 xs i x l is p ∙ ap (λ c. filter p (take i xs) ++ cond c (x ∷ []) []) f))

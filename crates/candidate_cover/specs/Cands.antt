@@ -1,7 +1,7 @@
 -- Candidates: left sides with their marks, in a list for each target.
-use Rattle.std.specs.Prelude.{if◌then◌else◌, ℕ, ◌==◌, Bool, false, not, List, [], map, max, length, slice_index_or, slice_set}
+use Rattle.std.specs.Prelude.{if◌then◌else◌, ℕ, ◌==◌, ◌&&◌, Bool, false, not, List, [], map, max, length, slice_index_or, slice_set, Option}
 use Rattle.std.specs.List.{filter, find, list_any}
-use Rattle.std.specs.Option.{unwrap_or}
+use Rattle.std.specs.Option.{unwrap_or, option_map}
 use Rattle.std.specs.Ordering.{is_lt}
 use Rattle.col_set.specs.declared.target.Target.{Target}
 use Rattle.col_set.specs.declared.target.Target.TheVariants.{Col, RowId}
@@ -42,6 +42,14 @@ is_listed cands x = list_any (λ c. c.left == x) cands
 -- a candidate of which no row is known to keep it
 abbrev pub fresh : Columns → Cand
 fresh x = record { left = x; upto = 1; held = false }
+
+-- whether no row is known to keep a candidate and nobody holds it
+abbrev pub is_fresh : Cand → Bool
+is_fresh c = (c.upto == 1) && not c.held
+
+-- the first left side of such a candidate
+abbrev pub first_fresh : List Cand → Option Columns
+first_fresh cands = option_map (λ c. c.left) (find is_fresh cands)
 
 -- the candidate that has this left side, with its marks, and a fresh one where there is none
 abbrev pub kept_or_fresh : List Cand → Columns → Cand

@@ -1,13 +1,13 @@
 -- Candidates as the pairs that a tree keeps, and how a target's list is made anew.
-use Rattle.std.specs.Prelude.{◌≡◌, ℕ, false, not, List, map}
+use Rattle.std.specs.Prelude.{◌≡◌, ℕ, false, List, ◌++◌, map}
 use Rattle.std.specs.List.{filter, list_any}
 use Rattle.col_set.specs.declared.target.Target.{Target}
-use Rattle.col_set.specs.ColSet.{Columns, subset}
-use Rattle.col_set.specs.Lists.{Listed}
-use Rattle.set_tree.specs.Pairs.{keys, IsInOrder, inside, not_inside, added}
+use Rattle.col_set.specs.ColSet.{Columns, subset, report_cmp}
+use Rattle.col_set.specs.Lists.{Listed, Rises}
 use Rattle.candidate_cover.specs.declared.cand.Cand.{Cand}
 use Rattle.candidate_cover.specs.declared.cand.Mark.{Mark}
-use Rattle.candidate_cover.specs.Growth.{choices, near, grown}
+use Rattle.candidate_cover.specs.Growth.{choices, inside, outside, near, grown}
+use Rattle.candidate_cover.specs.Pairs.{keys, IsInOrder, toggled}
 
 -- the candidate of a left side and its marks
 abbrev pub cand : Columns × Mark → Cand
@@ -24,15 +24,18 @@ pub record HasMembers (xs ys : List Columns) : Type 0 where
   pub each : (x : Columns) → Listed x ys → Listed x xs
   pub every : (x : Columns) → Listed x xs → Listed x ys
 
--- the new list has the old pairs whose left sides do not lie inside z, and with fresh marks the sets that grow out of the others
-pub record IsGrown (n : ℕ) (t : Target) (z : Columns) (old new : List (Columns × Mark)) : Type 0 where
+-- The new list is the old one where the left sides inside z have gone and the sets that grow out of them have come, with fresh marks.
+pub record IsGrown (n : ℕ) (t : Target) (z : ℕ) (old new : List (Columns × Mark)) : Type 0 where
   pub sets : List Columns
-  pub order : IsInOrder (not_inside old z)
-  pub members : HasMembers (grown n (choices n t) z (keys (inside old z)) (near z (keys (not_inside old z)))) sets
-  pub is : new ≡ added (not_inside old z) sets fresh_mark
+  pub order : Rises report_cmp sets
+  pub members : HasMembers (inside z (keys old) ++ grown n (choices n t) z (inside z (keys old)) (near z (outside z (keys old)))) sets
+  pub from : IsInOrder old
+  pub is : new ≡ toggled old sets fresh_mark
 
--- the new list has these sets with fresh marks, and the old pairs whose left sides contain none of them
+-- The new list is the old one where the left sides that contain a found set have gone and the found sets have come, with fresh marks.
 pub record IsGeneralised (found : List Columns) (old new : List (Columns × Mark)) : Type 0 where
   pub sets : List Columns
-  pub members : HasMembers found sets
-  pub is : new ≡ added (filter (λ p. not (list_any (λ y. subset y p.0) sets)) old) sets fresh_mark
+  pub order : Rises report_cmp sets
+  pub members : HasMembers (found ++ filter (λ x. list_any (λ y. subset y x) found) (keys old)) sets
+  pub from : IsInOrder old
+  pub is : new ≡ toggled old sets fresh_mark

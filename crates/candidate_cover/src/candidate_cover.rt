@@ -12,23 +12,23 @@ ghost use Rattle.candidate_cover.specs.declared.cand.Cand.{Cand};
 ghost use Rattle.candidate_cover.specs.declared.cand.Marking.TheVariants.{Marked, Dropped};
 
 use crate::cand::{Cand, Mark, Marking};
+use crate::cand_list::CandList;
 use crate::draft::Draft;
 use crate::explore::explored;
 use crate::growth::choices;
-use crate::part::{Part, generalised, lefts as lefts_of, specialised, with_marks};
+use crate::part::{Part, generalised, specialised};
 use rel_base::{ColSet, MOST_COLUMNS, RowNo, Steps, Target};
-use set_tree::SetTree;
 use std::alloc::{AllocError, Global};
 use std::marker::Model;
 use std::sync::ledger::Ledger;
 
 /// For each target, which row it is and each of the columns, its candidates with their marks, in report order.
 ///
-/// Contracts see the lists. A candidate takes 32 bytes. A call touches the list of its target alone.
+/// Contracts see the lists. A candidate takes 21 bytes: its left side stands apart from its marks. A call touches the list of its target alone.
 #[derive(Drop)]
 pub struct CandidateCover {
-    rows: SetTree<Mark>,
-    columns: Vec<SetTree<Mark>>,
+    rows: CandList,
+    columns: Vec<CandList>,
 }
 
 impl Model for CandidateCover {
@@ -51,14 +51,14 @@ impl CandidateCover {
         requires { columns ≤ MOST_COLUMNS }
         ensures { IfOk result (λ cover. cover ≡ record { rows = words.fresh empty ∷ []; columns = replicate columns (words.fresh empty ∷ []) }) }
     {
-        let rows = opening(alloc)?;
-        let mut trees = Vec::with_capacity(alloc, columns as usize)?;
+        let rows = CandList::opening(alloc)?;
+        let mut lists = Vec::with_capacity(alloc, columns as usize)?;
         for column in 0..columns {
-            trees.push(opening(alloc)?)?;
+            lists.push(CandList::opening(alloc)?)?;
         }
         Ok(CandidateCover {
             rows,
-            columns: trees,
+            columns: lists,
         })
     }
 
@@ -81,13 +81,13 @@ impl CandidateCover {
         ensures marks { IfOk result (λ part. part ≡ map (kept_or_fresh (cands_of self.now target)) (lefts part)) }
     {
         let columns = self.columns();
-        let tree = SetTree::of_list(self.tree(target).list(alloc)?);
-        let tree = if z.has_target(target) {
-            tree
+        let list = self.cand_list(target);
+        let made = if z.has_target(target) {
+            list.copy(alloc)?
         } else {
-            specialised(alloc, columns, target, z, tree)?
+            specialised(alloc, columns, target, z, list)?
         };
-        Ok(Part { tree })
+        Ok(Part::of(made))
     }
 
     /// The candidates of a target in report order, where the withdrawn agree sets have left the rest.
@@ -113,9 +113,8 @@ impl CandidateCover {
         let columns = self.columns();
         let choices = choices(columns, target);
         let sets = explored(alloc, columns, choices, target, rest, withdrawn, steps)?;
-        let list = self.tree(target).list(alloc)?;
-        let tree = generalised(alloc, sets, list)?;
-        Ok(Part { tree })
+        let made = generalised(alloc, sets, self.cand_list(target))?;
+        Ok(Part::of(made))
     }
 
     /// A draft that begins with the agree sets that have left these candidates: a copy of their left sides.
@@ -124,10 +123,10 @@ impl CandidateCover {
         ensures { IfOk result (λ draft. draft ≡ record { width = width self.now; agree_sets = agree_sets.items }) }
     {
         let count = self.columns();
-        let rows = self.lefts(alloc, Target::RowId)?;
+        let rows = self.copied_lefts(alloc, Target::RowId)?;
         let mut columns = Vec::with_capacity(alloc, count as usize)?;
         for column in 0..count {
-            columns.push(self.lefts(alloc, Target::Col(column))?)?;
+            columns.push(self.copied_lefts(alloc, Target::Col(column))?)?;
         }
         Ok(Draft::of(rows, columns, agree_sets))
     }
@@ -149,13 +148,13 @@ impl CandidateCover {
         ensures least { IfOk result (λ part. IfSome part (λ cands. lefts cands ≡ least (width self.now) draft.now.agree_sets target)) }
         ensures marks { IfOk result (λ part. IfSome part (λ cands. cands ≡ map (kept_or_fresh (cands_of self.now target)) (lefts cands))) }
     {
-        let tree = self.tree(target);
-        if tree.has_keys(draft.sets(target)) {
+        let list = self.cand_list(target);
+        if draft.sets(target) == list.sets() {
             return Ok(None);
         }
         let sets = draft.sorted_sets(alloc, target)?;
-        let tree = with_marks(alloc, tree, sets.as_slice())?;
-        Ok(Some(Part { tree }))
+        let made = list.with_lefts(alloc, sets)?;
+        Ok(Some(Part::of(made)))
     }
 
     /// Makes the part the target's list.
@@ -163,10 +162,10 @@ impl CandidateCover {
         requires { IsColumnTarget (width self.old) target }
         ensures { self.new ≡ with_list self.old target part }
     {
-        let tree = part.tree;
+        let list = part.into_list();
         match target {
-            Target::Col(column) => self.columns[column as usize] = tree,
-            Target::RowId => self.rows = tree,
+            Target::Col(column) => self.columns[column as usize] = list,
+            Target::RowId => self.rows = list,
         }
     }
 
@@ -198,9 +197,9 @@ impl CandidateCover {
     pub fn free(&mut self)
         ensures { self.new ≡ freed self.old }
     {
-        free_in(&mut self.rows);
+        self.rows.free();
         for column in 0..self.columns.len() {
-            free_in(&mut self.columns[column]);
+            self.columns[column].free();
         }
     }
 
@@ -227,15 +226,7 @@ impl CandidateCover {
         ensures found { (p : Cand → Bool) → ((c : Cand) (b : Bool) → F.post test c b → b ≡ p c) → result ≡ find p (from left (cands_of self.now target)) }
         ensures order { IsInOrder (cands_of self.now target) }
     {
-        let meets = |left: ColSet, mark: Mark|
-            requires { F.pre test (cand (left, mark)) }
-            ensures { F.post test (cand (left, mark)) result }
-        { test(mark.of(left)) };
-        let found = self.tree(target).first_from(left, meets);
-        match found {
-            Some((left, mark)) => Some(mark.of(left)),
-            None => None,
-        }
+        self.cand_list(target).first_from(left, test)
     }
 
     /// The candidates of a target in report order.
@@ -244,23 +235,32 @@ impl CandidateCover {
         ensures list { IfOk result (λ list. list.items ≡ cands_of self.now target) }
         ensures order { IfOk result (λ list. IsInOrder list.items) }
     {
-        let pairs = self.tree(target).list(alloc)?;
-        let list = candidates(alloc, pairs.as_slice())?;
+        let list = self.cand_list(target).list(alloc)?;
         Ok(list)
     }
 
-    // The left sides of a target's candidates.
-    fn lefts(&self, alloc: Global, target: Target) -> Result<Vec<ColSet>, AllocError>
+    /// The left sides of a target's candidates in report order, lent as they stand.
+    pub fn lefts(&self, target: Target) -> &[ColSet]
+        requires { IsColumnTarget (width self.now) target }
+        ensures lefts { result.now ≡ lefts (cands_of self.now target) }
+        ensures order { IsInOrder (cands_of self.now target) }
+    {
+        self.cand_list(target).sets()
+    }
+
+    // A copy of the left sides.
+    fn copied_lefts(&self, alloc: Global, target: Target) -> Result<Vec<ColSet>, AllocError>
         requires { IsColumnTarget (width self.now) target }
         ensures { IfOk result (λ found. found.items ≡ lefts (cands_of self.now target)) }
     {
-        let pairs = self.tree(target).list(alloc)?;
-        let found = lefts_of(alloc, pairs.as_slice())?;
+        let own = self.lefts(target);
+        let mut found = Vec::with_capacity(alloc, own.len())?;
+        found.extend_from_slice(own)?;
         Ok(found)
     }
 
     // The candidates of a target.
-    fn tree(&self, target: Target) -> &SetTree<Mark>
+    fn cand_list(&self, target: Target) -> &CandList
         requires { IsColumnTarget (width self.now) target }
         ensures { cands result.now ≡ cands_of self.now target }
     {
@@ -271,55 +271,25 @@ impl CandidateCover {
     }
 }
 
-// The candidates of these left sides and marks.
-fn candidates(alloc: Global, pairs: &[(ColSet, Mark)]) -> Result<Vec<Cand>, AllocError>
-    ensures { IfOk result (λ list. list.items ≡ cands pairs.now) }
+fn mark_in(list: &mut CandList, x: ColSet, to: RowNo) -> Marking
+    ensures answer { result ≡ (if is_listed (cands list.old) x then Marked else Dropped) }
+    ensures list { cands list.new ≡ marked (cands list.old) x to }
 {
-    let mut list = Vec::with_capacity(alloc, pairs.len())?;
-    for pair in pairs {
-        list.push(pair.1.of(pair.0))?;
-    }
-    Ok(list)
-}
-
-// The empty set, of which nothing is known.
-fn opening(alloc: Global) -> Result<SetTree<Mark>, AllocError>
-    ensures { IfOk result (λ tree. cands tree ≡ words.fresh empty ∷ []) }
-{
-    let mut tree = SetTree::new(alloc);
-    tree.insert(ColSet::empty(), Mark::fresh())?;
-    Ok(tree)
-}
-
-fn mark_in(tree: &mut SetTree<Mark>, x: ColSet, to: RowNo) -> Marking
-    ensures answer { result ≡ (if is_listed (cands tree.old) x then Marked else Dropped) }
-    ensures list { cands tree.new ≡ marked (cands tree.old) x to }
-{
-    match tree.get(x) {
+    match list.get(x) {
         Some(mark) => {
-            tree.set(x, mark.marked(to));
+            list.set(x, mark.marked(to));
             Marking::Marked
         }
         None => Marking::Dropped,
     }
 }
 
-fn free_in(tree: &mut SetTree<Mark>)
-    ensures { cands tree.new ≡ all_free (cands tree.old) }
+fn hold_in(list: &mut CandList, x: ColSet, held: bool) -> bool
+    ensures answer { result ≡ is_listed (cands list.old) x }
+    ensures list { cands list.new ≡ holding (cands list.old) x held }
 {
-    tree.map_values(
-        |mark: Mark| -> Mark
-            ensures { result ≡ record { upto = mark.upto; held = false } }
-        { mark.free() },
-    );
-}
-
-fn hold_in(tree: &mut SetTree<Mark>, x: ColSet, held: bool) -> bool
-    ensures answer { result ≡ is_listed (cands tree.old) x }
-    ensures list { cands tree.new ≡ holding (cands tree.old) x held }
-{
-    match tree.get(x) {
-        Some(mark) => tree.set(
+    match list.get(x) {
+        Some(mark) => list.set(
             x,
             Mark {
                 upto: mark.upto,

@@ -3,11 +3,13 @@
 #![tactic(auto)]
 
 mod cand;
+mod cand_list;
 mod candidate_cover;
 mod draft;
 mod explore;
 mod growth;
 mod part;
+mod place;
 #[cfg(test)]
 mod tests;
 

@@ -6,18 +6,18 @@ use Rattle.candidate_cover.proofs.Remarked.{is_listed-cands, no_key_of_none, one
 use Rattle.candidate_cover.proofs.candidate_cover.hold_in.Goals as goal
 
 pub returns-in-Some-clause-answer : goal.returns-in-Some-clause-answer
-returns-in-Some-clause-answer c = c.set.ensures.found ∙ sym (is_listed-cands c.args.tree.now c.args.x)
+returns-in-Some-clause-answer c = c.set.ensures.found ∙ sym (is_listed-cands c.args.list.now c.args.x)
 
 pub returns-in-Some-clause-list : goal.returns-in-Some-clause-list
 returns-in-Some-clause-list c =
     let f : Mark → Mark = λ m. record { upto = m.upto; held = c.args.held } in
     ap cands (c.set.ensures.pairs)
-    ∙ remarked f c.args.tree.now c.args.x c.in-Some.mark (one_value c.args.tree.now c.args.x c.in-Some.mark c.in-Some.ensures.order c.in-Some.ensures.value)
+    ∙ remarked f c.args.list.now c.args.x c.in-Some.mark (one_value c.args.list.now c.args.x c.in-Some.mark c.in-Some.ensures.order c.in-Some.ensures.value)
 
 pub returns-in-None-clause-answer : goal.returns-in-None-clause-answer
-returns-in-None-clause-answer c = sym (is_listed-cands c.args.tree.now c.args.x ∙ no_key_of_none c.args.tree.now c.args.x c.in-None.ensures.value)
+returns-in-None-clause-answer c = sym (is_listed-cands c.args.list.now c.args.x ∙ no_key_of_none c.args.list.now c.args.x c.in-None.ensures.value)
 
 pub returns-in-None-clause-list : goal.returns-in-None-clause-list
 returns-in-None-clause-list c =
     let g : Cand → Cand = λ c'. record { left = c.args.x; upto = c'.upto; held = c.args.held } in
-    untouched g c.args.tree.now c.args.x (no_key_of_none c.args.tree.now c.args.x c.in-None.ensures.value)
+    untouched g c.args.list.now c.args.x (no_key_of_none c.args.list.now c.args.x c.in-None.ensures.value)

@@ -1,21 +1,22 @@
-use Rattle.std.proofs.Common.{List, ℕ, sym, ap, ap₂, ◌∙◌, subst, rules, not}
+use Rattle.std.proofs.Common.{◌≡◌, ◌++◌, ◌∙◌, List, ℕ, ap, ap₂, subst}
 use Rattle.std.specs.List.{filter, list_any}
-use Rattle.std.proofs.lemmas.Fn.{filter_same}
-use Rattle.col_set.specs.ColSet.{subset, report_cmp}
-use Rattle.col_set.specs.Lists.{Rises-filter}
-use Rattle.set_tree.specs.Pairs.{IsInOrder, added}
-use Rattle.candidate_cover.specs.declared.cand.Mark.{Mark}
+use Rattle.col_set.specs.ColSet.{subset}
+use Rattle.candidate_cover.specs.Marks.{HasMembers, fresh_mark}
+use Rattle.candidate_cover.specs.Pairs.{keys, toggled}
 use Rattle.candidate_cover.proofs.part.generalised.Goals as goal
 
-pub of_list-made-requires : goal.of_list-made-requires
-of_list-made-requires c = subst IsInOrder (sym (filter_same _ (λ p. not (list_any (λ y. subset y p.0) c.sorted-sets.result.items)) _ (λ x b f' k. search rules) _ _ c.retain.ensures.filtered))
-    (Rises-filter (λ p q. report_cmp p.0 q.0) (λ p. not (list_any (λ y. subset y p.0) c.sorted-sets.result.items)) c.args.list.items c.requires)
-
 pub returns : goal.returns
-returns c = record {
-  sets = c.sorted-sets.result.items;
-  members = c.sorted-sets.ensures.members;
-  is = c.in_ok-add_all.ensures.pairs ∙ ap₂ (λ (ps : List (ℕ × Mark)) (xs : List ℕ). added ps xs c.fresh.result)
-      (c.of_list-made.ensures ∙ filter_same _ (λ p. not (list_any (λ y. subset y p.0) c.sorted-sets.result.items)) _ (λ x b f' k. search rules) _ _ c.retain.ensures.filtered) c.as_slice.ensures.value
-      ∙ ap (added (filter (λ p. not (list_any (λ y. subset y p.0) c.sorted-sets.result.items)) c.args.list.items) c.sorted-sets.result.items) c.fresh.ensures;
-}
+returns c =
+    let found = c.args.found.items in
+    let first : c.extend_from_slice.new.self.items ≡ found = c.in_ok-extend_from_slice.ensures.items ∙ ap₂ (λ (xs ys : List ℕ). xs ++ ys) c.in_ok-changes.ensures.items c.as_slice.ensures.value in
+    let made : c.push_containing.new.changes.items ≡ found ++ filter (λ x. list_any (λ y. subset y x) found) (keys c.args.list.now)
+    = c.in_ok-push_containing.ensures
+    ∙ ap₂ (λ (xs ys : List ℕ). xs ++ filter (λ x. list_any (λ y. subset y x) ys) c.sets.result.now) first c.as_slice-2.ensures.value
+    ∙ ap (λ (xs : List ℕ). found ++ filter (λ x. list_any (λ y. subset y x) found) xs) c.sets.ensures.sets in
+    record {
+      sets = c.sorted-changes.result.items;
+      order = c.sorted-changes.ensures.order;
+      members = subst (λ (xs : List ℕ). HasMembers xs c.sorted-changes.result.items) made c.sorted-changes.ensures.members;
+      from = c.sets.ensures.order;
+      is = c.in_ok-made.ensures ∙ ap (λ (xs : List ℕ). toggled c.args.list.now xs fresh_mark) c.as_slice-3.ensures.value;
+    }

@@ -4,7 +4,7 @@ use Rattle.candidate_cover.proofs.Drafted.{lists_count, lists_drafted, lists_mor
 use Rattle.candidate_cover.proofs.candidate_cover.CandidateCover.draft.Goals as goal
 
 pub loop-column-preserved : goal.loop-column-preserved
-loop-column-preserved c = lists_more c.args.self.now c.loop-column.column c.loop-column.columns.items c.push.new.self.items c.in_ok-lefts.field-0 c.loop-column.invariant c.in_ok-push.ensures.items c.in_ok-lefts.ensures
+loop-column-preserved c = lists_more c.args.self.now c.loop-column.column c.loop-column.columns.items c.push.new.self.items c.in_ok-copied_lefts.field-0 c.loop-column.invariant c.in_ok-push.ensures.items c.in_ok-copied_lefts.ensures
 
 pub of-requires-clause-lists : goal.of-requires-clause-lists
 of-requires-clause-lists c = lists_drafted c.columns-count.result c.loop-column.column c.args.agree_sets.items c.args.self.now c.loop-column.columns.items c.loop-column.auto.column-end c.loop-column-test.false c.loop-column.invariant

@@ -17,8 +17,8 @@ loop-column-preserved c =
     let many : length (map cands c.self.inside.columns.items) ≡ length c.self.inside.columns.items = length-map c.self.inside.columns.items cands in
     let l : c.loop-column.column < length c.args.self.now.columns = omega arith in (
       c.loop-column.invariant.0,
-      map-set cands trees c.loop-column.column c.free_in-in-loop-column.new.tree
-          ∙ ap (λ (cs : List Cand). set (map cands trees) c.loop-column.column cs) c.free_in-in-loop-column.ensures
+      map-set cands trees c.loop-column.column c.free-in-loop-column.new.self
+          ∙ ap (λ (cs : List Cand). set (map cands trees) c.loop-column.column cs) c.free-in-loop-column.ensures
           ∙ map_over_more all_free c.args.self.now.columns (map cands trees) c.loop-column.column (cands tree) l c.loop-column.invariant.1
           (ap cands c.index_mut.ensures.value ∙ sym (get_or-map cands trees c.loop-column.column tree (cands tree) m)),
     )

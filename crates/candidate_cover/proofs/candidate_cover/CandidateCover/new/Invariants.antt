@@ -4,4 +4,4 @@ use Rattle.candidate_cover.specs.Marks.{cands}
 use Rattle.candidate_cover.proofs.candidate_cover.CandidateCover.new.Given as goal
 
 abbrev pub invariant-loop-column : goal.invariant-loop-column
-invariant-loop-column l = map cands l.trees.items ≡ replicate l.column (fresh 0 ∷ [])
+invariant-loop-column l = map cands l.lists.items ≡ replicate l.column (fresh 0 ∷ [])

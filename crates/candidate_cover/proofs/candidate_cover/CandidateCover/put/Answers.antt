@@ -2,4 +2,4 @@ use Rattle.candidate_cover.proofs.Remarked.{col_written}
 use Rattle.candidate_cover.proofs.candidate_cover.CandidateCover.put.Goals as goal
 
 pub returns-in-Col : goal.returns-in-Col
-returns-in-Col c = col_written c.self.inside.rows c.self.inside.columns.items c.args.self.now c.self.view_is c.args.target c.in-Col.column c.in-Col.is c.part.inside.tree c.args.part c.part.view_is
+returns-in-Col c = col_written c.self.inside.rows c.self.inside.columns.items c.args.self.now c.self.view_is c.args.target c.in-Col.column c.in-Col.is c.into_list-list.result c.args.part c.into_list-list.ensures

@@ -1,0 +1,321 @@
+// The candidates of one target in flat lists, the left sides apart from their marks.
+ghost use Rattle.std.specs.Prelude.{◌≡◌, ◌≤◌, ◌<◌, ◌-◌, ◌++◌, ◌∷◌, [], Bool, length, take, drop, map, slice_index_or, false, IfOk, OnOk, IfSome};
+ghost use Rattle.std.specs.List.{find};
+ghost use Rattle.col_set.specs.ColSet.{empty, report_cmp};
+ghost use Rattle.col_set.specs.Lists.{Rises};
+ghost use Rattle.candidate_cover.specs.Cands as words;
+ghost use Rattle.candidate_cover.specs.Cands.{from, all_free, kept_or_fresh};
+ghost use Rattle.candidate_cover.specs.Marks.{cand, cands, fresh_mark};
+ghost use Rattle.candidate_cover.specs.Pairs.{pairs_of, AreEven, keys, is_key, value_at, with_value, toggled};
+ghost use Rattle.candidate_cover.specs.Pairs as pairs;
+ghost use Rattle.candidate_cover.specs.declared.cand.Cand.{Cand};
+
+use crate::cand::{Cand, Mark};
+use crate::place::place_of;
+use rel_base::{ColSet, RowNo};
+use std::alloc::{AllocError, Global};
+use std::marker::Model;
+
+// Left sides, and apart from them the rows that each is known to hold in and whether it is held.
+#[derive(Drop)]
+struct Lists {
+    sets: Vec<ColSet>,
+    uptos: Vec<RowNo>,
+    helds: Vec<bool>,
+}
+
+/// The candidates of a target in report order: a scan for left sides reads 16 bytes a candidate, a copy 21.
+///
+/// Contracts see the pairs of left sides and marks.
+#[derive(Drop)]
+pub(crate) struct CandList {
+    lists: Lists,
+}
+
+impl Model for CandList {
+    ghost use Rattle.std.specs.Prelude.{List};
+    ghost use Rattle.col_set.specs.ColSet.{Columns};
+    ghost use Rattle.candidate_cover.specs.Pairs.{pairs_of, AreEven, IsInOrder};
+    ghost use Rattle.candidate_cover.specs.declared.cand.Mark.{Mark};
+
+    ghost Value = { List (Columns × Mark) };
+
+    ghost view = { λ c. pairs_of c.lists.sets.items c.lists.uptos.items c.lists.helds.items };
+
+    ghost invariant = { λ c. AreEven c.lists.sets.items c.lists.uptos.items c.lists.helds.items × IsInOrder (pairs_of c.lists.sets.items c.lists.uptos.items c.lists.helds.items) };
+}
+
+impl Lists {
+    // Empty lists with room for so many.
+    fn with_room(alloc: Global, count: usize) -> Result<Lists, AllocError>
+        ensures none { IfOk result (λ made. pairs_of made.sets.items made.uptos.items made.helds.items ≡ []) }
+        ensures even { IfOk result (λ made. AreEven made.sets.items made.uptos.items made.helds.items) }
+    {
+        Ok(Lists {
+            sets: Vec::with_capacity(alloc, count)?,
+            uptos: Vec::with_capacity(alloc, count)?,
+            helds: Vec::with_capacity(alloc, count)?,
+        })
+    }
+
+    // One more candidate at the end.
+    fn push(&mut self, x: ColSet, mark: Mark) -> Result<(), AllocError>
+        requires { AreEven self.old.sets.items self.old.uptos.items self.old.helds.items }
+        ensures pairs { OnOk result (pairs_of self.new.sets.items self.new.uptos.items self.new.helds.items ≡ pairs_of self.old.sets.items self.old.uptos.items self.old.helds.items ++ (x, mark) ∷ []) }
+        ensures even { OnOk result (AreEven self.new.sets.items self.new.uptos.items self.new.helds.items) }
+    {
+        self.sets.push(x)?;
+        self.uptos.push(mark.upto)?;
+        self.helds.push(mark.held)?;
+        Ok(())
+    }
+
+    // A run of other lists at the end.
+    fn push_run(&mut self, other: &Lists, start: usize, end: usize) -> Result<(), AllocError>
+        requires even { AreEven self.old.sets.items self.old.uptos.items self.old.helds.items }
+        requires other { AreEven other.now.sets.items other.now.uptos.items other.now.helds.items }
+        requires start { start ≤ end }
+        requires end { end ≤ length other.now.sets.items }
+        ensures pairs { OnOk result (pairs_of self.new.sets.items self.new.uptos.items self.new.helds.items ≡ pairs_of self.old.sets.items self.old.uptos.items self.old.helds.items ++ take (end - start) (drop start (pairs_of other.now.sets.items other.now.uptos.items other.now.helds.items))) }
+        ensures even { OnOk result (AreEven self.new.sets.items self.new.uptos.items self.new.helds.items) }
+    {
+        self.sets.extend_from_slice(&other.sets[start..end])?;
+        self.uptos.extend_from_slice(&other.uptos[start..end])?;
+        self.helds.extend_from_slice(&other.helds[start..end])?;
+        Ok(())
+    }
+
+    // The lists in which each of these sets has changed sides: one that is there goes, and one that is not comes with fresh
+    // marks. What stands between them is copied by runs.
+    fn toggled(&self, alloc: Global, sets: &[ColSet]) -> Result<Lists, AllocError>
+        requires even { AreEven self.now.sets.items self.now.uptos.items self.now.helds.items }
+        requires order { pairs.IsInOrder (pairs_of self.now.sets.items self.now.uptos.items self.now.helds.items) }
+        ensures pairs { IfOk result (λ made. pairs_of made.sets.items made.uptos.items made.helds.items ≡ toggled (pairs_of self.now.sets.items self.now.uptos.items self.now.helds.items) sets.now fresh_mark) }
+        ensures even { IfOk result (λ made. AreEven made.sets.items made.uptos.items made.helds.items) }
+    {
+        let mut made = Lists::with_room(alloc, self.sets.len())?;
+        let mut rest = 0;
+        for x in sets {
+            match place_of(&self.sets[rest..], *x) {
+                Ok(run) => {
+                    made.push_run(self, rest, rest + run)?;
+                    rest += run + 1;
+                }
+                Err(run) => {
+                    made.push_run(self, rest, rest + run)?;
+                    made.push(*x, Mark::fresh())?;
+                    rest += run;
+                }
+            }
+        }
+        made.push_run(self, rest, self.sets.len())?;
+        Ok(made)
+    }
+}
+
+impl CandList {
+    // The lists as they stand.
+    fn of(lists: Lists) -> CandList
+        requires even { AreEven lists.sets.items lists.uptos.items lists.helds.items }
+        requires order { pairs.IsInOrder (pairs_of lists.sets.items lists.uptos.items lists.helds.items) }
+        ensures { result ≡ pairs_of lists.sets.items lists.uptos.items lists.helds.items }
+    {
+        CandList { lists }
+    }
+
+    // The empty set alone, of which nothing is known.
+    pub(crate) fn opening(alloc: Global) -> Result<CandList, AllocError>
+        ensures { IfOk result (λ list. cands list ≡ words.fresh empty ∷ []) }
+    {
+        let mut lists = Lists::with_room(alloc, 1)?;
+        lists.push(ColSet::empty(), Mark::fresh())?;
+        Ok(CandList::of(lists))
+    }
+
+    // The left sides.
+    pub(crate) fn sets(&self) -> &[ColSet]
+        ensures sets { result.now ≡ keys self.now }
+        ensures order { pairs.IsInOrder self.now }
+    {
+        self.lists.sets.as_slice()
+    }
+
+    // The marks of a left side.
+    pub(crate) fn get(&self, x: ColSet) -> Option<Mark>
+        ensures value { result ≡ value_at self.now x }
+        ensures order { pairs.IsInOrder self.now }
+    {
+        match place_of(self.lists.sets.as_slice(), x) {
+            Ok(place) => Some(Mark {
+                upto: self.lists.uptos[place],
+                held: self.lists.helds[place],
+            }),
+            Err(_) => None,
+        }
+    }
+
+    // Gives x these marks if it is there, and answers whether it is.
+    pub(crate) fn set(&mut self, x: ColSet, mark: Mark) -> bool
+        ensures found { result ≡ is_key self.old x }
+        ensures pairs { self.new ≡ with_value self.old x mark }
+    {
+        match place_of(self.lists.sets.as_slice(), x) {
+            Ok(place) => {
+                self.lists.uptos[place] = mark.upto;
+                self.lists.helds[place] = mark.held;
+                true
+            }
+            Err(_) => false,
+        }
+    }
+
+    // Lets go of all candidates.
+    pub(crate) fn free(&mut self)
+        ensures { cands self.new ≡ all_free (cands self.old) }
+    {
+        free_all(&mut self.lists.helds);
+    }
+
+    // A copy, in one piece a list.
+    pub(crate) fn copy(&self, alloc: Global) -> Result<CandList, AllocError>
+        ensures same { IfOk result (λ made. made ≡ self.now) }
+        ensures order { IfOk result (λ made. pairs.IsInOrder self.now) }
+    {
+        let count = self.lists.sets.len();
+        let mut lists = Lists::with_room(alloc, count)?;
+        lists.push_run(&self.lists, 0, count)?;
+        Ok(CandList::of(lists))
+    }
+
+    // The list in which each of these sets has changed sides.
+    pub(crate) fn toggled(&self, alloc: Global, sets: &[ColSet]) -> Result<CandList, AllocError>
+        requires { Rises report_cmp sets.now }
+        ensures { IfOk result (λ made. made ≡ toggled self.now sets.now fresh_mark) }
+    {
+        let lists = self.lists.toggled(alloc, sets)?;
+        Ok(CandList::of(lists))
+    }
+
+    // The marks that a left side has here, or fresh ones.
+    fn mark_of(&self, x: ColSet) -> Mark
+        ensures { cand (x, result) ≡ kept_or_fresh (cands self.now) x }
+    {
+        match self.get(x) {
+            Some(mark) => mark,
+            None => Mark::fresh(),
+        }
+    }
+
+    // These left sides, each with the marks that it has here, or fresh ones.
+    pub(crate) fn with_lefts(
+        &self,
+        alloc: Global,
+        sets: Vec<ColSet>,
+    ) -> Result<CandList, AllocError>
+        requires { Rises report_cmp sets.items }
+        ensures { IfOk result (λ made. cands made ≡ map (kept_or_fresh (cands self.now)) sets.items) }
+    {
+        let mut uptos = Vec::with_capacity(alloc, sets.len())?;
+        let mut helds = Vec::with_capacity(alloc, sets.len())?;
+        for x in sets.as_slice() {
+            let mark = self.mark_of(*x);
+            uptos.push(mark.upto)?;
+            helds.push(mark.held)?;
+        }
+        Ok(CandList::of(Lists { sets, uptos, helds }))
+    }
+
+    // The candidates.
+    pub(crate) fn list(&self, alloc: Global) -> Result<Vec<Cand>, AllocError>
+        ensures list { IfOk result (λ list. list.items ≡ cands self.now) }
+        ensures order { pairs.IsInOrder self.now }
+    {
+        let mut list = Vec::with_capacity(alloc, self.lists.sets.len())?;
+        for place in 0..self.lists.sets.len() {
+            list.push(cand_at(
+                self.lists.sets.as_slice(),
+                self.lists.uptos.as_slice(),
+                self.lists.helds.as_slice(),
+                place,
+            ))?;
+        }
+        Ok(list)
+    }
+
+    // The first candidate, from a left side on, that meets the test.
+    pub(crate) fn first_from<F: Fn(Cand) -> bool>(&self, left: ColSet, test: F) -> Option<Cand>
+        requires { F.IsAlwaysCallable test }
+        ensures found { (p : Cand → Bool) → ((c : Cand) (b : Bool) → F.post test c b → b ≡ p c) → result ≡ find p (from left (cands self.now)) }
+        ensures order { pairs.IsInOrder self.now }
+    {
+        let start = match place_of(self.lists.sets.as_slice(), left) {
+            Ok(place) => place,
+            Err(place) => place,
+        };
+        first_in(
+            self.lists.sets.as_slice(),
+            self.lists.uptos.as_slice(),
+            self.lists.helds.as_slice(),
+            start,
+            test,
+        )
+    }
+
+    // The first left side of which nothing is known and that nobody holds.
+    pub(crate) fn first_fresh(&self) -> Option<ColSet>
+        ensures { result ≡ words.first_fresh (cands self.now) }
+    {
+        let found = self.first_from(
+            ColSet::empty(),
+            |cand: Cand| -> bool
+                ensures { result ≡ words.is_fresh cand }
+            { cand.upto == RowNo::first() && !cand.held },
+        );
+        match found {
+            Some(cand) => Some(cand.left),
+            None => None,
+        }
+    }
+}
+
+// The first of these candidates, from a place on, that meets the test.
+fn first_in<F: Fn(Cand) -> bool>(
+    sets: &[ColSet],
+    uptos: &[RowNo],
+    helds: &[bool],
+    start: usize,
+    test: F,
+) -> Option<Cand>
+    requires even { AreEven sets.now uptos.now helds.now }
+    requires test { F.IsAlwaysCallable test }
+    ensures { (p : Cand → Bool) → ((c : Cand) (b : Bool) → F.post test c b → b ≡ p c) → result ≡ find p (drop start (cands (pairs_of sets.now uptos.now helds.now))) }
+{
+    for place in start..sets.len() {
+        if test(cand_at(sets, uptos, helds, place)) {
+            return Some(cand_at(sets, uptos, helds, place));
+        }
+    }
+    None
+}
+
+// The candidate at a place.
+fn cand_at(sets: &[ColSet], uptos: &[RowNo], helds: &[bool], place: usize) -> Cand
+    requires even { AreEven sets.now uptos.now helds.now }
+    requires place { place < length sets.now }
+    ensures { (d : Cand) → slice_index_or (cands (pairs_of sets.now uptos.now helds.now)) place d ≡ result }
+{
+    Cand {
+        left: sets[place],
+        upto: uptos[place],
+        held: helds[place],
+    }
+}
+
+// Nobody holds any.
+fn free_all(helds: &mut Vec<bool>)
+    ensures { helds.new.items ≡ map (λ h. false) helds.old.items }
+{
+    for place in 0..helds.len() {
+        helds[place] = false;
+    }
+}
