@@ -1,5 +1,5 @@
 -- What one cell more, or the last rows dropped, make of a column's codes.
-use Rattle.std.proofs.Common.{inl, inr, ◌≡◌, ◌≢◌, ◌⊎◌, ◌↔◌, ℕ, suc, ◌+◌, ◌-◌, ◌<◌, ◌≤◌, Bool, true, false, cond, refl, sym, ap, ap₂, ◌∙◌, subst, arith, List, [], ◌∷◌, ◌++◌, length, map, take, get_or, slice_get, Some}
+use Rattle.std.proofs.Common.{append_assoc, inl, inr, ◌≡◌, ◌≢◌, ◌⊎◌, ◌↔◌, ℕ, suc, ◌+◌, ◌-◌, ◌<◌, ◌≤◌, Bool, true, false, cond, refl, sym, ap, ap₂, ◌∙◌, subst, arith, List, [], ◌∷◌, ◌++◌, length, map, take, get_or, slice_get, Some}
 use Rattle.std.proofs.lemmas.Bool.{cases_lt, cases_eq}
 use Rattle.std.proofs.lemmas.List.{length-map, length-take-le, length-take, get_or_append_left, get_or_push, get_or-map, get_or-take, map_push, take-map, length_push}
 use Rattle.std.proofs.lemmas.Option.{slice_get-get_or, slice_get_within}
@@ -40,6 +40,9 @@ turned : (n : Nulls) (a b : ℕ) (x y : Cell) → ((a ≡ b) ↔ Agrees n x y) �
 turned n a b x y h = ((λ e. Agrees-symm n x y (h.0 (sym e))), (λ g. sym (h.1 (Agrees-symm n y x g))))
 
 -- ---- one code more
+pub one_more : (older own after : List ℕ) (code : ℕ) → after ≡ own ++ code ∷ [] → older ++ after ≡ (older ++ own) ++ code ∷ []
+one_more older own after code e = ap (λ (xs : List ℕ). older ++ xs) e ∙ sym (append_assoc older own (code ∷ []))
+
 -- what the dictionary and the first places are after a cell was coded
 pub record IsGrown (d e : Coding) (codes firsts fs : List ℕ) (c : Cell) (code : ℕ) : Type 0 where
   pub nulls : e.nulls ≡ d.nulls

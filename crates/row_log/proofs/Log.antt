@@ -1,6 +1,6 @@
 -- What is kept of a row state is one, and how it is read.
 use Rattle.std.proofs.Common.{◌≡◌, ◌≢◌, ◌↔◌, ℕ, ◌+◌, ◌-◌, ◌<◌, ◌≤◌, Bool, true, false, sym, ap, ap₂, ◌∙◌, subst, arith, List, [], length, map, get_or}
-use Rattle.std.specs.List.{All, Contains, range_with_len}
+use Rattle.std.specs.List.{All, Contains, filter, range_with_len}
 use Rattle.std.proofs.lemmas.List.{get_or_default, length-map, length-replicate}
 use Rattle.col_set.specs.ColSet.{has}
 use Rattle.col_set.proofs.Places.{Contains-listed, Listed-contained}
@@ -12,13 +12,20 @@ use Rattle.rel_base.specs.Relation.{Content, IsContent}
 use Rattle.rel_base.specs.CodeTable.{CodeTable, IsCodeTable, code_at}
 use Rattle.rel_base.specs.RowState.{RowState, IsRowState, opened, width, next, row}
 use Rattle.rel_base.specs.Validity.{agree_of}
-use Rattle.rel_base.specs.Shows.{Shows}
+use Rattle.rel_base.specs.Shows.{Shows, live_numbers}
 use Rattle.rel_base.proofs.Agree.{agree-parts, agree-from}
 use Rattle.rel_base.proofs.States.{All-from, increasing-Climbs}
 use Rattle.row_log.specs.Column.{ColumnCells, AreCodes}
 use Rattle.row_log.specs.Table.{row_at, rows_of, live_of, no_column, column_at, IsLog}
 use Rattle.row_log.proofs.Rows.{length-range, length-rows_of, rows_of-row, rows_of-opened, length-row_at, cell-row_at}
 use Rattle.row_log.proofs.Flags.{Climbs-live_of, Listed-live_of, live_of-Listed, live_of-all}
+
+-- the live numbers of a snapshot with these flags
+numbers-kept : {flags : List Bool} (s : CodeTable) → s.to ≡ length flags + 1 → s.live ≡ flags → live_numbers s ≡ live_of flags
+unfolding live_numbers live_of
+numbers-kept {flags} s to same =
+    let n : s.to - 1 ≡ length flags = omega arith in
+    ap₂ (λ (fs : List Bool) (k : ℕ). filter (λ number. get_or fs (number - 1) false) (range_with_len 1 k)) same n
 
 -- the row state that these fields keep
 abbrev pub kept : Row → Nulls → ℕ → List ColumnCells → List Bool → RowState
@@ -68,6 +75,9 @@ module _ (names : Row) (nulls : Nulls) (limit : ℕ) (columns : List ColumnCells
   -- ---- a snapshot
   module _ (s : CodeTable) (many : length s.codes ≡ length columns) (to : s.to ≡ length flags + 1) (same : s.live ≡ flags)
       (codes : (j : ℕ) → j < length columns → AreCodes (column_at columns j) (get_or s.codes j [])) where
+    pub count-kept : live ≡ length (live_numbers s)
+    count-kept = h.count ∙ ap length (sym (numbers-kept s to same))
+
     pub IsCodeTable-kept : IsCodeTable s
     IsCodeTable-kept = record {
       some = let e = h.wide in let a = h.some in omega arith;

@@ -10,7 +10,7 @@ use Rattle.rel_base.specs.declared.nulls.Nulls.{Nulls}
 use Rattle.rel_base.specs.Cells.{Cell, Row, cell}
 use Rattle.rel_base.specs.Agreement.{Agrees, agree}
 use Rattle.rel_base.proofs.Agree.{agree-parts, agree-from}
-use Rattle.row_log.specs.Column.{ColumnCells, AreCodes}
+use Rattle.row_log.specs.Column.{ColumnCells}
 use Rattle.row_log.specs.Table.{row_at, rows_of, no_column, column_at, with_cell, HasRow}
 
 pub length-range : (a n : ℕ) → length (range_with_len a n) ≡ n
@@ -142,29 +142,25 @@ pub record AgreeBelow (cs : List ColumnCells) (nulls : Nulls) (i j p : ℕ) (fir
   pub each : (k : ℕ) → k < p → (get_or first k 0 ≡ get_or second k 0) ↔ Agrees nulls (get_or (column_at cs k).cells i []) (get_or (column_at cs k).cells j [])
 
 module _ (cs : List ColumnCells) (nulls : Nulls) (i j p : ℕ) (first second : List ℕ) where
-  pub AgreeBelow-more : (codes : List ℕ) → AgreeBelow cs nulls i j p first second → p < length cs → p < length first → p < length second → AreCodes (column_at cs p) codes
-      → (column_at cs p).nulls ≡ nulls → i < length (column_at cs p).cells → j < length (column_at cs p).cells → i ≢ j
-      → AgreeBelow cs nulls i j (p + 1) (set first p (get_or codes i 0)) (set second p (get_or codes j 0))
-  AgreeBelow-more codes h l m o are read f g ne = record { each = λ k b. by k b (cases_lt k p) }
+  pub AgreeBelow-more : (a b : ℕ) → AgreeBelow cs nulls i j p first second → p < length first → p < length second
+      → ((a ≡ b) ↔ Agrees (column_at cs p).nulls (get_or (column_at cs p).cells i []) (get_or (column_at cs p).cells j [])) → (column_at cs p).nulls ≡ nulls
+      → AgreeBelow cs nulls i j (p + 1) (set first p a) (set second p b)
+  AgreeBelow-more a b h m o are read = record { each = λ k l. by k l (cases_lt k p) }
     where
-      Same : ℕ → Type 0
-      Same k = (get_or (set first p (get_or codes i 0)) k 0 ≡ get_or (set second p (get_or codes j 0)) k 0) ↔ Agrees nulls (get_or (column_at cs k).cells i []) (get_or (column_at cs k).cells j [])
+      at : (a ≡ b) ↔ Agrees nulls (get_or (column_at cs p).cells i []) (get_or (column_at cs p).cells j [])
+      at = subst (λ (n : Nulls). (a ≡ b) ↔ Agrees n (get_or (column_at cs p).cells i []) (get_or (column_at cs p).cells j [])) read are
 
-      at : (get_or codes i 0 ≡ get_or codes j 0) ↔ Agrees nulls (get_or (column_at cs p).cells i []) (get_or (column_at cs p).cells j [])
-      at = let a = are.long in subst (λ (n : Nulls). (get_or codes i 0 ≡ get_or codes j 0) ↔ Agrees n (get_or (column_at cs p).cells i []) (get_or (column_at cs p).cells j [])) read
-          (are.agree i j (omega arith) (omega arith) ne)
+      moved : (e f c d : ℕ) (X : Type 0) → e ≡ c → f ≡ d → ((c ≡ d) ↔ X) → ((e ≡ f) ↔ X)
+      moved e f c d X u q w = ((λ r. w.0 (sym u ∙ r ∙ q)), (λ x. u ∙ w.1 x ∙ sym q))
 
-      moved : (a b c d : ℕ) (X : Type 0) → a ≡ c → b ≡ d → ((c ≡ d) ↔ X) → ((a ≡ b) ↔ X)
-      moved a b c d X e q w = ((λ r. w.0 (sym e ∙ r ∙ q)), (λ x. e ∙ w.1 x ∙ sym q))
-
-      by : (k : ℕ) → k < p + 1 → (k < p) ⊎ (p ≤ k) → (get_or (set first p (get_or codes i 0)) k 0 ≡ get_or (set second p (get_or codes j 0)) k 0) ↔ Agrees nulls (get_or (column_at cs k).cells i []) (get_or (column_at cs k).cells j [])
-      by k b (inl w) =
+      by : (k : ℕ) → k < p + 1 → (k < p) ⊎ (p ≤ k) → (get_or (set first p a) k 0 ≡ get_or (set second p b) k 0) ↔ Agrees nulls (get_or (column_at cs k).cells i []) (get_or (column_at cs k).cells j [])
+      by k l (inl w) =
           let ne : k ≢ p = λ e. absurd (omega arith) in
-          moved _ _ _ _ _ (get_or-set_other first p k (get_or codes i 0) 0 ne) (get_or-set_other second p k (get_or codes j 0) 0 ne) (h.each k w)
-      by k b (inr w) =
+          moved _ _ _ _ _ (get_or-set_other first p k a 0 ne) (get_or-set_other second p k b 0 ne) (h.each k w)
+      by k l (inr w) =
           let e : p ≡ k = omega arith in
-          subst (λ (q : ℕ). (get_or (set first p (get_or codes i 0)) q 0 ≡ get_or (set second p (get_or codes j 0)) q 0) ↔ Agrees nulls (get_or (column_at cs q).cells i []) (get_or (column_at cs q).cells j [])) e
-          (moved _ _ _ _ _ (get_or-set_same first p (get_or codes i 0) 0 m) (get_or-set_same second p (get_or codes j 0) 0 o) at)
+          subst (λ (q : ℕ). (get_or (set first p a) q 0 ≡ get_or (set second p b) q 0) ↔ Agrees nulls (get_or (column_at cs q).cells i []) (get_or (column_at cs q).cells j [])) e
+          (moved _ _ _ _ _ (get_or-set_same first p a 0 m) (get_or-set_same second p b 0 o) at)
 
   -- the agree set of the codes of all columns is that of the rows
   pub agree-read : (x : ℕ) → AgreeBelow cs nulls i j p first second → length cs ≤ p → length cs ≤ length first → length cs ≤ length second

@@ -1,3 +1,4 @@
+pub mod Codes
 pub mod Column
 pub mod Table
 pub mod Applying

@@ -5,6 +5,8 @@ use Rattle.rel_base.specs.declared.nulls.Nulls.{Nulls}
 use Rattle.rel_base.specs.declared.nulls.Nulls.TheVariants.{Equal}
 use Rattle.rel_base.specs.Cells.{Row, cell}
 use Rattle.col_set.specs.ColSet.{upto}
+use Rattle.col_set.specs.declared.col_set.TheConstants.{MOST_COLUMNS}
+use Rattle.rel_base.specs.declared.limits.TheConstants.{MOST_ROWS}
 use Rattle.row_log.specs.Column.{ColumnCells}
 
 -- the row at a place of these columns
@@ -48,9 +50,9 @@ pub record HasRow (old : List ColumnCells) (row : Row) (new : List ColumnCells) 
 -- What is kept of a row state: as many columns as there are names, each with a cell for each flag, and the number of flagged rows.
 pub record IsLog (width : ℕ) (nulls : Nulls) (limit : ℕ) (columns : List ColumnCells) (flags : List Bool) (live : ℕ) : Type 0 where
   pub some : 0 < width
-  pub narrow : width ≤ 128
+  pub narrow : width ≤ MOST_COLUMNS
   pub wide : length columns ≡ width
   pub each : All (IsColumnOf nulls (length flags)) columns
-  pub short : length flags ≤ 1000000
-  pub few : limit ≤ 1000000
+  pub short : length flags ≤ MOST_ROWS
+  pub few : limit ≤ MOST_ROWS
   pub count : live ≡ length (live_of flags)

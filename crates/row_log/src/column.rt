@@ -1,12 +1,14 @@
 // The cells of one column, as codes.
-ghost use Rattle.std.specs.Prelude.{◌≡◌, ◌≢◌, ◌<◌, ◌≤◌, ◌+◌, ◌-◌, ◌∷◌, [], ◌++◌, ℕ, true, false, OnOk, OnErr, IfOk, length, map, take, slice_index, slice_index_or, vec_len, vec_capacity};
+ghost use Rattle.std.specs.Prelude.{◌≡◌, ◌≢◌, ◌<◌, ◌≤◌, ◌+◌, ◌-◌, ◌↔◌, ◌∷◌, [], ◌++◌, ℕ, true, false, OnOk, OnErr, IfOk, length, map, take, slice_index, slice_index_or, vec_len, vec_capacity};
 ghost use Rattle.std.specs.List.{All};
 ghost use Rattle.rel_base.specs.Cells.{cell};
+ghost use Rattle.rel_base.specs.Agreement.{Agrees};
 ghost use Rattle.row_log.specs.Column.{AreCodes};
 ghost use Rattle.row_log.specs.Distinct.{AreFlaggedCells, AreUsed};
 
+use crate::codes::{CodeList, code_in};
 use column_dict::Dict;
-use rel_base::{Cell, MOST_ROWS, Nulls, Row};
+use rel_base::{Cell, Codes, MOST_ROWS, Nulls, Row};
 use std::alloc::{AllocError, Global};
 use std::marker::Model;
 
@@ -17,18 +19,19 @@ use std::marker::Model;
 #[derive(Drop)]
 pub struct Column {
     dict: Dict,
-    codes: Vec<u32>,
+    codes: CodeList,
     firsts: Vec<u32>,
 }
 
 impl Model for Column {
+    ghost use Rattle.row_log.specs.Codes.{codes_of, IsCodeList};
     ghost use Rattle.row_log.specs.Column.{ColumnCells, column_of, IsKept};
 
     ghost Value = { ColumnCells };
 
-    ghost view = { λ c. column_of c.dict c.codes.items };
+    ghost view = { λ c. column_of c.dict (codes_of c.codes) };
 
-    ghost invariant = { λ c. IsKept c.dict c.codes.items c.firsts.items };
+    ghost invariant = { λ c. IsKept c.dict (codes_of c.codes) c.firsts.items × IsCodeList c.codes };
 }
 
 impl Column {
@@ -38,7 +41,7 @@ impl Column {
     {
         Column {
             dict: Dict::with_nulls(alloc, nulls),
-            codes: Vec::new(alloc),
+            codes: CodeList::new(alloc),
             firsts: Vec::new(alloc),
         }
     }
@@ -56,7 +59,7 @@ impl Column {
     fn reserve(&mut self, rows: usize) -> Result<(), AllocError>
         ensures { self.new ≡ self.old }
     {
-        self.codes.reserve(rows)
+        self.codes.own.reserve(rows)
     }
 
     /// Codes the cells at this place of more rows. After want of memory it has those of some of them.
@@ -77,14 +80,14 @@ impl Column {
         ensures pushed { OnOk result (self.new ≡ record { nulls = self.old.nulls; cells = self.old.cells ++ bytes.now ∷ [] }) }
         ensures refused { OnErr result (self.new ≡ self.old) }
     {
-        self.codes.reserve(1)?;
+        self.codes.own.reserve(1)?;
         self.firsts.reserve(1)?;
         let known = self.dict.len();
         let code = self.dict.code_of(bytes)?;
         if known < self.dict.len() {
             append(&mut self.firsts, self.codes.len() as u32);
         }
-        append(&mut self.codes, code);
+        append(&mut self.codes.own, code);
         Ok(())
     }
 
@@ -100,11 +103,29 @@ impl Column {
         self.codes.truncate(rows);
     }
 
-    /// The codes of all rows.
-    pub fn codes(&self) -> &[u32]
-        ensures { AreCodes self.now result.now }
+    /// The codes of all rows, for a snapshot, which shares those of older rows.
+    pub fn handed(&self, alloc: Global) -> Result<Codes, AllocError>
+        ensures { IfOk result (AreCodes self.now) }
     {
-        self.codes.as_slice()
+        self.codes.handed(alloc)
+    }
+
+    /// Puts the codes of rows that came since into the list that snapshots share, where they are many. It takes a step a row then,
+    /// once in a thousand rows that come, and stays as it is where memory is wanting.
+    pub fn share(&mut self, alloc: Global)
+        ensures { self.new ≡ self.old }
+    {
+        self.codes.share(alloc);
+    }
+
+    /// The codes of the rows at two places.
+    pub fn pair(&self, i: usize, j: usize) -> (u32, u32)
+        requires first { i < length self.now.cells }
+        requires second { j < length self.now.cells }
+        requires apart { i ≢ j }
+        ensures { (result.0 ≡ result.1) ↔ Agrees self.now.nulls (slice_index_or self.now.cells i []) (slice_index_or self.now.cells j []) }
+    {
+        (self.codes.get(i), self.codes.get(j))
     }
 
     /// The cell of the row at this place.
@@ -112,7 +133,7 @@ impl Column {
         requires { place < length self.now.cells }
         ensures { result.now ≡ slice_index_or self.now.cells place [] }
     {
-        self.dict.cell(self.codes[place])
+        self.dict.cell(self.codes.get(place))
     }
 
     /// The cells of the flagged rows, each once, NULL aside. It takes a step a row and a code.
@@ -121,7 +142,8 @@ impl Column {
         ensures { IfOk result (λ cells. AreFlaggedCells self.now.cells flags.now cells) }
     {
         let count = self.dict.len();
-        let used = used_codes(alloc, &self.codes, flags, count as usize)?;
+        let (older, own) = self.codes.parts();
+        let used = used_codes(alloc, older, own, flags, count as usize)?;
         let mut cells: Vec<&[u8]> = Vec::new(alloc);
         for code in 0..count {
             let cell = self.dict.cell(code);
@@ -141,22 +163,23 @@ fn is_wanted(used: bool, cell: &Cell) -> bool
     used && !cell.is_null()
 }
 
-// For each of so many codes, whether a flagged row has it.
+// For each of so many codes, whether a flagged row has it, where the rows' codes stand in two lists.
 fn used_codes(
     alloc: Global,
-    codes: &[u32],
+    older: &[u32],
+    own: &[u32],
     flags: &[bool],
     count: usize,
 ) -> Result<Vec<bool>, AllocError>
-    requires known { (i : ℕ) → i < length codes.now → slice_index codes.now i < count }
-    requires long { length flags.now ≡ length codes.now }
+    requires known { (i : ℕ) → i < length (older.now ++ own.now) → slice_index (older.now ++ own.now) i < count }
+    requires long { length flags.now ≡ length (older.now ++ own.now) }
     ensures long { IfOk result (λ used. length used.items ≡ count) }
-    ensures used { IfOk result (λ used. AreUsed flags.now codes.now (length codes.now) used.items) }
+    ensures used { IfOk result (λ used. AreUsed flags.now (older.now ++ own.now) (length (older.now ++ own.now)) used.items) }
 {
     let mut used = vec![in alloc; false; count]?;
-    for (place, code) in codes.iter().enumerate() {
-        if flags[place] {
-            used[*code as usize] = true;
+    for (place, flag) in flags.iter().enumerate() {
+        if *flag {
+            used[code_in(older, own, place) as usize] = true;
         }
     }
     Ok(used)

@@ -2,6 +2,7 @@
 #![tactic(auto)]
 
 mod applying;
+mod codes;
 mod column;
 mod row_log;
 mod table;

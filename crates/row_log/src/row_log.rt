@@ -13,7 +13,9 @@ ghost use Rattle.row_log.specs.Applying.{Answers, Outcome, IsBefore, LeadsFrom, 
 
 use crate::applying::{Applying, Halt};
 use crate::column::Column;
-use crate::table::{agreement, append_live, columns_of, copied_codes, push_row, truncate_rows};
+use crate::table::{
+    agreement, append_live, columns_of, handed_codes, push_row, share_codes, truncate_rows,
+};
 use rel_base::{Batch, Cell, ColSet, Limits, Nulls, Op, Relation, Row, RowNo, Snapshot, Why};
 use std::alloc::{AllocError, Global};
 use std::marker::Model;
@@ -31,6 +33,7 @@ pub struct RowLog {
     live_len: u32,
     limit: u32,
     nulls: Nulls,
+    alloc: Global,
 }
 
 impl Model for RowLog {
@@ -68,9 +71,10 @@ impl RowLog {
         ensures { IfOk result (λ log. log ≡ opened nulls limits.rows relation) }
     {
         let (names, rows) = relation.into_parts();
-        let columns = columns_of(alloc, nulls, &rows, names.len())?;
+        let mut columns = columns_of(alloc, nulls, &rows, names.len())?;
         let live = vec![in alloc; true; rows.len()]?;
         drop(rows);
+        share_codes(alloc, &mut columns);
         Ok(RowLog {
             names,
             columns,
@@ -78,6 +82,7 @@ impl RowLog {
             live,
             limit: limits.rows,
             nulls,
+            alloc,
         })
     }
 
@@ -163,20 +168,35 @@ impl RowLog {
         self.columns[column as usize].flagged_cells(alloc, &self.live)
     }
 
-    /// The rows at this moment, as codes: a copy of 4 bytes a cell.
+    /// The rows at this moment, as codes.
+    ///
+    /// It shares the codes of older rows with the log and with other snapshots, and copies those of the last rows that came, a
+    /// thousand a column at most, and a byte for each row that was ever given.
     pub fn snapshot(&self, alloc: Global) -> Result<Arc<Snapshot>, AllocError>
         ensures { IfOk result (λ snapshot. Shows snapshot.value self.now) }
     {
-        let codes = copied_codes(alloc, &self.columns)?;
+        let codes = handed_codes(alloc, &self.columns)?;
         let live = Vec::from_slice(alloc, &self.live)?;
-        Ok(Arc::new(alloc, Snapshot::of(codes, live, self.next()))?)
+        let snapshot = Snapshot::counted(codes, live, self.next(), self.live_len);
+        Ok(Arc::new(alloc, snapshot)?)
     }
 
     /// Applies a batch, all of it or nothing.
     ///
     /// The operations are applied one after another. Where one fails or memory runs out, those before it are taken back, newest first,
-    /// and so are the codes of their cells. It takes a step a cell of the batch, whatever the relation has.
+    /// and so are the codes of their cells. It takes a step a cell of the batch, whatever the relation has, and once in a thousand rows
+    /// that come a step a row for each column, to put their codes where snapshots share them.
     pub fn apply(&mut self, batch: &Batch) -> Applying
+        requires { All (IsAsWide (width self.old)) batch.now }
+        ensures { Answers self.old batch.now self.new result }
+    {
+        let answer = self.apply_all(batch);
+        self.share();
+        answer
+    }
+
+    // The same, where the new codes stay beside those that snapshots share.
+    fn apply_all(&mut self, batch: &Batch) -> Applying
         requires { All (IsAsWide (width self.old)) batch.now }
         ensures { Answers self.old batch.now self.new result }
     {
@@ -194,6 +214,13 @@ impl RowLog {
             inserted,
             deleted: live + inserted - self.live_len(),
         }
+    }
+
+    // Puts new codes where snapshots share them, if there are many.
+    fn share(&mut self)
+        ensures { self.new ≡ self.old }
+    {
+        share_codes(self.alloc, &mut self.columns);
     }
 
     /// Takes back the batch that was applied last: the row state before it stands again.

@@ -107,23 +107,32 @@ pub fn agreement(columns: &[Column], nulls: Nulls, i: usize, j: usize) -> ColSet
     let mut first = [0; COLUMN_PLACES];
     let mut second = [0; COLUMN_PLACES];
     for (place, column) in columns.iter().enumerate() {
-        let codes = column.codes();
-        first[place] = codes[i];
-        second[place] = codes[j];
+        let (one, other) = column.pair(i, j);
+        first[place] = one;
+        second[place] = other;
     }
     agree_codes(&first[..columns.len()], &second[..columns.len()])
 }
 
-/// Copies of the codes of each column.
-pub fn copied_codes(alloc: Global, columns: &[Column]) -> Result<Vec<Codes>, AllocError>
+/// The codes of each column, for a snapshot.
+pub fn handed_codes(alloc: Global, columns: &[Column]) -> Result<Vec<Codes>, AllocError>
     ensures long { IfOk result (λ codes. length codes.items ≡ length columns.now) }
     ensures each { IfOk result (λ codes. (j : ℕ) → j < length columns.now → AreCodes (column_at columns.now j) (slice_index_or codes.items j [])) }
 {
     let mut codes = Vec::with_capacity(alloc, columns.len())?;
     for column in columns {
-        codes.push(Codes::of(Vec::from_slice(alloc, column.codes())?))?;
+        codes.push(column.handed(alloc)?)?;
     }
     Ok(codes)
+}
+
+/// Puts the codes that came since into the lists that snapshots share, where they are many.
+pub fn share_codes(alloc: Global, columns: &mut Vec<Column>)
+    ensures { columns.new.items ≡ columns.old.items }
+{
+    for place in 0..columns.len() {
+        columns[place].share(alloc);
+    }
 }
 
 /// Appends the flag of a live row to a list that has room.

@@ -6,3 +6,6 @@ pub mod Exactly
 pub mod KeptLists
 pub mod Weights
 pub mod PlainTests
+pub mod Likeness
+pub mod Chained
+pub mod NewRows

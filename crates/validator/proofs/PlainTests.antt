@@ -1,11 +1,13 @@
 -- Jobs that fit: with one old row at most the dependency holds among the old rows.
-use Rattle.std.proofs.Common.{◌≡◌, ℕ, ◌<◌, ◌≤◌, ◌^◌, true, sym, arith, ◌∙◌}
+use Rattle.std.proofs.Common.{◌≡◌, ℕ, ◌<◌, ◌≤◌, ◌^◌, true, sym, subst, arith, ◌∙◌}
 use Rattle.std.proofs.lemmas.Bool.{ltb-true}
 use Rattle.col_set.specs.declared.target.Target.{Target}
 use Rattle.col_set.specs.ColSet.{all, subset}
 use Rattle.col_set.specs.Members.{has-all}
 use Rattle.col_set.specs.Subsets.{subset-true, below_from}
 use Rattle.col_set.proofs.Places.{Listed-contained}
+use Rattle.rel_base.specs.Alike.{Alike}
+use Rattle.rel_base.proofs.Alike.{alike-itself}
 use Rattle.rel_base.specs.CodeTable.{CodeTable}
 use Rattle.rel_base.specs.Shows.{holds_in_below, live_numbers}
 use Rattle.rel_base.proofs.Shown.{holds_in_below-true}
@@ -21,3 +23,7 @@ one_row s end x t few = holds_in_below-true s end x t (record {
 
 pub columns_below : (x n : ℕ) → subset x (all n) ≡ true → x < 2 ^ n
 columns_below x n e = below_from x n (λ k h. ltb-true k n (sym (has-all n k) ∙ (subset-true e).each k h))
+
+-- equal snapshots are alike
+pub alike_same : (s u : CodeTable) → s ≡ u → Alike s u
+alike_same s u e = subst (Alike s) e (alike-itself s)

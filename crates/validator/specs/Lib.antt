@@ -1,3 +1,6 @@
 pub mod Verdicts
 pub mod Walk
 pub mod Kept
+pub mod Asking
+pub mod Chains
+pub mod Links

@@ -1,7 +1,10 @@
 //! Verdicts on dependencies that are known to hold among older rows: each newer row is compared at most once.
 #![tactic(auto)]
 
+mod chain;
 mod judge;
+mod links;
+mod newer;
 mod refined;
 mod shelf;
 mod store;

@@ -4,14 +4,15 @@ ghost use Rattle.std.specs.Option.{ForSome};
 ghost use Rattle.col_set.specs.ColSet.{has, subset, union, with, empty};
 ghost use Rattle.rel_base.specs.CodeTable.{CodeTable};
 ghost use Rattle.validator.specs.Kept.{AreKept, AreWeights, AreKnown, weight_of};
-ghost use Rattle.validator.specs.Verdicts.{AreFound, IsFitting, new_rows};
+ghost use Rattle.validator.specs.Asking.{IsAsked};
+ghost use Rattle.validator.specs.Verdicts.{AreFound, new_rows};
 ghost use Rattle.validator.specs.Walk.{IsClear, plus};
 ghost use Rattle.validator.specs.declared.shelf.Kept.{Kept};
 
 use crate::walk::{self, Question};
-use col_set::ColSet;
+use col_set::{ColSet, Target};
 use indexmap::IndexMap;
-use rel_base::{COLUMN_PLACES, Job, MOST_COLUMNS, RowNo, Snapshot, Steps};
+use rel_base::{COLUMN_PLACES, MOST_COLUMNS, RowNo, Snapshot, Steps};
 use std::alloc::{AllocError, Global};
 use std::hash::{BuildHasherDefault, DefaultHasher};
 use std::sync::ledger::Ledger;
@@ -24,6 +25,15 @@ const MOST_KEPT: usize = 4096;
 
 // The weight of a column whose partition was not made yet.
 const UNKNOWN: u32 = u32::MAX;
+
+// What is searched for: pairs of rows that break a dependency which holds among the rows below a number, up to so many.
+#[derive(Clone, Copy)]
+pub(crate) struct Asked {
+    pub(crate) left: ColSet,
+    pub(crate) target: Target,
+    pub(crate) from: RowNo,
+    pub(crate) most: usize,
+}
 
 // The partition by some columns, and how many rows its groups have.
 #[derive(Drop)]
@@ -74,7 +84,7 @@ fn place_of(kept: &[Kept], places: &Places, columns: ColSet) -> Option<usize>
 }
 
 // The column of these that tells the most rows apart, as far as that is known.
-fn lightest(columns: ColSet, first: u8, weights: &[u32; COLUMN_PLACES]) -> u8
+pub(crate) fn lightest(columns: ColSet, first: u8, weights: &[u32; COLUMN_PLACES]) -> u8
     requires first { has columns first ≡ true }
     requires bound { first < MOST_COLUMNS }
     ensures column { has columns result ≡ true }
@@ -257,7 +267,7 @@ fn note(places: &mut Places, columns: ColSet, k: usize) -> bool {
 }
 
 // No column's weight is known.
-fn no_weights() -> [u32; COLUMN_PLACES]
+pub(crate) fn no_weights() -> [u32; COLUMN_PLACES]
     ensures { (s : CodeTable) → AreWeights s result }
 {
     [UNKNOWN; COLUMN_PLACES]
@@ -280,31 +290,40 @@ impl Shelf {
         }
     }
 
-    // Searches the groups by a job's left side for pairs that break its dependency, up to so many.
+    // The weights that are known, and these for the other columns.
+    pub(crate) fn known_or(&self, hints: &[u32; COLUMN_PLACES]) -> [u32; COLUMN_PLACES] {
+        let mut all = *hints;
+        for (column, weight) in self.weights.iter().enumerate() {
+            if *weight != UNKNOWN {
+                all[column] = *weight;
+            }
+        }
+        all
+    }
+
+    // Searches the groups by a left side for pairs that break its dependency.
     pub(crate) fn search<L: Ledger>(
         &mut self,
         alloc: Global,
-        job: &Job,
-        most: usize,
+        snapshot: &Snapshot,
+        asked: &Asked,
         slots: &mut Vec<u32>,
         steps: &mut Steps<L>,
     ) -> Result<Vec<(RowNo, RowNo)>, AllocError>
-        requires some { 0 < most }
-        requires fitting { IsFitting job.now }
-        requires kept { AreKept job.now.snapshot self.old.kept.items }
-        requires weights { AreWeights job.now.snapshot self.old.weights }
+        requires asked { IsAsked snapshot.now asked.now }
+        requires kept { AreKept snapshot.now self.old.kept.items }
+        requires weights { AreWeights snapshot.now self.old.weights }
         requires clear { IsClear slots.old.items }
-        ensures kept { AreKept job.now.snapshot self.new.kept.items }
-        ensures weights { AreWeights job.now.snapshot self.new.weights }
+        ensures kept { AreKept snapshot.now self.new.kept.items }
+        ensures weights { AreWeights snapshot.now self.new.weights }
         ensures clear { OnOk result (IsClear slots.new.items) }
-        ensures pairs { IfOk result (λ pairs. AreFound job.now.snapshot job.now.left job.now.target pairs.items) }
-        ensures few { IfOk result (λ pairs. vec_len pairs ≤ most) }
-        ensures steps { steps.new ≤ steps.old + new_rows job.now.snapshot job.now.from }
+        ensures pairs { IfOk result (λ pairs. AreFound snapshot.now asked.now.left asked.now.target pairs.items) }
+        ensures few { IfOk result (λ pairs. vec_len pairs ≤ asked.now.most) }
+        ensures steps { steps.new ≤ steps.old + new_rows snapshot.now asked.now.from }
     {
-        let left = job.left();
-        self.weigh(alloc, job.snapshot(), left)?;
-        self.shorten_path(left);
-        let found = self.search_kept(alloc, job, most, slots, steps);
+        self.weigh(alloc, snapshot, asked.left)?;
+        self.shorten_path(asked.left);
+        let found = self.search_kept(alloc, snapshot, asked, slots, steps);
         self.settle();
         found
     }
@@ -391,26 +410,23 @@ impl Shelf {
     fn search_kept<L: Ledger>(
         &mut self,
         alloc: Global,
-        job: &Job,
-        most: usize,
+        snapshot: &Snapshot,
+        asked: &Asked,
         slots: &mut Vec<u32>,
         steps: &mut Steps<L>,
     ) -> Result<Vec<(RowNo, RowNo)>, AllocError>
-        requires some { 0 < most }
-        requires fitting { IsFitting job.now }
-        requires kept { AreKept job.now.snapshot self.old.kept.items }
+        requires asked { IsAsked snapshot.now asked.now }
+        requires kept { AreKept snapshot.now self.old.kept.items }
         requires clear { IsClear slots.old.items }
-        ensures kept { AreKept job.now.snapshot self.new.kept.items }
+        ensures kept { AreKept snapshot.now self.new.kept.items }
         ensures weights { self.new.weights ≡ self.old.weights }
         ensures clear { OnOk result (IsClear slots.new.items) }
-        ensures pairs { IfOk result (λ pairs. AreFound job.now.snapshot job.now.left job.now.target pairs.items) }
-        ensures few { IfOk result (λ pairs. vec_len pairs ≤ most) }
-        ensures steps { steps.new ≤ steps.old + new_rows job.now.snapshot job.now.from }
+        ensures pairs { IfOk result (λ pairs. AreFound snapshot.now asked.now.left asked.now.target pairs.items) }
+        ensures few { IfOk result (λ pairs. vec_len pairs ≤ asked.now.most) }
+        ensures steps { steps.new ≤ steps.old + new_rows snapshot.now asked.now.from }
     {
-        let snapshot = job.snapshot();
-        let left = job.left();
-        let base = self.base(alloc, snapshot, left)?;
-        let rest = left.minus(self.kept[base].columns);
+        let base = self.base(alloc, snapshot, asked.left)?;
+        let rest = asked.left.minus(self.kept[base].columns);
         let (k, by) = refine_kept(
             alloc,
             snapshot,
@@ -421,10 +437,10 @@ impl Shelf {
             rest,
         )?;
         let question = Question {
-            target: job.target(),
+            target: asked.target,
             by,
-            from: job.from(),
-            most,
+            from: asked.from,
+            most: asked.most,
         };
         let partition = &self.kept[k].partition;
         walk::pairs_in_groups(alloc, partition, snapshot, &question, slots, steps)

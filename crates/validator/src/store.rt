@@ -1,19 +1,26 @@
 // Verdicts that start from kept partitions.
-ghost use Rattle.std.specs.Prelude.{◌≡◌, ◌<◌, ◌≤◌, ◌+◌, ◌↔◌, ℕ, [], true, length, slice_index, vec_len, IfOk};
+ghost use Rattle.std.specs.Prelude.{◌≡◌, ◌<◌, ◌≤◌, ◌+◌, ◌↔◌, ℕ, [], true, length, slice_index, vec_len, IfOk, IfSome};
 ghost use Rattle.std.specs.List.{All};
-ghost use Rattle.col_set.specs.ColSet.{with, empty};
+ghost use Rattle.col_set.specs.ColSet.{has, with, empty};
+ghost use Rattle.rel_base.specs.Alike.{Alike};
 ghost use Rattle.rel_base.specs.Shows.{holds_in};
 ghost use Rattle.stripped_partition.specs.Stripped.{stripped, error_of};
+ghost use Rattle.validator.specs.Asking.{IsAsked};
 ghost use Rattle.validator.specs.Verdicts.{AreApart, AreFound, IsFitting, IsVerdict, new_rows};
 ghost use Rattle.validator.specs.declared.verdict.Verdict.TheVariants.{Holds, Broken};
 
-use crate::shelf::Shelf;
+use crate::links::{self, Link};
+use crate::shelf::{Asked, Shelf, lightest, no_weights};
 use crate::{Verdict, judge};
 use rel_base::{COLUMN_PLACES, Job, RowNo, Snapshot, Steps};
 use std::alloc::{AllocError, Global};
 use std::marker::Model;
+use std::mem;
 use std::sync::Arc;
 use std::sync::ledger::Ledger;
+
+// The rows that are few enough to be looked up whatever the column.
+const FEW_ROWS: u32 = 16;
 
 /// Stripped partitions of one snapshot, which verdicts start from. One worker owns it.
 ///
@@ -33,6 +40,10 @@ pub struct Store {
     snapshot: Arc<Snapshot>,
     shelf: Shelf,
     slots: Vec<u32>,
+    links: Vec<Link>,
+    earlier: Option<Arc<Snapshot>>,
+    hints: [u32; COLUMN_PLACES],
+    room: usize,
 }
 
 impl Model for Store {
@@ -41,11 +52,12 @@ impl Model for Store {
     ghost Value = { CodeTable };
 
     ghost use Rattle.validator.specs.Kept.{AreKept, AreWeights};
+    ghost use Rattle.validator.specs.Links.{AreLinks, linked_of};
     ghost use Rattle.validator.specs.Walk.{IsClear};
 
     ghost view = { λ s. s.snapshot.value };
 
-    ghost invariant = { λ s. AreKept s.snapshot.value s.shelf.kept.items × AreWeights s.snapshot.value s.shelf.weights × IsClear s.slots.items };
+    ghost invariant = { λ s. AreKept s.snapshot.value s.shelf.kept.items × AreWeights s.snapshot.value s.shelf.weights × IsClear s.slots.items × AreLinks (linked_of (λ earlier. earlier.value) s.snapshot.value s.earlier) s.links.items };
 }
 
 impl Store {
@@ -58,10 +70,30 @@ impl Store {
             snapshot,
             shelf: Shelf::of(alloc, rows, room),
             slots: Vec::new(alloc),
+            links: Vec::new(alloc),
+            earlier: None,
+            hints: no_weights(),
+            room,
         }
     }
 
-    /// Validates a job on the store's snapshot, as `validate` does, with the same answer to whether the dependency holds.
+    /// Goes over to another snapshot, mostly a later one of the same relation. It takes no memory, and some steps a column.
+    ///
+    /// The partitions go. What look-ups of new rows made stays, and serves the new snapshot where the rows that both have are coded
+    /// alike, as those of one row log are: the first look-up compares the codes of all rows in each column that look-ups go by, which
+    /// takes little against making it anew.
+    pub fn renew(&mut self, alloc: Global, snapshot: Arc<Snapshot>)
+        ensures { self.new ≡ snapshot.value }
+    {
+        let rows = snapshot.to().number() as usize;
+        self.hints = self.shelf.known_or(&self.hints);
+        self.shelf = Shelf::of(alloc, rows, self.room);
+        let last = mem::replace(&mut self.snapshot, snapshot);
+        self.earlier = Some(links::kept_earlier(self.earlier.take(), last));
+    }
+
+    /// Validates a job as `validate` does, with the same answer to whether the dependency holds, on the store's snapshot: one of the
+    /// same live rows as the job's, which agree in the same columns. So a store serves all jobs on the same rows.
     ///
     /// It takes the columns of the left side in the order of how many rows they tell apart, the lightest first. It starts from the
     /// kept partition by the most of the first of them, up to four, or from one of the path if that is by more columns, refines it
@@ -74,7 +106,7 @@ impl Store {
         job: &Job,
         steps: &mut Steps<L>,
     ) -> Result<Verdict, AllocError>
-        requires same { self.old ≡ job.now.snapshot }
+        requires alike { Alike self.old job.now.snapshot }
         requires fitting { IsFitting job.now }
         ensures verdict { IfOk result (IsVerdict job.now) }
         ensures exactly { IfOk result (λ verdict. (verdict ≡ Holds job.now.to) ↔ (holds_in job.now.snapshot job.now.left job.now.target ≡ true)) }
@@ -85,7 +117,7 @@ impl Store {
         Ok(judge::verdict_of(job, &pairs))
     }
 
-    /// Pairs of live rows that break a job's dependency on the store's snapshot: up to so many, and none exactly where it holds.
+    /// Pairs of live rows that break a job's dependency, on a store of the same rows: up to so many, and none exactly where it holds.
     ///
     /// Of each pair the smaller number comes first, and the two rows agree on the left side and differ on the target. No two pairs
     /// come from one group of rows that agree on the left side. The work of a verdict that fails is nearly all in the refining of
@@ -101,7 +133,7 @@ impl Store {
         steps: &mut Steps<L>,
     ) -> Result<Vec<(RowNo, RowNo)>, AllocError>
         requires some { 0 < most }
-        requires same { self.old ≡ job.now.snapshot }
+        requires alike { Alike self.old job.now.snapshot }
         requires fitting { IsFitting job.now }
         ensures pairs { IfOk result (λ pairs. All (λ pair. IsVerdict job.now (Broken pair.0 pair.1)) pairs.items) }
         ensures groups { IfOk result (λ pairs. AreApart job.now.snapshot job.now.left pairs.items) }
@@ -129,7 +161,7 @@ impl Store {
         self.shelf.weights(alloc, &self.snapshot)
     }
 
-    // Searches for pairs that break a job's dependency, and keeps the partitions that are made for it, for good or as the path.
+    // Searches for pairs that break a job's dependency.
     fn search<L: Ledger>(
         &mut self,
         alloc: Global,
@@ -138,14 +170,83 @@ impl Store {
         steps: &mut Steps<L>,
     ) -> Result<Vec<(RowNo, RowNo)>, AllocError>
         requires some { 0 < most }
-        requires same { self.old ≡ job.now.snapshot }
+        requires alike { Alike self.old job.now.snapshot }
         requires fitting { IsFitting job.now }
         ensures pairs { IfOk result (λ pairs. AreFound job.now.snapshot job.now.left job.now.target pairs.items) }
         ensures few { IfOk result (λ pairs. vec_len pairs ≤ most) }
         ensures steps { steps.new ≤ steps.old + new_rows job.now.snapshot job.now.from }
         ensures store { self.new ≡ self.old }
     {
-        let found = self.shelf.search(alloc, job, most, &mut self.slots, steps);
+        let asked = Asked {
+            left: job.left(),
+            target: job.target(),
+            from: job.from(),
+            most,
+        };
+        match self.column_for(&asked) {
+            Some(column) => self.look_up(alloc, &asked, column, steps),
+            None => self.search_groups(alloc, &asked, steps),
+        }
+    }
+
+    // The column of the left side by which new rows are looked up, where they are few: the one that tells the most rows apart, as far
+    // as that is known.
+    fn column_for(&self, asked: &Asked) -> Option<u8>
+        ensures { IfSome result (λ column. has asked.now.left column ≡ true) }
+    {
+        let first = asked.left.first()?;
+        let column = lightest(asked.left, first, &self.hints);
+        let rows = self.snapshot.live_count();
+        let new = self
+            .snapshot
+            .to()
+            .number()
+            .saturating_sub(asked.from.number());
+        let apart = rows.saturating_sub(self.hints[column as usize]);
+        if asked.from.number() > 1 && (new <= FEW_ROWS || (new <= rows / 8 && new / 4 <= apart)) {
+            Some(column)
+        } else {
+            None
+        }
+    }
+
+    // Looks up each new row among the rows with its code in a column.
+    fn look_up<L: Ledger>(
+        &mut self,
+        alloc: Global,
+        asked: &Asked,
+        column: u8,
+        steps: &mut Steps<L>,
+    ) -> Result<Vec<(RowNo, RowNo)>, AllocError>
+        requires asked { IsAsked self.old asked.now }
+        requires column { has asked.now.left column ≡ true }
+        ensures pairs { IfOk result (λ pairs. AreFound self.old asked.now.left asked.now.target pairs.items) }
+        ensures few { IfOk result (λ pairs. vec_len pairs ≤ asked.now.most) }
+        ensures steps { steps.new ≤ steps.old + new_rows self.old asked.now.from }
+        ensures store { self.new ≡ self.old }
+    {
+        let kept = mem::replace(&mut self.links, Vec::new(alloc));
+        let mut links = links::up_to_date(alloc, self.earlier.take(), &self.snapshot, kept);
+        let found = links::look_up(alloc, &self.snapshot, &mut links, column, asked, steps);
+        self.links = links;
+        found
+    }
+
+    // Searches the groups by the left side, and keeps the partitions that are made for it, for good or as the path.
+    fn search_groups<L: Ledger>(
+        &mut self,
+        alloc: Global,
+        asked: &Asked,
+        steps: &mut Steps<L>,
+    ) -> Result<Vec<(RowNo, RowNo)>, AllocError>
+        requires { IsAsked self.old asked.now }
+        ensures pairs { IfOk result (λ pairs. AreFound self.old asked.now.left asked.now.target pairs.items) }
+        ensures few { IfOk result (λ pairs. vec_len pairs ≤ asked.now.most) }
+        ensures steps { steps.new ≤ steps.old + new_rows self.old asked.now.from }
+        ensures store { self.new ≡ self.old }
+    {
+        let shelf = &mut self.shelf;
+        let found = shelf.search(alloc, &self.snapshot, asked, &mut self.slots, steps);
         if found.is_err() {
             self.slots = Vec::new(alloc);
         }

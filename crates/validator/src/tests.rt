@@ -1,6 +1,7 @@
 // Answers on small relations that are drawn, against the plain programs.
 ghost use Rattle.std.specs.Prelude.{◌≡◌, ◌<◌, ◌≤◌, IsTrue};
 ghost use Rattle.col_set.specs.Target.{IsColumnTarget};
+ghost use Rattle.rel_base.specs.Alike.{Alike};
 ghost use Rattle.validator.specs.Verdicts.{IsFitting};
 
 mod sample;
@@ -60,7 +61,7 @@ fn answered<L: Ledger>(
     requires name { blank.name ≡ L.name }
     requires parts { blank.parts ≡ L.parts }
     requires some { 0 < L.parts }
-    requires same { store.old ≡ job.now.snapshot }
+    requires alike { Alike store.old job.now.snapshot }
     requires fitting { IsFitting job.now }
     ensures { store.new ≡ store.old }
 {
@@ -94,6 +95,7 @@ fn are_right(sample: &Sample, job: &Job, pairs: &[(RowNo, RowNo)]) -> bool
 }
 
 // Compares what is answered on a job, once more where memory is wanting.
+#[tactic(auto, using(crate::proofs::PlainTests::alike_same))]
 fn compare(
     alloc: Global,
     rt: &impl Abort,
@@ -154,18 +156,36 @@ fn turn_at(turn: u32) -> (ColSet, RowNo) {
     }
 }
 
-// Compares what is answered on all left sides by one store, one after another, and its weights.
+// Compares what is answered in some turns by one store, one after another.
+fn compare_turns(
+    alloc: Global,
+    rt: &impl Abort,
+    sample: &Sample,
+    store: &mut Store,
+    turns: (u32, u32),
+) -> Result<(), AllocError>
+    requires { store.old ≡ sample.now.snapshot.value }
+    ensures { store.new ≡ store.old }
+{
+    for turn in turns.0..turns.1 {
+        let (left, from) = turn_at(turn);
+        compare_targets(alloc, rt, sample, store, left, from)?;
+    }
+    Ok(())
+}
+
+// Compares what is answered on all left sides by one store, which goes over to these rows, and to the same ones again, and its
+// weights.
 fn compare_left_sides(
     alloc: Global,
     rt: &impl Abort,
     sample: &Sample,
-    room: usize,
+    store: &mut Store,
 ) -> Result<(), AllocError> {
-    let mut store = Store::of(alloc, sample.snapshot.clone()?, room);
-    for turn in 0..64u32 {
-        let (left, from) = turn_at(turn);
-        compare_targets(alloc, rt, sample, &mut store, left, from)?;
-    }
+    store.renew(alloc, sample.snapshot.clone()?);
+    compare_turns(alloc, rt, sample, store, (0, 48))?;
+    store.renew(alloc, sample.snapshot.clone()?);
+    compare_turns(alloc, rt, sample, store, (48, 64))?;
     assert!(rt; sample.weighs(&store.weights(alloc)?));
     Ok(())
 }
@@ -177,8 +197,11 @@ fn answers_are_those_of_the_plain_programs(rt: HostRuntime) -> Result<(), Fail> 
     let alloc = rt.alloc();
     let mut samples = Samples::from_seed(1986);
     for room in &ROOMS {
-        let sample = drawn(alloc, &rt, &mut samples)?;
-        compare_left_sides(alloc, &rt, &sample, *room)?;
+        let first = drawn(alloc, &rt, &mut samples)?;
+        let mut store = Store::of(alloc, first.snapshot.clone()?, *room);
+        compare_left_sides(alloc, &rt, &first, &mut store)?;
+        let second = drawn(alloc, &rt, &mut samples)?;
+        compare_left_sides(alloc, &rt, &second, &mut store)?;
     }
     Ok(())
 }

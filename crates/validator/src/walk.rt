@@ -40,13 +40,22 @@ fn key(snapshot: &Snapshot, by: Option<u8>, row: RowNo) -> usize
     }
 }
 
-// Whether two rows differ on the target. Two rows always differ on which row it is.
-fn differ(snapshot: &Snapshot, target: Target, i: RowNo, j: RowNo) -> bool
+// Whether two rows differ on the target. Two rows always differ on which row it is. This alone compares rows on the target, and
+// each such comparison is a step.
+pub(crate) fn differ<L: Ledger>(
+    snapshot: &Snapshot,
+    target: Target,
+    i: RowNo,
+    j: RowNo,
+    steps: &mut Steps<L>,
+) -> bool
     requires first { i < snapshot.now.to }
     requires second { j < snapshot.now.to }
     requires target { IsColumnTarget (length snapshot.now.codes) target }
-    ensures { result ≡ not (has_target (code_agree snapshot.now i j) target) }
+    ensures value { result ≡ not (has_target (code_agree snapshot.now i j) target) }
+    ensures step { steps.new ≡ steps.old + 1 }
 {
+    steps.tick();
     match target {
         Target::Col(column) => snapshot.code(i, column) != snapshot.code(j, column),
         Target::RowId => true,
@@ -72,12 +81,11 @@ fn are_apart<L: Ledger>(
     if row.number() < from.number() {
         return false;
     }
-    steps.tick();
-    differ(snapshot, target, first, row)
+    differ(snapshot, target, first, row, steps)
 }
 
 // Makes room for a slot, and for those before it.
-fn reach(slots: &mut Vec<u32>, slot: usize) -> Result<(), AllocError>
+pub(crate) fn reach(slots: &mut Vec<u32>, slot: usize) -> Result<(), AllocError>
     requires { slot < 2 ^ 32 }
     ensures kept { (c : ℕ) → slice_index slots.new.items c ≡ slice_index slots.old.items c }
     ensures room { OnOk result (slot < vec_len slots.new) }
@@ -177,7 +185,10 @@ fn pair_of_group<L: Ledger>(
 }
 
 // Adds a pair, if there is one.
-fn add(pairs: &mut Vec<(RowNo, RowNo)>, pair: Option<(RowNo, RowNo)>) -> Result<(), AllocError>
+pub(crate) fn add(
+    pairs: &mut Vec<(RowNo, RowNo)>,
+    pair: Option<(RowNo, RowNo)>,
+) -> Result<(), AllocError>
     ensures { OnOk result (pairs.new.items ≡ pairs.old.items ++ option_to_list pair) }
 {
     if let Some(pair) = pair {

@@ -1,6 +1,7 @@
 use Rattle.std.proofs.Common.{inl, inr, ◌∙◌, ◌++◌, ◌∷◌, [], ℕ, ap, sym, subst, map, List, length, arith}
 use Rattle.std.proofs.lemmas.List.{map_push}
 use Rattle.rel_base.specs.Cells.{Cell}
+use Rattle.row_log.specs.Codes.{codes_of}
 use Rattle.row_log.specs.Column.{ColumnCells}
 use Rattle.row_log.specs.Distinct.{AreFlaggedCells, AreUsed}
 use Rattle.row_log.proofs.Distinct.{AreFlaggedCells-all, if_ok, looked_at}
@@ -31,6 +32,6 @@ returns c =
     let n = c.len-count.ensures.len in
     let taken : AreFlaggedCells c.args.self.now.cells c.args.flags.now (map (λ b. b.now) c.loop-code.cells.items) =
     subst (λ (v : ColumnCells). AreFlaggedCells v.cells c.args.flags.now (map (λ b. b.now) c.loop-code.cells.items)) c.self.view_is
-    (AreFlaggedCells-all c.self.inside.dict c.self.inside.codes.items c.args.flags.now c.in_ok-used.used.items c.loop-code.code (length c.self.inside.codes.items) _ c.self.invariant.known
-    (subst (λ (codes : List ℕ). AreUsed c.args.flags.now codes (length codes) c.in_ok-used.used.items) c.deref.ensures.value c.in_ok-used.ensures.used) (λ i. length c.self.inside.codes.items) (omega arith) c.loop-code.invariant) in
-    if_ok c.copied.result _ (AreFlaggedCells c.args.self.now.cells c.args.flags.now) c.copied.ensures (λ v e. subst (AreFlaggedCells c.args.self.now.cells c.args.flags.now) (sym (e ∙ ap (map (λ b. b.now)) c.deref-2.ensures.value)) taken)
+    (AreFlaggedCells-all c.self.inside.dict (codes_of c.self.inside.codes) c.args.flags.now c.in_ok-used.used.items c.loop-code.code (length (codes_of c.self.inside.codes)) _ c.self.invariant.0.known
+    (subst (λ (codes : List ℕ). AreUsed c.args.flags.now codes (length codes) c.in_ok-used.used.items) c.parts.ensures c.in_ok-used.ensures.used) (λ i. length (codes_of c.self.inside.codes)) (omega arith) c.loop-code.invariant) in
+    if_ok c.copied.result _ (AreFlaggedCells c.args.self.now.cells c.args.flags.now) c.copied.ensures (λ v e. subst (AreFlaggedCells c.args.self.now.cells c.args.flags.now) (sym (e ∙ ap (map (λ b. b.now)) c.deref.ensures.value)) taken)

@@ -6,7 +6,7 @@ use Rattle.rel_base.specs.RowState.{width}
 use Rattle.rel_base.specs.Batches.{applied}
 use Rattle.row_log.specs.Applying.{LeadsFrom}
 use Rattle.row_log.proofs.Batch.{from_state, DidAll-after, as_wide, stepped, halted, answered, whole}
-use Rattle.row_log.proofs.row_log.RowLog.apply.Goals as goal
+use Rattle.row_log.proofs.row_log.RowLog.apply_all.Goals as goal
 
 pub apply_one-requires : goal.apply_one-requires
 apply_one-requires c =
