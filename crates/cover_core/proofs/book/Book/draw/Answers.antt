@@ -9,7 +9,6 @@ use Rattle.cover_core.proofs.Whole.{DrawAll, draw-all, draw-target, none_drawabl
 use Rattle.cover_core.proofs.Turn.{on-err}
 use Rattle.cover_core.proofs.Cursors.{past-held, to_search, searched, first-told, first-none}
 use Rattle.cover_core.proofs.book.Book.draw.Goals as goal
-
 use Rattle.cover_core.proofs.book.Book.draw.Goals.{After-of-job, in-Some-first, in-None-first}
 
 all : (c : After-of-job) → DrawAll _ _ _ c.self.invariant.0 c.self.view_is c.of-job.result c.hold.new.self

@@ -25,7 +25,7 @@ pub invariant_of-self-2 : goal.invariant_of-self-2
 invariant_of-self-2 c =
     let all = refute-all _ _ _ c.self.invariant.0 c.self.view_is c.args.i c.args.j c.agree-agree.result c.add.new.self c.put_all.new.candidates c.requires (live-found _ _ _ c.self.invariant.0 c.self.view_is c.args.i c.args.j c.is_live.result c.is_live-2.result c.is_live.ensures.value c.if-not-is_live.false c.is_live-2.ensures.value c.if-not-is_live-2.false) (news-found _ _ _ c.self.invariant.0 c.self.view_is c.args.i c.args.j c.agree-agree.result c.columns.result c.by-concerned.result c.agree-agree.ensures c.columns.ensures.width c.by-concerned.ensures (λ none. false≢true (sym c.if-is_none.false ∙ c.is_none.ensures.1 none))) c.agree-agree.ensures c.in_ok-add.ensures.ok (c.put_all.ensures _ (c.in_ok-parts.ensures (sets_of c.self.inside.witnesses) (are_least _ _ c.self.invariant.0) (subst (λ (n : ℕ). AreConcerned n (sets_of c.self.inside.witnesses) c.agree-agree.result c.by-concerned.result) c.columns.ensures.width c.by-concerned.ensures))) in
     let w = searched (record { rows = c.self.inside.rows; witnesses = c.add.new.self; candidates = c.put_all.new.candidates }) _ all.kept c.next-next.result c.move_both_back.new.cursors c.first_unfinished-self-inside.new.cursor c.first_unfinished-self-inside.result c.next-next.ensures.value
-        (past-moved (record { rows = c.self.inside.rows; witnesses = c.add.new.self; candidates = c.put_all.new.candidates }) c.next-next.result c.move_both_back.new.cursors c.next-next.ensures.value c.move_both_back.ensures.unfinished c.move_both_back.ensures.drawable) c.first_unfinished-self-inside.ensures.past c.first_unfinished-self-inside.ensures.found in
+    (past-moved (record { rows = c.self.inside.rows; witnesses = c.add.new.self; candidates = c.put_all.new.candidates }) c.next-next.result c.move_both_back.new.cursors c.next-next.ensures.value c.move_both_back.ensures.unfinished c.move_both_back.ensures.drawable) c.first_unfinished-self-inside.ensures.past c.first_unfinished-self-inside.ensures.found in
     (all.kept, c.self.invariant.1, w.past, w.first)
 
 pub returns-clause-step : goal.returns-clause-step

@@ -9,8 +9,7 @@ use Rattle.cover_core.proofs.book.Book.release.Goals as goal
 
 pub invariant_of-self : goal.invariant_of-self
 invariant_of-self c =
-    let same : c.hold.new.self ≡ c.self.inside.candidates = past-dropped (record { rows = c.self.inside.rows; witnesses = c.self.inside.witnesses; candidates = c.self.inside.candidates }) c.target-target.result c.left-left.result c.hold.new.self c.self.inside.cursors (sym c.hold.ensures.answer ∙ c.if-not-hold.true) c.hold.ensures.list in
-    (
+    let same : c.hold.new.self ≡ c.self.inside.candidates = past-dropped (record { rows = c.self.inside.rows; witnesses = c.self.inside.witnesses; candidates = c.self.inside.candidates }) c.target-target.result c.left-left.result c.hold.new.self c.self.inside.cursors (sym c.hold.ensures.answer ∙ c.if-not-hold.true) c.hold.ensures.list in (
       (release-all _ _ _ c.self.invariant.0 c.self.view_is c.args.job.now c.target-target.result c.left-left.result c.hold.result releases.Dropped c.hold.new.self c.target-target.ensures c.left-left.ensures c.requires.target c.hold.ensures.answer (sym (ap (λ b. cond b releases.Released releases.Dropped) c.if-not-hold.true)) c.hold.ensures.list).kept,
       c.self.invariant.1,
       subst (λ (l : CandLists). ArePast (with_lists (record { rows = c.self.inside.rows; witnesses = c.self.inside.witnesses; candidates = c.self.inside.candidates }) l) c.self.inside.cursors) (sym same) c.self.invariant.2,

@@ -4,7 +4,6 @@ use Rattle.cover_steps.specs.Core.{Core, listed_covers, first_unfinished}
 use Rattle.cover_core.proofs.Calls.{listed-is, listed-exact}
 use Rattle.cover_core.proofs.Cursors.{first-told, first-none}
 use Rattle.cover_core.proofs.book.Book.settle.Goals as goal
-
 use Rattle.cover_core.proofs.book.Book.settle.Goals.{In_ok-listed-in-None}
 
 none : (c : In_ok-listed-in-None) → first_unfinished c.args.self.now ≡ None
