@@ -48,11 +48,11 @@ abbrev pub with_lists : Core → CandLists → Core
 with_lists s c = record { rows = s.rows; witnesses = s.witnesses; candidates = c }
 
 -- ---- lists that stay
-with_list-itself : (c : CandLists) (t : Target) → with_list c t (cands_of c t) ≡ c
+pub with_list-itself : (c : CandLists) (t : Target) → with_list c t (cands_of c t) ≡ c
 with_list-itself c RowId = refl
 with_list-itself c (Col a) = λ i. record { rows = c.rows; columns = set-get_or c.columns a [] i }
 
-unlisted-marked : (cs : List Cand) (x to : ℕ) → is_listed cs x ≡ false → marked cs x to ≡ cs
+pub unlisted-marked : (cs : List Cand) (x to : ℕ) → is_listed cs x ≡ false → marked cs x to ≡ cs
 unlisted-marked [] x to e = refl
 unlisted-marked (c ∷ cs) x to e = by (eqb c.left x) refl e (λ g. unlisted-marked cs x to g)
   where
@@ -60,7 +60,7 @@ unlisted-marked (c ∷ cs) x to e = by (eqb c.left x) refl e (λ g. unlisted-mar
     by true i g rest = absurd (true≢false g)
     by false i g rest = ap (λ (ds : List Cand). c ∷ ds) (rest g)
 
-unlisted-holding : (cs : List Cand) (x : ℕ) (held : Bool) → is_listed cs x ≡ false → holding cs x held ≡ cs
+pub unlisted-holding : (cs : List Cand) (x : ℕ) (held : Bool) → is_listed cs x ≡ false → holding cs x held ≡ cs
 unlisted-holding [] x held e = refl
 unlisted-holding (c ∷ cs) x held e = by (eqb c.left x) refl e (λ g. unlisted-holding cs x held g)
   where

@@ -13,3 +13,5 @@ pub mod Whole
 pub mod Turn
 pub mod Freeing
 pub mod NearBooks
+pub mod Concerning
+pub mod Back

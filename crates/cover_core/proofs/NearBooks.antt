@@ -1,7 +1,7 @@
 -- A book whose candidates are known to hold among all rows but the last one: its jobs look at one row.
 use Rattle.std.proofs.Common.{inl, inr, ◌≡◌, ◌⊎◌, ℕ, zero, suc, ◌+◌, ◌-◌, ◌≤◌, eqb, leb, Bool, true, false, cond, refl, sym, ap, ◌∙◌, subst, arith, List, [], ◌∷◌, length, not, Option, Some, None}
 use Rattle.std.specs.List.{filter, find, count_by, range_with_len}
-use Rattle.std.specs.Option.{is_some}
+use Rattle.std.specs.Option.{is_some, option_map}
 use Rattle.std.proofs.lemmas.Bool.{true≢false, leb-true, ltb-false}
 use Rattle.std.proofs.lemmas.List.Sums.{sum_by-cons}
 use Rattle.col_set.specs.declared.target.Target.{Target}
@@ -21,6 +21,8 @@ use Rattle.cover_steps.proofs.Lists.{find-None}
 use Rattle.cover_steps.proofs.Kept.{cands_of-with_list, target_cases}
 use Rattle.cover_steps.proofs.Found.{IsEntry, IsEntry-listed, Listed-entries, drawable-entry}
 use Rattle.validator.specs.Verdicts.{new_rows}
+use Rattle.cover_core.specs.declared.cursor.Unfinished.{Unfinished}
+use Rattle.cover_core.specs.Past.{place}
 use Rattle.cover_core.specs.Tests.{AreNear}
 use Rattle.cover_core.specs.Replies.{reply_of_draw}
 use Rattle.cover_core.specs.declared.answers.Draw.{Draw}
@@ -96,9 +98,16 @@ module _ (s : Core) (sound : Sound s) (near : AreNear s) where
       omega arith
 
 -- where no candidate is found that is not
-pub near-from : (s : Core) → Sound s → (n : ℕ) (found : Option (Target × Cand)) (b : Bool) → n ≡ next s.rows - 1 → found ≡ find (λ e. is_unfinished n e.1) (entries_in (length s.candidates.columns) s.candidates) → is_some found ≡ not b → b ≡ true → AreNear s
-near-from s sound n (Some x) b e f i h = absurd (true≢false (i ∙ ap not h))
-near-from s sound n None b e f i h = All-from (λ e. next s.rows - 1 ≤ e.1.upto) (entries s) (λ p g.
+near-found : (s : Core) → Sound s → (n : ℕ) (found : Option (Target × Cand)) (b : Bool) → n ≡ next s.rows - 1 → found ≡ find (λ e. is_unfinished n e.1) (entries_in (length s.candidates.columns) s.candidates) → is_some found ≡ not b → b ≡ true → AreNear s
+near-found s sound n (Some x) b e f i h = absurd (true≢false (i ∙ ap not h))
+near-found s sound n None b e f i h = All-from (λ e. next s.rows - 1 ≤ e.1.upto) (entries s) (λ p g.
     let k = find-None (λ e. is_unfinished n e.1) (entries_in (length s.candidates.columns) s.candidates) p (sym f) (subst (λ (w : ℕ). Listed p (entries_in w s.candidates)) (sym sound.columns) g) in
     let l = ltb-false p.1.upto n k in
     omega arith)
+
+pub near-from : (s : Core) → Sound s → (n : ℕ) (found : Option Unfinished) (b : Bool) → n ≡ next s.rows - 1 → found ≡ option_map place (find (λ e. is_unfinished n e.1) (entries_in (length s.candidates.columns) s.candidates)) → is_some found ≡ not b → b ≡ true → AreNear s
+near-from s sound n found b e f i h = near-found s sound n (find (λ e. is_unfinished n e.1) (entries_in (length s.candidates.columns) s.candidates)) b e refl (sym (some-map _) ∙ ap is_some (sym f) ∙ i) h
+  where
+    some-map : (o : Option (Target × Cand)) → is_some (option_map place o) ≡ is_some o
+    some-map None = refl
+    some-map (Some e) = refl

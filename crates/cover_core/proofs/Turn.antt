@@ -1,6 +1,7 @@
 -- One turn of `finish`: the first unfinished candidate is validated, and its verdict is booked.
 use Rattle.std.proofs.Common.{inl, inr, ◌≡◌, ℕ, ◌<◌, Bool, true, false, not, refl, sym, ap, ◌∙◌, subst, List, [], ◌∷◌, ◌++◌, length, length-append, Option, Some, None, Result, Ok, Err, IfOk, IsTrue, ◌↔◌}
-use Rattle.std.specs.Option.{is_some}
+use Rattle.std.specs.Prelude.{OnErr}
+use Rattle.std.specs.Option.{is_some, option_map}
 use Rattle.std.proofs.lemmas.Bool.{true≢false, false≢true, eq-eqb}
 use Rattle.std.proofs.lemmas.List.{append_assoc, append-nil}
 use Rattle.col_set.specs.declared.target.Target.{Target}
@@ -22,6 +23,8 @@ use Rattle.validator.specs.Verdicts.{IsBreach, IsFitting}
 use Rattle.cover_core.specs.Kept.{IsBook}
 use Rattle.cover_core.specs.Replies.{reply_of_mark, reply_of_refutation}
 use Rattle.cover_core.specs.Work.{Extends, work}
+use Rattle.cover_core.specs.declared.cursor.Unfinished.{Unfinished}
+use Rattle.cover_core.specs.Past.{IsFirst, place}
 use Rattle.cover_core.specs.declared.answers.Refutation.{Refutation}
 use Rattle.cover_core.specs.declared.answers.Refutation.TheVariants.{Gone, Known, Booked}
 use Rattle.cover_core.proofs.Booking.{job_of, unfinished-entry, Fits-entry, IsFitting-entry, breach-live, breach-refutes, work-marked}
@@ -60,6 +63,17 @@ settled-is s None true e i = ((λ _. e), (λ _. refl))
 settled-is s None false e i = absurd (false≢true i)
 settled-is s (Some x) true e i = absurd (true≢false i)
 settled-is s (Some x) false e i = ((λ h. absurd (false≢true h)), (λ h. absurd (true≢false (ap is_some (sym e ∙ h)))))
+
+pub settled-first : (s : Core) (first : Option Unfinished) (b : Bool) → IsFirst s first → is_some first ≡ not b → IsTrue b ↔ (first_unfinished s ≡ None)
+settled-first s first b is i = settled-is s (first_unfinished s) b refl (sym (some-map (first_unfinished s)) ∙ ap is_some (sym is) ∙ i)
+  where
+    some-map : (o : Option (Target × Cand)) → is_some (option_map place o) ≡ is_some o
+    some-map None = refl
+    some-map (Some e) = refl
+
+pub on-err : {X E : Type 0} (r : Result X E) (P : Type 0) → P → OnErr r P
+on-err (Ok x) P h = tt
+on-err (Err e) P h = h
 
 pub both-ok : {X E : Type 0} (r : Result X E) (P Q R : X → Type 0) → IfOk r P → IfOk r Q → ((x : X) → P x → Q x → R x) → IfOk r R
 both-ok (Ok x) P Q R p q f = f x p q

@@ -102,6 +102,9 @@ module _ (s now : Core) (table : CodeTable) (book : IsBook s table) (view : s �
   pub none_drawable : (n : ℕ) (found : Option (Target × Cand)) → n ≡ next s.rows → found ≡ find (λ e. is_drawable n e.1) (entries_in (length s.candidates.columns) s.candidates) → found ≡ None → first_drawable now ≡ None
   none_drawable n found e f g = subst (λ (m : Core). first_drawable m ≡ None) view (sym (Calls.first_drawable-is s table book n found e f) ∙ g)
 
+  pub some_drawable : (n : ℕ) (found : Option (Target × Cand)) (e : Target × Cand) → n ≡ next s.rows → found ≡ find (λ e. is_drawable n e.1) (entries_in (length s.candidates.columns) s.candidates) → found ≡ Some e → first_drawable now ≡ None → ⊥
+  some_drawable n found e i f g h = absurd (let k : Some e ≡ None = sym g ∙ Calls.first_drawable-is s table book n found i f ∙ ap first_drawable view ∙ h in cc)
+
   pub unfinished-found : (n : ℕ) (found answer : Option (Target × Cand)) → n ≡ next s.rows → found ≡ find (λ e. is_unfinished n e.1) (entries_in (length s.candidates.columns) s.candidates) → found ≡ answer → first_unfinished now ≡ answer
   unfinished-found n found answer e f g = subst (λ (m : Core). first_unfinished m ≡ answer) view (sym (Calls.first_unfinished-is s table book n found e f) ∙ g)
 

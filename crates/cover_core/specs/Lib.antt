@@ -1,3 +1,4 @@
+pub mod Concerning
 pub mod EndedRows
 pub mod Evidences
 pub mod Kept

@@ -8,23 +8,26 @@ ghost use Rattle.rel_base.specs.RowState.{opened, width};
 ghost use Rattle.rel_base.specs.Shows.{holds_in};
 ghost use Rattle.rel_base.specs.Covers.{covers};
 ghost use Rattle.rel_base.specs.Batches.{IsAsWide};
-ghost use Rattle.cover_steps.specs.Core.{opened_core, entries, first_unfinished as first_unfinished_of};
+ghost use Rattle.rel_base.specs.Validity.{agree_of};
+ghost use Rattle.cover_steps.specs.Core.{opened_core, entries, refutes_some, first_drawable as first_drawable_of, first_unfinished as first_unfinished_of};
 ghost use Rattle.cover_steps.specs.Steps as steps;
 ghost use Rattle.cover_steps.specs.Sound.{Sound, Fits, IsMarked};
 ghost use Rattle.cover_core.specs.Evidences.{IsEvidence};
+ghost use Rattle.cover_core.specs.Past.{IsFirst};
 ghost use Rattle.cover_core.specs.Work.{Extends, work};
 ghost use Rattle.cover_core.specs.Replies.{reply_of_draw, reply_of_refutation, reply_of_mark, reply_of_release, reply_of_batch, reply_of_settle, IfJob, IfReady};
 
 use crate::answers::{Draw, Refutation, Release, Settling};
-use crate::cursor::Cursors;
+use crate::concerned::Concerned;
+use crate::cursor::{Cursors, Unfinished, is_late};
 use crate::evidence::{Evidence, is_told, news_of, push_evidence, recent};
 use crate::listed::listed;
 use crate::order::Order;
 use crate::parts::{drafted, put_all, specialised};
 use crate::renewal::renewed_after;
 use crate::sampling::sampled;
-use crate::searching::{first_drawable, first_unfinished, refutes_some};
-use crate::verdict::{breaches_on, store_of, verdict_on};
+use crate::searching::{first_drawable, first_unfinished, move_both_back};
+use crate::verdict::{breaches_on, store_of};
 use crate::waiting::of_size;
 use candidate_cover::{Cand, CandidateCover, Marking};
 use negative_cover::{NegativeCover, Witness};
@@ -34,7 +37,10 @@ use std::alloc::{AllocError, Global};
 use std::marker::{Brand, Model};
 use std::sync::Arc;
 use std::sync::ledger::Blank;
-use validator::{Store, Verdict};
+use validator::Store;
+
+// How many pairs of rows a pass asks for where a dependency does not hold.
+const MOST_BREACHES: usize = 64;
 
 /// The rows of a relation, the witnesses that refute dependencies, and for each target the candidates that they leave.
 ///
@@ -48,6 +54,7 @@ pub struct Book {
     snapshot: Arc<Snapshot>,
     store: Store,
     cursors: Cursors,
+    first: Option<Unfinished>,
     // That of the columns when the book was opened. It only decides which verdicts share groups of rows, and batches change it
     // little.
     order: Order,
@@ -58,13 +65,13 @@ impl Model for Book {
     ghost use Rattle.std.specs.Prelude.{◌≡◌};
     ghost use Rattle.cover_steps.specs.Core.{Core};
     ghost use Rattle.cover_core.specs.Kept.{IsBook};
-    ghost use Rattle.cover_core.specs.Past.{ArePast};
+    ghost use Rattle.cover_core.specs.Past.{ArePast, IsFirst};
 
     ghost Value = { Core };
 
     ghost view = { λ b. record { rows = b.rows; witnesses = b.witnesses; candidates = b.candidates } };
 
-    ghost invariant = { λ b. IsBook (record { rows = b.rows; witnesses = b.witnesses; candidates = b.candidates }) b.snapshot.value × (b.store ≡ b.snapshot.value) × ArePast (record { rows = b.rows; witnesses = b.witnesses; candidates = b.candidates }) b.cursors };
+    ghost invariant = { λ b. IsBook (record { rows = b.rows; witnesses = b.witnesses; candidates = b.candidates }) b.snapshot.value × (b.store ≡ b.snapshot.value) × ArePast (record { rows = b.rows; witnesses = b.witnesses; candidates = b.candidates }) b.cursors × IsFirst (record { rows = b.rows; witnesses = b.witnesses; candidates = b.candidates }) b.first };
 }
 
 impl Book {
@@ -94,13 +101,16 @@ impl Book {
         let candidates = CandidateCover::new(alloc, snapshot.columns())?;
         let mut store = store_of(alloc, &snapshot)?;
         let order = Order::of(&store.weights(alloc)?);
+        let mut cursors = Cursors::start();
+        let first = first_unfinished(&candidates, &mut cursors.unfinished, rows.next());
         Ok(Book {
             rows,
             witnesses: NegativeCover::new(alloc),
             candidates,
             snapshot,
             store,
-            cursors: Cursors::start(),
+            cursors,
+            first,
             order,
             alloc,
         })
@@ -108,12 +118,14 @@ impl Book {
 
     /// The first candidate, by target and in report order, that is unfinished and not held, as a job; it is held from then on.
     ///
-    /// It goes on from where the last draw ended: candidates that are finished or held are passed over once, and again only after
-    /// a call that made new candidates, applied a batch, gave a job back or marked one that came late. It fails only where no
-    /// further owner of the snapshot can be counted, and then nothing changed.
+    /// It goes on from where the last draw ended: candidates that are finished or held are passed over once. A call that made new
+    /// candidates, gave a job back or marked one that came late takes the search back to the first of these, and no further;
+    /// after a batch it begins anew. It fails only where a job is to be made and no further owner of the snapshot can be counted,
+    /// and then nothing changed.
     pub fn draw(&mut self) -> Result<Draw, AllocError>
         ensures step { IfOk result (λ draw. steps.Drawing self.old (reply_of_draw draw) self.new) }
         ensures refused { OnErr result (self.new ≡ self.old) }
+        ensures wanted { OnErr result (first_drawable_of self.old ≢ None) }
         ensures drawn { IfOk result (λ draw. IfJob draw (Fits self.new.rows)) }
         ensures rows { self.new.rows ≡ self.old.rows }
         ensures fits { (job : JobParts) → Fits self.old.rows job → Fits self.new.rows job }
@@ -124,30 +136,29 @@ impl Book {
             Some((target, cand)) => {
                 let snapshot = self.snapshot.clone()?;
                 self.candidates.hold(target, cand.left, true);
+                self.first = first_unfinished(&self.candidates, &mut self.cursors.unfinished, next);
                 let job = Job::of(target, cand.left, cand.upto, next, snapshot);
                 Ok(Draw::Job(job))
             }
-            None => {
-                let first = first_unfinished(&self.candidates, &mut self.cursors.unfinished, next);
-                Ok(match first {
-                    Some((target, cand)) => Draw::Busy {
-                        target,
-                        left: cand.left,
-                    },
-                    None => Draw::Settled,
-                })
-            }
+            None => Ok(match self.first() {
+                Some(first) => Draw::Busy {
+                    target: first.target,
+                    left: first.left,
+                },
+                None => Draw::Settled,
+            }),
         }
     }
 
     /// Says that two different rows agree on some columns only, which refutes dependencies.
     ///
-    /// It takes a step a candidate, and copies the lists of those targets of which their agree set refutes a candidate.
-    /// After want of memory nothing changed; `Gone` and `Known` take no memory.
+    /// It takes a step a witness, which tells the targets of which their agree set refutes a candidate, and copies the lists of
+    /// these alone. It fails only where there are such targets, and then nothing changed: `Gone` and `Known` take no memory.
     pub fn refute(&mut self, i: RowNo, j: RowNo) -> Result<Refutation, AllocError>
         requires { i ≢ j }
         ensures step { IfOk result (λ refutation. steps.Refuting self.old i j (reply_of_refutation refutation) self.new) }
         ensures refused { OnErr result (self.new ≡ self.old) }
+        ensures wanted { OnErr result (steps.AreLive self.old.rows i j × (refutes_some self.old (agree_of self.old.rows i j) ≡ true)) }
         ensures rows { self.new.rows ≡ self.old.rows }
         ensures fits { (job : JobParts) → Fits self.old.rows job → Fits self.new.rows job }
         ensures sound { Sound self.new }
@@ -159,13 +170,16 @@ impl Book {
             return Ok(Refutation::Gone(j));
         }
         let agree = self.rows.agree(i, j);
-        if !refutes_some(&self.candidates, agree) {
+        let concerned = Concerned::by(&self.witnesses, agree, self.candidates.columns());
+        if concerned.is_none() {
             return Ok(Refutation::Known);
         }
-        let parts = specialised(self.alloc, &self.candidates, agree)?;
+        let parts = specialised(self.alloc, &self.candidates, agree, &concerned)?;
         self.witnesses.add(Witness { i, j, agree })?;
-        self.cursors = Cursors::start();
         put_all(&mut self.candidates, parts);
+        let next = self.rows.next();
+        move_both_back(&self.candidates, &concerned, &mut self.cursors, next);
+        self.first = first_unfinished(&self.candidates, &mut self.cursors.unfinished, next);
         Ok(Refutation::Booked)
     }
 
@@ -179,9 +193,13 @@ impl Book {
         ensures fits { (other : JobParts) → Fits self.old.rows other → Fits self.new.rows other }
         ensures sound { Sound self.new }
     {
-        let to = job.to();
-        self.cursors = self.cursors.let_go(to < self.rows.next());
-        self.candidates.mark(job.target(), job.left(), to)
+        let (target, left, to) = (job.target(), job.left(), job.to());
+        let next = self.rows.next();
+        let marking = self.candidates.mark(target, left, to);
+        let late = is_late(marking, to, next);
+        self.cursors.let_go(late, target, left);
+        self.first = first_unfinished(&self.candidates, &mut self.cursors.unfinished, next);
+        marking
     }
 
     /// Gives a job back: its candidate, where it is still in the cover, is not held any more. It takes no memory, and looks the
@@ -194,12 +212,14 @@ impl Book {
         ensures fits { (other : JobParts) → Fits self.old.rows other → Fits self.new.rows other }
         ensures sound { Sound self.new }
     {
-        self.cursors = self.cursors.let_go(true);
-        if self.candidates.hold(job.target(), job.left(), false) {
-            Release::Released
-        } else {
-            Release::Dropped
+        let (target, left) = (job.target(), job.left());
+        if !self.candidates.hold(target, left, false) {
+            return Release::Dropped;
         }
+        self.cursors.let_go(true, target, left);
+        let next = self.rows.next();
+        self.first = first_unfinished(&self.candidates, &mut self.cursors.unfinished, next);
+        Release::Released
     }
 
     /// Applies a batch whole or not at all. The witnesses with a dead row are withdrawn, and the candidates are what the rest
@@ -232,6 +252,8 @@ impl Book {
                 self.snapshot = made.snapshot;
                 self.store = made.store;
                 self.cursors = Cursors::start();
+                let next = self.rows.next();
+                self.first = first_unfinished(&self.candidates, &mut self.cursors.unfinished, next);
                 answer
             }
             Err(_) => {
@@ -241,35 +263,35 @@ impl Book {
         }
     }
 
-    /// The covers of the rows, where each candidate is known to hold in all rows, or else the first candidate that is not.
-    /// Want of memory comes only where the covers are to be made.
+    /// The covers of the rows, where each candidate is known to hold in all rows, or else the first candidate that is not, which
+    /// takes a look alone. Want of memory comes only where the covers are to be made.
     pub fn settle(&self) -> Result<Settling, AllocError>
         ensures step { IfOk result (λ settling. steps.Settling self.now (reply_of_settle settling) self.now) }
         ensures exact { IfOk result (λ settling. IfReady settling (λ found. found ≡ covers self.now.rows)) }
+        ensures wanted { OnErr result (first_unfinished_of self.now ≡ None) }
     {
-        match self.some_unfinished() {
-            Some((target, cand)) => Ok(Settling::NotYet {
-                target,
-                left: cand.left,
-                upto: cand.upto,
+        match self.first() {
+            Some(first) => Ok(Settling::NotYet {
+                target: first.target,
+                left: first.left,
+                upto: first.upto,
             }),
             None => Ok(Settling::Ready(listed(self.alloc, &self.candidates)?)),
         }
     }
 
-    /// Whether each candidate is known to hold in all rows. It takes no memory.
+    /// Whether each candidate is known to hold in all rows. It takes a look, and no memory.
     pub fn settled(&self) -> bool
         ensures { IsTrue result ↔ (first_unfinished_of self.now ≡ None) }
     {
-        self.some_unfinished().is_none()
+        self.first().is_none()
     }
 
-    // The first unfinished candidate.
-    fn some_unfinished(&self) -> Option<(Target, Cand)>
-        ensures { result ≡ first_unfinished_of self.now }
+    // The first candidate that is not known to hold in all rows.
+    fn first(&self) -> Option<Unfinished>
+        ensures { IsFirst self.now result }
     {
-        let mut cursor = self.cursors.unfinished;
-        first_unfinished(&self.candidates, &mut cursor, self.rows.next())
+        self.first
     }
 
     /// Finds the covers of the rows (HyFD, Papenbrock and Naumann, 2016).
@@ -308,6 +330,8 @@ impl Book {
     {
         self.candidates.free();
         self.cursors = Cursors::start();
+        let next = self.rows.next();
+        self.first = first_unfinished(&self.candidates, &mut self.cursors.unfinished, next);
     }
 
     // Validates the unfinished candidates, those with fewer columns first. What evidence leaves of those that fail has one column
@@ -374,7 +398,8 @@ impl Book {
     {
         let next = self.rows.next();
         let job = Job::of(target, cand.left, cand.upto, next, self.snapshot.clone()?);
-        let pairs = breaches_on::<Brand>(&mut self.store, self.alloc, &job, Blank::new(1))?;
+        let (store, most) = (&mut self.store, MOST_BREACHES);
+        let pairs = breaches_on::<Brand>(store, self.alloc, &job, most, Blank::new(1))?;
         if pairs.is_empty() {
             self.mark(&job);
             return Ok(());
@@ -398,6 +423,8 @@ impl Book {
         self.witnesses.add_all(news.witnesses.as_slice())?;
         put_all(&mut self.candidates, parts);
         self.cursors = Cursors::start();
+        let next = self.rows.next();
+        self.first = first_unfinished(&self.candidates, &mut self.cursors.unfinished, next);
         Ok(())
     }
 
@@ -410,17 +437,19 @@ impl Book {
         ensures sound { Sound self.new }
     {
         let next = self.rows.next();
-        let found = first_unfinished(&self.candidates, &mut self.cursors.unfinished, next);
-        let Some((target, cand)) = found else {
+        let Some(first) = self.first() else {
             return Ok(false);
         };
-        let job = Job::of(target, cand.left, cand.upto, next, self.snapshot.clone()?);
-        match verdict_on::<Brand>(&mut self.store, self.alloc, &job, Blank::new(1))? {
-            Verdict::Holds { .. } => {
-                self.mark(&job);
+        let snapshot = self.snapshot.clone()?;
+        let job = Job::of(first.target, first.left, first.upto, next, snapshot);
+        let store = &mut self.store;
+        let mut pairs = breaches_on::<Brand>(store, self.alloc, &job, 1, Blank::new(1))?;
+        match pairs.pop() {
+            Some(pair) => {
+                self.refute(pair.0, pair.1)?;
             }
-            Verdict::Broken { i, j } => {
-                self.refute(i, j)?;
+            None => {
+                self.mark(&job);
             }
         }
         Ok(true)

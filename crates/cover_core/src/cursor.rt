@@ -4,7 +4,29 @@ ghost use Rattle.col_set.specs.ColSet.{empty};
 ghost use Rattle.col_set.specs.declared.target.Target.TheVariants.{RowId};
 ghost use Rattle.cover_core.specs.Past as past;
 
-use rel_base::{ColSet, MOST_COLUMNS, Target};
+use candidate_cover::{Cand, Marking};
+use rel_base::{ColSet, MOST_COLUMNS, RowNo, Target};
+use std::cmp::Ordering;
+
+// A candidate that is not known to hold in all rows, and the number below which it is known to hold.
+#[derive(Clone, Copy)]
+pub(crate) struct Unfinished {
+    pub(crate) target: Target,
+    pub(crate) left: ColSet,
+    pub(crate) upto: RowNo,
+}
+
+impl Unfinished {
+    pub(crate) fn of(entry: (Target, Cand)) -> Unfinished
+        ensures { result ≡ past.place entry }
+    {
+        Unfinished {
+            target: entry.0,
+            left: entry.1.left,
+            upto: entry.1.upto,
+        }
+    }
+}
 
 // A place among the candidates of all targets: that of a left side among the candidates of a target.
 #[derive(Clone, Copy)]
@@ -24,15 +46,25 @@ impl Cursor {
         }
     }
 
-    // How many targets come before the cursor's.
-    pub(crate) fn rank(self) -> u8
-        requires { past.rank self.target ≤ MOST_COLUMNS }
-        ensures { result ≡ past.rank self.target }
+    // Whether the place of a left side among the candidates of a target comes before it.
+    fn is_behind(&self, target: Target, left: ColSet) -> bool
+        requires own { past.rank self.now.target ≤ MOST_COLUMNS }
+        requires target { past.rank target ≤ MOST_COLUMNS }
+        ensures { result ≡ past.stands_before (record { target = target; left = left }) self.now }
     {
-        match self.target {
-            Target::RowId => 0,
-            Target::Col(column) => column + 1,
-        }
+        let (rank, own) = (rank(target), rank(self.target));
+        rank < own || (rank == own && left.cmp_report(self.left) == Ordering::Less)
+    }
+}
+
+// How many targets come before this one.
+pub(crate) fn rank(target: Target) -> u8
+    requires { past.rank target ≤ MOST_COLUMNS }
+    ensures { result ≡ past.rank target }
+{
+    match target {
+        Target::RowId => 0,
+        Target::Col(column) => column + 1,
     }
 }
 
@@ -55,19 +87,25 @@ impl Cursors {
         }
     }
 
-    // What they are after a candidate was let go of: where it may be unfinished still, all are searched again.
-    pub(crate) fn let_go(self, unfinished: bool) -> Cursors
-        ensures unfinished { result.unfinished ≡ self.unfinished }
-        ensures drawable { result.drawable ≡ (if unfinished then record { target = RowId; left = empty } else self.drawable) }
+    // After a candidate was let go of, which may be unfinished still or not: no search passes it over where it may.
+    pub(crate) fn let_go(&mut self, unfinished: bool, target: Target, left: ColSet)
+        requires own { past.rank self.old.drawable.target ≤ MOST_COLUMNS }
+        requires target { past.rank target ≤ MOST_COLUMNS }
+        ensures unfinished { self.new.unfinished ≡ self.old.unfinished }
+        ensures drawable { self.new.drawable ≡ (if unfinished then past.lesser (record { target = target; left = left }) self.old.drawable else self.old.drawable) }
     {
-        let drawable = if unfinished {
-            Cursor::start()
-        } else {
-            self.drawable
-        };
-        Cursors {
-            unfinished: self.unfinished,
-            drawable,
+        if unfinished && self.drawable.is_behind(target, left) {
+            self.drawable = Cursor { target, left };
         }
+    }
+}
+
+// Whether a candidate that was marked up to a number, if it was, may be unfinished still.
+pub(crate) fn is_late(marking: Marking, to: RowNo, next: RowNo) -> bool
+    ensures { result ≡ past.is_late marking to next }
+{
+    match marking {
+        Marking::Marked => to < next,
+        Marking::Dropped => false,
     }
 }

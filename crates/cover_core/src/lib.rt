@@ -4,6 +4,7 @@
 
 mod answers;
 mod book;
+mod concerned;
 mod cursor;
 mod ended;
 mod evidence;

@@ -3,30 +3,12 @@ ghost use Rattle.std.specs.Prelude.{◌≡◌, ◌++◌, map, IfOk, OnOk};
 ghost use Rattle.std.specs.List.{flat_map};
 ghost use Rattle.col_set.specs.declared.target.Target.TheVariants.{Col, RowId};
 ghost use Rattle.col_set.specs.ColSet.{upto};
-ghost use Rattle.col_set.specs.Target.{IsColumnTarget};
 ghost use Rattle.rel_base.specs.Covers.{fds_to};
 ghost use Rattle.candidate_cover.specs.Cands.{cands_of, lefts, width};
 
 use candidate_cover::CandidateCover;
 use rel_base::{ColSet, Covers, Fd, Target};
 use std::alloc::{AllocError, Global};
-
-// The left sides of a target's candidates, in report order.
-fn lefts_of(
-    alloc: Global,
-    candidates: &CandidateCover,
-    target: Target,
-) -> Result<Vec<ColSet>, AllocError>
-    requires { IsColumnTarget (width candidates.now) target }
-    ensures { IfOk result (λ sets. sets.items ≡ lefts (cands_of candidates.now target)) }
-{
-    let list = candidates.list(alloc, target)?;
-    let mut sets = Vec::with_capacity(alloc, list.len())?;
-    for cand in list.as_slice() {
-        sets.push(cand.left)?;
-    }
-    Ok(sets)
-}
 
 // Adds the dependencies of these left sides on a column.
 fn push_fds(fds: &mut Vec<Fd>, right: u8, sets: &[ColSet]) -> Result<(), AllocError>
@@ -43,11 +25,10 @@ pub(crate) fn listed(alloc: Global, candidates: &CandidateCover) -> Result<Cover
     ensures keys { IfOk result (λ found. found.keys ≡ lefts (cands_of candidates.now RowId)) }
     ensures fds { IfOk result (λ found. found.fds ≡ flat_map (λ a. fds_to a (lefts (cands_of candidates.now (Col a)))) (upto (width candidates.now))) }
 {
-    let keys = lefts_of(alloc, candidates, Target::RowId)?;
+    let keys = candidates.lefts(Target::RowId).to_vec(alloc)?;
     let mut fds = Vec::new(alloc);
     for column in 0..candidates.columns() {
-        let sets = lefts_of(alloc, candidates, Target::Col(column))?;
-        push_fds(&mut fds, column, sets.as_slice())?;
+        push_fds(&mut fds, column, candidates.lefts(Target::Col(column)))?;
     }
     Ok(Covers::of(keys, fds))
 }

@@ -7,9 +7,10 @@ ghost use Rattle.col_set.specs.Evidence.{least};
 ghost use Rattle.candidate_cover.specs.Cands.{cands_of, lefts, width};
 ghost use Rattle.cover_steps.specs.Core.{renewed};
 ghost use Rattle.candidate_cover.specs.Drafts.{AreLeast};
+ghost use Rattle.cover_core.specs.Concerning.{concerns, is_open, AreConcerned};
 ghost use Rattle.cover_core.specs.NewLists.{IsPart, AreParts};
 
-use crate::searching::is_refuted;
+use crate::concerned::Concerned;
 use candidate_cover::{CandidateCover, Draft, Part};
 use rel_base::{ColSet, MOST_COLUMNS, Steps, Target};
 use std::alloc::{AllocError, Global};
@@ -22,34 +23,39 @@ pub(crate) struct Parts {
     pub(crate) columns: Vec<Option<Part>>,
 }
 
-// What a further agree set leaves of a target's candidates, where it refutes one.
+// What a further agree set leaves of a target's candidates, where it concerns the target.
 fn specialised_part(
     alloc: Global,
     candidates: &CandidateCover,
     target: Target,
     agree: ColSet,
+    concerned: &Concerned,
 ) -> Result<Option<Part>, AllocError>
     requires { IsColumnTarget (width candidates.now) target }
-    ensures { IfOk result (λ part. (ws : List Columns) → lefts (cands_of candidates.now target) ≡ least (width candidates.now) ws target → IsPart (width candidates.now) (ws ++ agree ∷ []) candidates.now target part) }
+    ensures { IfOk result (λ part. (ws : List Columns) → lefts (cands_of candidates.now target) ≡ least (width candidates.now) ws target → concerns concerned.now target ≡ is_open ws agree target → IsPart (width candidates.now) (ws ++ agree ∷ []) candidates.now target part) }
 {
-    if !is_refuted(candidates, target, agree) {
+    // `columns` is called for its clause that there are at most `MOST_COLUMNS`.
+    let _count = candidates.columns();
+    if !concerned.has(target) {
         return Ok(None);
     }
     Ok(Some(candidates.specialise(alloc, target, agree)?))
 }
 
-// What a further agree set leaves.
+// What a further agree set leaves, which concerns these targets.
 pub(crate) fn specialised(
     alloc: Global,
     candidates: &CandidateCover,
     agree: ColSet,
+    concerned: &Concerned,
 ) -> Result<Parts, AllocError>
-    ensures { IfOk result (λ parts. (ws : List Columns) → AreLeast (width candidates.now) ws candidates.now → AreParts (width candidates.now) (ws ++ agree ∷ []) candidates.now parts.rows parts.columns.items) }
+    ensures { IfOk result (λ parts. (ws : List Columns) → AreLeast (width candidates.now) ws candidates.now → AreConcerned (width candidates.now) ws agree concerned.now → AreParts (width candidates.now) (ws ++ agree ∷ []) candidates.now parts.rows parts.columns.items) }
 {
-    let rows = specialised_part(alloc, candidates, Target::RowId, agree)?;
+    let rows = specialised_part(alloc, candidates, Target::RowId, agree, concerned)?;
     let mut columns = Vec::with_capacity(alloc, candidates.columns() as usize)?;
     for column in 0..candidates.columns() {
-        let part = specialised_part(alloc, candidates, Target::Col(column), agree)?;
+        let target = Target::Col(column);
+        let part = specialised_part(alloc, candidates, target, agree, concerned)?;
         columns.push(part)?;
     }
     Ok(Parts { rows, columns })

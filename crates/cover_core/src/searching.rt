@@ -1,15 +1,17 @@
 // Candidates that are sought in all targets' lists.
-ghost use Rattle.std.specs.Prelude.{◌≡◌, not, ◌&&◌, length, Bool, ℕ, Option};
-ghost use Rattle.std.specs.List.{find, list_any};
-ghost use Rattle.col_set.specs.ColSet.{subset};
-ghost use Rattle.col_set.specs.Target.{IsColumnTarget, has_target};
-ghost use Rattle.candidate_cover.specs.Cands.{cands_of, width};
+ghost use Rattle.std.specs.Prelude.{if◌then◌else◌, ◌≡◌, Bool, Option, None, IfSome};
+ghost use Rattle.std.specs.List.{find};
+ghost use Rattle.std.specs.Option.{option_map};
+ghost use Rattle.col_set.specs.Target.{IsColumnTarget};
+ghost use Rattle.candidate_cover.specs.Cands.{cands_of, width, IsInOrder};
 ghost use Rattle.candidate_cover.specs.declared.cand.Cand.{Cand as Candidate};
 ghost use Rattle.cover_steps.specs.Core.{entries_in, is_unfinished, is_drawable};
-ghost use Rattle.cover_core.specs.Past.{IsPast};
+ghost use Rattle.cover_core.specs.Concerning.{concerns};
+ghost use Rattle.cover_core.specs.Past.{IsPast, IsPastBut, ArePastBut, place};
 ghost use Rattle.cover_core.specs.Tests.{on_cand};
 
-use crate::cursor::Cursor;
+use crate::concerned::Concerned;
+use crate::cursor::{Cursor, Cursors, Unfinished, rank};
 use candidate_cover::{Cand, CandidateCover};
 use rel_base::{ColSet, RowNo, Target};
 
@@ -30,7 +32,7 @@ fn first_where<F: Fn(Cand) -> bool>(
         cursor.left = cand.left;
         return Some((cursor.target, cand));
     }
-    for column in cursor.rank()..columns {
+    for column in rank(cursor.target)..columns {
         let target = Target::Col(column);
         if let Some(cand) = candidates.first_from(target, ColSet::empty(), &test) {
             *cursor = Cursor {
@@ -54,18 +56,22 @@ pub(crate) fn first_unfinished(
     candidates: &CandidateCover,
     cursor: &mut Cursor,
     next: RowNo,
-) -> Option<(Target, Cand)>
+) -> Option<Unfinished>
     requires { IsPast (is_unfinished next) candidates.now cursor.old }
-    ensures found { result ≡ find (λ e. is_unfinished next e.1) (entries_in (width candidates.now) candidates.now) }
+    ensures found { result ≡ option_map place (find (λ e. is_unfinished next e.1) (entries_in (width candidates.now) candidates.now)) }
     ensures past { IsPast (is_unfinished next) candidates.now cursor.new }
 {
-    first_where(
+    let found = first_where(
         candidates,
         cursor,
         |cand: Cand| -> bool
             ensures { result ≡ is_unfinished next cand }
         { cand.upto < next },
-    )
+    );
+    match found {
+        Some(entry) => Some(Unfinished::of(entry)),
+        None => None,
+    }
 }
 
 // The first of them that is not held.
@@ -87,35 +93,84 @@ pub(crate) fn first_drawable(
     )
 }
 
-// Whether an agree set refutes a candidate of a target.
-pub(crate) fn is_refuted(candidates: &CandidateCover, target: Target, agree: ColSet) -> bool
-    requires { IsColumnTarget (width candidates.now) target }
-    ensures { result ≡ list_any (λ c. subset c.left agree && not (has_target agree target)) (cands_of candidates.now target) }
+// The first candidate that passes a test, of a target that is one of these.
+fn first_concerned<F: Fn(Cand) -> bool>(
+    candidates: &CandidateCover,
+    concerned: &Concerned,
+    target: Target,
+    test: F,
+) -> Option<Cand>
+    requires target { IsColumnTarget (width candidates.now) target }
+    requires test { F.IsAlwaysCallable test }
+    ensures found { (p : Candidate → Bool) → ((c : Candidate) (b : Bool) → F.post test c b → b ≡ p c) → result ≡ (if concerns concerned.now target then find p (cands_of candidates.now target) else None) }
+    ensures order { IfSome result (λ c. IsInOrder (cands_of candidates.now target)) }
 {
     // `columns` is called for its clause that there are at most `MOST_COLUMNS`.
     let _count = candidates.columns();
-    !agree.has_target(target)
-        && candidates
-            .first(
-                target,
-                |cand: Cand| -> bool
-                    ensures { result ≡ subset cand.left agree }
-                { cand.left.subset_of(agree) },
-            )
-            .is_some()
+    if !concerned.has(target) {
+        return None;
+    }
+    candidates.first_from(target, ColSet::empty(), test)
 }
 
-// Whether an agree set refutes a candidate.
-pub(crate) fn refutes_some(candidates: &CandidateCover, agree: ColSet) -> bool
-    ensures { result ≡ list_any (λ e. subset e.1.left agree && not (has_target agree e.0)) (entries_in (width candidates.now) candidates.now) }
+// After the lists of some targets were replaced, a search begins at the first new candidate that passes the test, where its target
+// does not come after the cursor's, and else at the cursor.
+fn move_back<F: Fn(Cand) -> bool>(
+    candidates: &CandidateCover,
+    concerned: &Concerned,
+    cursor: &mut Cursor,
+    test: F,
+)
+    requires target { IsColumnTarget (width candidates.now) cursor.old.target }
+    requires test { F.IsAlwaysCallable test }
+    ensures { (p : Candidate → Bool) → ((c : Candidate) (b : Bool) → F.post test c b → b ≡ p c) → IsPastBut p candidates.now concerned.now cursor.old → IsPast p candidates.now cursor.new }
 {
-    if is_refuted(candidates, Target::RowId, agree) {
-        return true;
+    // `columns` is called for its clause that there are at most `MOST_COLUMNS`.
+    let _count = candidates.columns();
+    if let Some(cand) = first_concerned(candidates, concerned, Target::RowId, &test) {
+        *cursor = Cursor {
+            target: Target::RowId,
+            left: cand.left,
+        };
+        return;
     }
-    for column in 0..candidates.columns() {
-        if is_refuted(candidates, Target::Col(column), agree) {
-            return true;
+    for column in 0..rank(cursor.target) {
+        let target = Target::Col(column);
+        if let Some(cand) = first_concerned(candidates, concerned, target, &test) {
+            *cursor = Cursor {
+                target,
+                left: cand.left,
+            };
+            return;
         }
     }
-    false
+}
+
+// The cursors after the lists of some targets were replaced.
+pub(crate) fn move_both_back(
+    candidates: &CandidateCover,
+    concerned: &Concerned,
+    cursors: &mut Cursors,
+    next: RowNo,
+)
+    requires { ArePastBut next candidates.now concerned.now cursors.old }
+    ensures unfinished { IsPast (is_unfinished next) candidates.now cursors.new.unfinished }
+    ensures drawable { IsPast (is_drawable next) candidates.now cursors.new.drawable }
+{
+    move_back(
+        candidates,
+        concerned,
+        &mut cursors.unfinished,
+        |new: Cand| -> bool
+            ensures { result ≡ is_unfinished next new }
+        { new.upto < next },
+    );
+    move_back(
+        candidates,
+        concerned,
+        &mut cursors.drawable,
+        |new: Cand| -> bool
+            ensures { result ≡ is_drawable next new }
+        { new.upto < next && !new.held },
+    );
 }

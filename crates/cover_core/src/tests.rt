@@ -17,6 +17,8 @@ use std::alloc::{AllocError, Global};
 use std::marker::Brand;
 use std::process::Abort;
 use std::sync::ledger::{Blank, Ledger};
+use std::test::Fail;
+use std::thread::join;
 use validator::{Verdict, validate};
 
 // The cells of three rows.
@@ -158,4 +160,19 @@ fn is_busy(draw: &Draw, wanted: Target, set: ColSet) -> bool {
         Draw::Busy { target, left } => *target == wanted && *left == set,
         _ => false,
     }
+}
+
+// A missing proof that a book may move to another thread shows at a `join`.
+#[test]
+fn books_move_among_threads(rt: HostRuntime) -> Result<(), Fail> {
+    let alloc = rt.alloc();
+    let first = letters(&rt, alloc)?;
+    let second = letters(&rt, alloc)?;
+    let (settled, witnesses) = join(
+        &rt,
+        move || first.settled(),
+        move || second.witnesses().len(),
+    );
+    assert!(rt; !settled && witnesses == 0);
+    Ok(())
 }

@@ -1,22 +1,21 @@
 -- Where no candidate is unfinished, the candidates are the covers.
-use Rattle.std.proofs.Common.{inl, inr, ◌≡◌, ◌≢◌, ◌⊎◌, ℕ, ◌<◌, ◌≤◌, ltb, Bool, true, false, not, ◌&&◌, refl, sym, ap, ap₂, ◌∙◌, subst, arith, List, [], ◌∷◌, map, None}
-use Rattle.std.specs.List.{Contains, flat_map}
-use Rattle.std.proofs.lemmas.Bool.{true≢false, false≢true, not-true, ltb-false, false_from_ne_true}
+use Rattle.std.proofs.Common.{◌≡◌, ℕ, true, false, not, ◌&&◌, sym, ap, ◌∙◌, subst, arith, List, None}
+use Rattle.std.specs.List.{flat_map}
+use Rattle.std.proofs.lemmas.Bool.{true≢false, not-true, ltb-false, false_from_ne_true}
 use Rattle.col_set.specs.declared.target.Target.{Target}
 use Rattle.col_set.specs.declared.target.Target.TheVariants.{Col, RowId}
-use Rattle.col_set.specs.ColSet.{subset, upto, report_cmp}
+use Rattle.col_set.specs.ColSet.{subset, upto}
 use Rattle.col_set.specs.Target.{IsColumnTarget, has_target}
-use Rattle.col_set.specs.Evidence.{IsLeast, refuted, least}
+use Rattle.col_set.specs.Evidence.{refuted, least}
 use Rattle.col_set.specs.Columns.{report_total}
 use Rattle.col_set.specs.Lists.{Listed, Listed-map_which, list_any_at, list_any_which}
 use Rattle.col_set.specs.AllSets.{Listed-upto_within}
-use Rattle.col_set.proofs.Places.{Contains-listed, Listed-contained, same_rising}
+use Rattle.col_set.proofs.Places.{Listed-contained, same_rising}
 use Rattle.col_set.proofs.Least.{Listed-least, IsLeast-listed, least_below}
 use Rattle.col_set.proofs.More.{Rises-least}
-use Rattle.rel_base.specs.declared.dependency.Fd.{Fd}
-use Rattle.rel_base.specs.RowState.{RowState, width, next}
-use Rattle.rel_base.specs.Validity.{agree_sets, agree_of, holds, Holds}
-use Rattle.rel_base.specs.Covers.{CoverLists, fds_to, covers}
+use Rattle.rel_base.specs.RowState.{width, next}
+use Rattle.rel_base.specs.Validity.{agree_sets, Holds}
+use Rattle.rel_base.specs.Covers.{fds_to, covers}
 use Rattle.rel_base.specs.Covers.{least_covers}
 use Rattle.rel_base.proofs.States.{All-listed, live_climbs, live_numbered}
 use Rattle.rel_base.proofs.Valid.{Listed-agree_sets, holds-true, holds-refuted}

@@ -1,10 +1,8 @@
 -- Jobs that fit.
-use Rattle.std.proofs.Common.{inl, inr, ◌≡◌, ◌≢◌, ◌⊎◌, ℕ, zero, suc, ◌+◌, ◌-◌, ◌<◌, ◌≤◌, ◌^◌, eqb, Bool, true, false, refl, sym, ap, ◌∙◌, subst, arith, List, [], ◌∷◌, length, get_or}
+use Rattle.std.proofs.Common.{inl, inr, ◌≡◌, ◌≢◌, ◌⊎◌, ℕ, zero, suc, ◌+◌, ◌-◌, ◌<◌, ◌≤◌, ◌^◌, eqb, true, false, sym, ap, ◌∙◌, subst, arith, length}
 use Rattle.std.specs.List.{Contains, range_with_len}
-use Rattle.std.proofs.lemmas.Bool.{true≢false, false≢true, eqb-true, eq-eqb, cases_eq, cases_lt}
+use Rattle.std.proofs.lemmas.Bool.{false≢true, eqb-true, eq-eqb, cases_eq, cases_lt}
 use Rattle.std.proofs.lemmas.List.{get_or_past}
-use Rattle.col_set.specs.declared.target.Target.{Target}
-use Rattle.col_set.specs.declared.target.Target.TheVariants.{Col, RowId}
 use Rattle.col_set.specs.ColSet.{has, upto}
 use Rattle.col_set.specs.Target.{IsColumnTarget, has_target}
 use Rattle.col_set.specs.Members.{same_set}
@@ -16,10 +14,10 @@ use Rattle.rel_base.specs.CodeTable.{CodeTable, IsCodeTable, code_at, live_at}
 use Rattle.rel_base.specs.JobParts.{JobParts}
 use Rattle.rel_base.specs.RowState.{RowState, IsRowState, width, next, row}
 use Rattle.rel_base.specs.Validity.{agree_of, HoldsBelow}
-use Rattle.rel_base.specs.Shows.{Shows, code_agree, live_numbers, holds_in, HoldsIn, holds_in_below, HoldsInBelow}
+use Rattle.rel_base.specs.Shows.{Shows, code_agree, live_numbers, holds_in}
 use Rattle.rel_base.specs.Laws.{Follows}
 use Rattle.rel_base.proofs.Agree.{agree-parts}
-use Rattle.rel_base.proofs.States.{live_climbs, live_positive, live_numbered}
+use Rattle.rel_base.proofs.States.{live_climbs, live_positive}
 use Rattle.rel_base.proofs.Valid.{holds_below-true}
 use Rattle.rel_base.proofs.Changes.{agree_of-follows}
 use Rattle.rel_base.proofs.Shown.{holds_in_below-shown, HoldsIn-tested, HoldsInBelow-tested}

@@ -1,14 +1,13 @@
 -- Targets and candidates among the entries.
-use Rattle.std.proofs.Common.{inl, inr, ◌≡◌, ℕ, ◌<◌, ltb, Bool, true, false, not, ◌&&◌, refl, sym, ap, ◌∙◌, subst, List, [], ◌∷◌, map, Some, None}
-use Rattle.std.specs.List.{find}
+use Rattle.std.proofs.Common.{inl, inr, ◌≡◌, ℕ, ltb, true, false, not, ◌&&◌, refl, sym, ap, subst, map, Some, None}
 use Rattle.std.proofs.lemmas.Bool.{and_parts}
 use Rattle.col_set.specs.declared.target.Target.{Target}
 use Rattle.col_set.specs.declared.target.Target.TheVariants.{Col, RowId}
 use Rattle.col_set.specs.ColSet.{subset, upto}
 use Rattle.col_set.specs.Target.{IsColumnTarget, has_target}
-use Rattle.col_set.specs.Subsets.{IsSubset, subset-true, true-subset}
+use Rattle.col_set.specs.Subsets.{IsSubset, subset-true}
 use Rattle.col_set.specs.AllSets.{Listed-upto, Listed-upto_within}
-use Rattle.col_set.specs.Lists.{Listed, Listed-map, Listed-map_which, Listed-flat_map, Listed-flat_map_which, list_any_at, list_any_which}
+use Rattle.col_set.specs.Lists.{Listed, Listed-map, Listed-map_which, Listed-flat_map, Listed-flat_map_which, list_any_which}
 use Rattle.rel_base.specs.RowState.{width, next}
 use Rattle.candidate_cover.specs.declared.cand.Cand.{Cand}
 use Rattle.cover_steps.specs.Core.{Core, targets, cands, entries, is_unfinished, is_drawable, first_unfinished, first_drawable, refutes_some}
@@ -48,6 +47,10 @@ Listed-entries s t c l h =
 pub drawable-entry : (s : Core) (t : Target) (c : Cand) → first_drawable s ≡ Some (t, c) → IsEntry s t c
 unfolding first_drawable
 drawable-entry s t c e = IsEntry-listed s (t, c) (find-Some (λ (e : Target × Cand). is_drawable (next s.rows) e.1) (entries s) (t, c) e).0
+
+pub drawable-test : (s : Core) (t : Target) (c : Cand) → first_drawable s ≡ Some (t, c) → is_drawable (next s.rows) c ≡ true
+unfolding first_drawable
+drawable-test s t c e = (find-Some (λ (e : Target × Cand). is_drawable (next s.rows) e.1) (entries s) (t, c) e).1
 
 -- where no candidate is unfinished, none is
 pub all_finished : (s : Core) (t : Target) (c : Cand) → first_unfinished s ≡ None → IsColumnTarget (width s.rows) t → Listed c (cands s t) → ltb c.upto (next s.rows) ≡ false

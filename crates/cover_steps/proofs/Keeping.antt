@@ -1,8 +1,7 @@
 -- Each step keeps what is sound, and each job that was drawn fits.
-use Rattle.std.proofs.Common.{inl, inr, ◌≡◌, ◌≢◌, ◌⊎◌, ℕ, ◌+◌, ◌<◌, ◌≤◌, ◌^◌, max, eqb, Bool, true, false, cond, not, ◌&&◌, refl, sym, ap, ◌∙◌, subst, arith, List, [], ◌∷◌, ◌++◌, length, map, Ok}
-use Rattle.std.specs.Prelude.{replicate}
-use Rattle.std.specs.List.{All, AllPairs, Contains, filter}
-use Rattle.std.proofs.lemmas.Bool.{true≢false, false≢true, eqb-true, and_parts, and_from, cases_lt}
+use Rattle.std.proofs.Common.{inl, inr, ◌≡◌, ◌≢◌, ◌⊎◌, ℕ, max, eqb, Bool, true, false, cond, not, ◌&&◌, refl, sym, ap, ◌∙◌, subst, arith, List, [], ◌∷◌, ◌++◌, length, map}
+use Rattle.std.specs.List.{All, AllPairs, Contains}
+use Rattle.std.proofs.lemmas.Bool.{false≢true, eqb-true, and_parts, cases_lt}
 use Rattle.std.proofs.lemmas.List.{append-nil, length-set, length-replicate, get_or-replicate}
 use Rattle.std.proofs.lemmas.List.Kept.{AllPairs-filter}
 use Rattle.std.proofs.lemmas.List.FromFn.{length-map-range_with_len}
@@ -18,13 +17,13 @@ use Rattle.col_set.proofs.Least.{IsLeast-listed}
 use Rattle.col_set.proofs.More.{least-empty}
 use Rattle.rel_base.specs.declared.batch.Op.{Op}
 use Rattle.rel_base.specs.JobParts.{JobParts}
-use Rattle.rel_base.specs.RowState.{RowState, IsRowState, width, next}
+use Rattle.rel_base.specs.RowState.{RowState, IsRowState, width}
 use Rattle.rel_base.specs.Validity.{agree_of, HoldsBelow}
 use Rattle.rel_base.specs.Shows.{holds_in}
-use Rattle.rel_base.specs.Batches.{is_live, after}
+use Rattle.rel_base.specs.Batches.{is_live}
 use Rattle.rel_base.specs.Batches.{IsAsWide}
 use Rattle.rel_base.specs.Laws.{Follows}
-use Rattle.rel_base.proofs.States.{All-listed, All-from, live_positive, live_numbered}
+use Rattle.rel_base.proofs.States.{All-listed, All-from, live_positive}
 use Rattle.rel_base.proofs.Changes.{after-follows, agree_of-follows}
 use Rattle.negative_cover.specs.declared.negative_cover.Witness.{Witness}
 use Rattle.candidate_cover.specs.declared.cand.Cand.{Cand}
@@ -33,16 +32,16 @@ use Rattle.cover_steps.specs.declared.step.Call.TheVariants.{Draw, Refute, Mark,
 use Rattle.cover_steps.specs.declared.step.Reply.{Reply}
 use Rattle.cover_steps.specs.declared.step.Reply.TheVariants.{Job, Busy, Settled, Gone, Known, Booked, Marked, Dropped, Released, Applied, Refused, Ready, NotYet, NoMemory}
 use Rattle.candidate_cover.specs.Lists.{CandLists}
-use Rattle.candidate_cover.specs.Cands.{cands_of, with_list, lefts, fresh, kept_or_fresh, is_listed, marked, holding}
+use Rattle.candidate_cover.specs.Cands.{cands_of, with_list, lefts, fresh, kept_or_fresh, marked, holding}
 use Rattle.cover_steps.specs.Core.{one_each}
 use Rattle.cover_steps.specs.Core.{Core, opened_core, cands, refutes_some, with_cands, renewed, renewed_list, witness_of, booked, standing, with_rows}
 use Rattle.negative_cover.specs.Witnesses.{sets_of}
-use Rattle.cover_steps.specs.Steps.{Draws, Drawing, Refuting, AreLive, Marking, Releasing, Accepts, Applying, Settling, Step}
+use Rattle.cover_steps.specs.Steps.{Drawing, Refuting, AreLive, Marking, Releasing, Applying, Settling, Step}
 use Rattle.cover_steps.specs.Sound.{IsWitness, IsMarked, Sound, Fits, SoundWith}
 use Rattle.cover_steps.specs.Histories.{May, drawn}
 use Rattle.cover_steps.proofs.Lists.{AllPairs-Pairwise, Pairwise-AllPairs, Pairwise-append_one, map_map, map_same_listed}
 use Rattle.cover_steps.proofs.Kept.{kept_cases, lefts-renewed, cands_of-renewed, cands_of-with_list, target_cases}
-use Rattle.cover_steps.proofs.Found.{IsEntry, drawable-entry, Refutes, refutes_some-which}
+use Rattle.cover_steps.proofs.Found.{IsEntry, drawable-entry, refutes_some-which}
 use Rattle.cover_steps.proofs.Fitting.{HoldsBelow-fits, Fits-follows, Fits-shown}
 
 -- ---- candidates of a sound state

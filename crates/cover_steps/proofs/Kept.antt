@@ -1,6 +1,6 @@
 -- CandLists of which a list is made anew, and lists of candidates by target.
-use Rattle.std.proofs.Common.{inl, inr, ◌≡◌, ◌≢◌, ◌⊎◌, ℕ, ◌+◌, ◌<◌, Bool, true, false, cond, eqb, refl, sym, ap, ◌∙◌, subst, arith, List, [], ◌∷◌, length, get_or, map, Some, None}
-use Rattle.std.specs.Prelude.{unwrap_or, replicate}
+use Rattle.std.proofs.Common.{inl, inr, ◌≡◌, ◌⊎◌, ℕ, Bool, true, false, cond, eqb, refl, sym, ap, ◌∙◌, arith, List, [], ◌∷◌, length, Some}
+use Rattle.std.specs.Prelude.{unwrap_or}
 use Rattle.std.specs.List.{find}
 use Rattle.std.proofs.lemmas.Bool.{eqb-true, cases_eq}
 use Rattle.std.proofs.lemmas.List.{get_or-set_same, get_or-set_other}
@@ -9,11 +9,10 @@ use Rattle.col_set.specs.declared.target.Target.{Target}
 use Rattle.col_set.specs.declared.target.Target.TheVariants.{Col, RowId}
 use Rattle.col_set.specs.Target.{IsColumnTarget}
 use Rattle.col_set.specs.Evidence.{least}
-use Rattle.col_set.specs.Lists.{Listed, Listed-map, Listed-map_which}
+use Rattle.col_set.specs.Lists.{Listed}
 use Rattle.candidate_cover.specs.declared.cand.Cand.{Cand}
 use Rattle.candidate_cover.specs.Lists.{CandLists}
 use Rattle.candidate_cover.specs.Cands.{cands_of, with_list, lefts, fresh, kept_or_fresh}
-use Rattle.cover_steps.specs.Core.{one_each}
 use Rattle.cover_steps.specs.Core.{renewed, renewed_list}
 use Rattle.cover_steps.proofs.Lists.{map_map, map_itself}
 

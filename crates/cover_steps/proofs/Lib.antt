@@ -7,3 +7,6 @@ pub mod Exact
 pub mod Counting
 pub mod Renewing
 pub mod Whole
+pub mod Going
+pub mod Same
+pub mod Decided

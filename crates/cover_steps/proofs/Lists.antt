@@ -1,9 +1,8 @@
 -- Lists: what a search finds, and elements that are pairwise apart.
-use Rattle.std.proofs.Common.{inl, inr, ◌≡◌, ◌≢◌, ◌⊎◌, ℕ, zero, suc, ◌+◌, ◌<◌, ◌≤◌, Bool, true, false, cond, eqb, not, refl, sym, ap, ap₂, ◌∙◌, subst, arith, List, [], ◌∷◌, ◌++◌, length, get_or, map, Option, Some, None}
-use Rattle.std.specs.List.{AllPairs, Contains, filter, find, flat_map}
-use Rattle.std.proofs.lemmas.Bool.{true≢false, false≢true}
+use Rattle.std.proofs.Common.{inl, inr, ◌≡◌, ◌⊎◌, zero, suc, Bool, true, false, cond, refl, sym, ap, ap₂, ◌∙◌, subst, arith, List, [], ◌∷◌, ◌++◌, map, Some, None}
+use Rattle.std.specs.List.{AllPairs, find, flat_map}
 use Rattle.col_set.specs.Lists.{Listed}
-use Rattle.col_set.proofs.Places.{Contains-listed, Listed-contained, Listed-get_or}
+use Rattle.col_set.proofs.Places.{Contains-listed, Listed-get_or}
 
 -- each element with each later one
 abbrev pub Pairwise : {X : Type 0} → (X → X → Type 0) → List X → Type 0

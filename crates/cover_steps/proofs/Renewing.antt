@@ -1,8 +1,8 @@
 -- When a list of candidates that is made anew is as it was, and when two sets of lists are equal.
-use Rattle.std.proofs.Common.{inl, inr, ◌≡◌, ◌≢◌, ◌⊎◌, ℕ, zero, suc, ◌+◌, ◌<◌, eqb, Bool, true, false, cond, not, ◌&&◌, refl, sym, ap, ap₂, ◌∙◌, subst, arith, List, [], ◌∷◌, ◌++◌, length, get_or, map, Some, Less}
+use Rattle.std.proofs.Common.{inl, inr, ◌≡◌, ◌⊎◌, ℕ, eqb, Bool, true, false, cond, not, ◌&&◌, refl, sym, ap, ◌∙◌, subst, List, [], ◌∷◌, ◌++◌, length, map, Some, Less}
 use Rattle.std.specs.Prelude.{unwrap_or}
 use Rattle.std.specs.List.{find}
-use Rattle.std.proofs.lemmas.Bool.{true≢false, false≢true, eqb-true, eq-eqb, ne_eqb, and_parts, or_cases, false_from_ne_true, cases_Bool, not-true}
+use Rattle.std.proofs.lemmas.Bool.{true≢false, false≢true, eqb-true, eq-eqb, false_from_ne_true}
 use Rattle.std.proofs.lemmas.List.{ext_get_or}
 use Rattle.std.proofs.lemmas.Cmp.{tied_itself}
 use Rattle.col_set.specs.declared.target.Target.{Target}
@@ -14,12 +14,11 @@ use Rattle.col_set.specs.Evidence.{refuted, least}
 use Rattle.col_set.specs.Lists.{Listed, Rises, Listed-append_left, Listed-append_cases, Listed-map, Listed-map_which, list_any_at, list_any_which}
 use Rattle.col_set.proofs.Least.{IsLeast-listed}
 use Rattle.col_set.proofs.More.{Rises-least}
-use Rattle.col_set.proofs.Specialise.{least-push_known}
 use Rattle.candidate_cover.specs.declared.cand.Cand.{Cand}
 use Rattle.candidate_cover.specs.Lists.{CandLists}
 use Rattle.candidate_cover.specs.Cands.{cands_of, lefts, fresh, kept_or_fresh}
 use Rattle.cover_steps.specs.Core.{renewed_list}
-use Rattle.cover_steps.proofs.Lists.{Pairwise, map_map, map_same_listed}
+use Rattle.cover_steps.proofs.Lists.{map_map, map_same_listed}
 use Rattle.cover_steps.proofs.Exact.{least-same}
 
 -- ---- a list of its own left sides

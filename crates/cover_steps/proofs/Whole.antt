@@ -1,6 +1,5 @@
 -- Whole lists of steps.
-use Rattle.std.proofs.Common.{inl, inr, ◌≡◌, ℕ, ◌+◌, ◌≤◌, Bool, true, false, cond, refl, sym, ap, ◌∙◌, subst, arith, List, [], ◌∷◌, ◌++◌, length, append_assoc}
-use Rattle.std.specs.List.{All}
+use Rattle.std.proofs.Common.{inl, inr, ◌≡◌, ◌+◌, ◌≤◌, false, refl, sym, ap, ◌∙◌, subst, arith, List, [], ◌∷◌, ◌++◌, length, append_assoc}
 use Rattle.std.proofs.lemmas.List.Sums.{sum_by-append}
 use Rattle.rel_base.specs.JobParts.{JobParts}
 use Rattle.rel_base.specs.RowState.{RowState, IsRowState}
@@ -12,8 +11,8 @@ use Rattle.cover_steps.specs.declared.step.Reply.{Reply}
 use Rattle.cover_steps.specs.declared.step.Reply.TheVariants.{Marked, Dropped}
 use Rattle.col_set.proofs.Places.{Listed-contained}
 use Rattle.cover_steps.specs.Core.{Core, opened_core}
-use Rattle.cover_steps.specs.Sound.{Fits, Sound, SoundWith}
-use Rattle.cover_steps.specs.Histories.{Entry, Runs, drawn, all_drawn, rows_after, rows_after_call, booked_count, is_booked, is_accepted, IsQuiet}
+use Rattle.cover_steps.specs.Sound.{Fits, SoundWith}
+use Rattle.cover_steps.specs.Histories.{Entry, Runs, drawn, all_drawn, rows_after, booked_count, is_accepted, IsQuiet}
 use Rattle.cover_steps.specs.Laws.{ready, different, marking, releasing, IsRight, LateJobsAreRight}
 use Rattle.cover_steps.proofs.Fitting.{HoldsBelow-fits}
 use Rattle.cover_steps.proofs.Keeping.{Sound-opened, step_keeps}

@@ -1,8 +1,7 @@
 -- Whole lists of steps, by any number of actors.
-use Rattle.std.specs.Prelude.{◌≡◌, ◌≢◌, ◌<◌, ◌^◌, ℕ, true, false, not, Bool, List, [], ◌∷◌, ◌++◌, count_by}
-use Rattle.std.specs.List.{All, Contains, filter, flat_map}
+use Rattle.std.specs.Prelude.{◌≡◌, ◌≢◌, ◌<◌, ◌^◌, ℕ, true, false, Bool, List, [], ◌∷◌, ◌++◌, count_by}
+use Rattle.std.specs.List.{All, Contains, flat_map}
 use Rattle.col_set.specs.Target.{IsColumnTarget}
-use Rattle.rel_base.specs.declared.batch.Op.{Op}
 use Rattle.rel_base.specs.JobParts.{JobParts}
 use Rattle.rel_base.specs.RowState.{RowState, width}
 use Rattle.rel_base.specs.Shows.{holds_in}

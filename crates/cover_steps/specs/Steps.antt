@@ -1,14 +1,12 @@
 -- The steps of the shared cover: which reply a call may have, and the state after it.
-use Rattle.std.specs.Prelude.{◌≡◌, ℕ, true, false, ◌⊎◌, List, map, Ok, Err, Some, None}
+use Rattle.std.specs.Prelude.{◌≡◌, ℕ, true, false, ◌⊎◌, List, Ok, Err, Some, None}
 use Rattle.col_set.specs.declared.target.Target.{Target}
 use Rattle.col_set.specs.ColSet.{Columns}
 use Rattle.rel_base.specs.declared.batch.Op.{Op}
-use Rattle.rel_base.specs.declared.why.Why.{Why}
 use Rattle.rel_base.specs.CodeTable.{IsCodeTable}
 use Rattle.rel_base.specs.JobParts.{JobParts}
 use Rattle.rel_base.specs.RowState.{RowState, next}
 use Rattle.rel_base.specs.Validity.{agree_of}
-use Rattle.rel_base.specs.Covers.{CoverLists}
 use Rattle.rel_base.specs.Shows.{Shows}
 use Rattle.rel_base.specs.Batches.{is_live, after, insert_count, delete_count}
 use Rattle.candidate_cover.specs.declared.cand.Cand.{Cand}

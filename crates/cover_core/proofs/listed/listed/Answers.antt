@@ -11,7 +11,7 @@ use Rattle.cover_core.proofs.listed.listed.Goals as goal
 pub loop-column-preserved : goal.loop-column-preserved
 loop-column-preserved c =
     c.in_ok-push_fds.ensures
-    ∙ ap₂ (λ (old : List Fd) (sets : List Columns). old ++ fds_to c.loop-column.column sets) c.loop-column.invariant (c.as_slice.ensures.value ∙ c.in_ok-sets.ensures)
+    ∙ ap₂ (λ (old : List Fd) (sets : List Columns). old ++ fds_to c.loop-column.column sets) c.loop-column.invariant c.lefts-in-loop-column.ensures.lefts
     ∙ sym (flat_map-upto_more (λ a. fds_to a (lefts (cands_of c.args.candidates.now (Col a)))) c.loop-column.column)
 
 pub returns-clause-fds : goal.returns-clause-fds

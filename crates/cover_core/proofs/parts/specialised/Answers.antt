@@ -5,12 +5,12 @@ use Rattle.cover_core.proofs.Putting.{ArePartsSoFar-first, ArePartsSoFar-more, A
 use Rattle.cover_core.proofs.parts.specialised.Goals as goal
 
 pub loop-column-init : goal.loop-column-init
-loop-column-init c ws least = ArePartsSoFar-first _ _ _ _ _ (c.in_ok-rows.ensures ws (least.each RowId tt)) c.in_ok-columns.ensures.items
+loop-column-init c ws least are = ArePartsSoFar-first _ _ _ _ _ (c.in_ok-rows.ensures ws (least.each RowId tt) (are.each RowId tt)) c.in_ok-columns.ensures.items
 
 pub loop-column-preserved : goal.loop-column-preserved
-loop-column-preserved c ws least =
+loop-column-preserved c ws least are =
     let l : c.loop-column.column < width c.args.candidates.now = omega (arith, c.columns-column-end.ensures.width) in
-    ArePartsSoFar-more _ _ _ _ _ _ _ _ (c.loop-column.invariant ws least) (c.in_ok-part.ensures ws (least.each (Col c.loop-column.column) l)) c.in_ok-push.ensures.items
+    ArePartsSoFar-more _ _ _ _ _ _ _ _ (c.loop-column.invariant ws least are) (c.in_ok-part.ensures ws (least.each (Col c.loop-column.column) l) (are.each (Col c.loop-column.column) l)) c.in_ok-push.ensures.items
 
 pub returns : goal.returns
-returns c ws least = ArePartsSoFar-whole _ _ _ _ _ _ (c.loop-column.invariant ws least) (omega (arith, c.columns-column-end.ensures.width))
+returns c ws least are = ArePartsSoFar-whole _ _ _ _ _ _ (c.loop-column.invariant ws least are) (omega (arith, c.columns-column-end.ensures.width))

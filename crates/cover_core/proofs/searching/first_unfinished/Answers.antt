@@ -1,8 +1,18 @@
+use Rattle.std.proofs.Common.{sym, ap, ◌∙◌, Option, Some, None}
+use Rattle.std.specs.Option.{option_map}
 use Rattle.cover_steps.specs.Core.{is_unfinished}
+use Rattle.cover_core.specs.declared.cursor.Unfinished.{Unfinished}
+use Rattle.cover_core.specs.Past.{place}
 use Rattle.cover_core.proofs.searching.first_unfinished.Goals as goal
 
-pub returns-clause-found : goal.returns-clause-found
-returns-clause-found c = c.first_where.ensures.found (is_unfinished c.args.next) (λ k b h. h.1) c.requires
+pub returns-in-Some-clause-found : goal.returns-in-Some-clause-found
+returns-in-Some-clause-found c = ap (λ (u : Unfinished). let some : Unfinished → Option Unfinished = λ u. Some u in some u) c.of.ensures ∙ sym (ap (option_map place) (sym (c.first_where-found.ensures.found (is_unfinished c.args.next) (λ k b h. h.1) c.requires) ∙ c.in-Some.is))
 
-pub returns-clause-past : goal.returns-clause-past
-returns-clause-past c = c.first_where.ensures.past (is_unfinished c.args.next) (λ k b h. h.1) c.requires
+pub returns-in-Some-clause-past : goal.returns-in-Some-clause-past
+returns-in-Some-clause-past c = c.first_where-found.ensures.past (is_unfinished c.args.next) (λ k b h. h.1) c.requires
+
+pub returns-in-None-clause-found : goal.returns-in-None-clause-found
+returns-in-None-clause-found c = sym (ap (option_map place) (sym (c.first_where-found.ensures.found (is_unfinished c.args.next) (λ k b h. h.1) c.requires) ∙ c.in-None.is))
+
+pub returns-in-None-clause-past : goal.returns-in-None-clause-past
+returns-in-None-clause-past c = c.first_where-found.ensures.past (is_unfinished c.args.next) (λ k b h. h.1) c.requires

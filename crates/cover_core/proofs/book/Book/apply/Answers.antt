@@ -6,7 +6,7 @@ use Rattle.cover_steps.specs.Core.{Core}
 use Rattle.cover_steps.specs.Steps as steps
 use Rattle.cover_core.specs.Replies.{reply_of_batch}
 use Rattle.cover_core.proofs.Whole.{ApplyAll, apply-all}
-use Rattle.cover_core.proofs.Cursors.{past-both}
+use Rattle.cover_core.proofs.Cursors.{past-both, to_search, searched}
 use Rattle.cover_core.proofs.book.Book.apply.Goals as goal
 use Rattle.cover_core.proofs.book.Book.apply.Goals.{After-drop-made}
 
@@ -14,8 +14,13 @@ all : (c : After-drop-made) → ApplyAll _ _ _ c.self.invariant.0 c.self.view_is
 all c = apply-all _ _ _ c.self.invariant.0 c.self.view_is c.args.batch.now c.apply-answer.new.self c.in-Ok.made.snapshot.value c.withdraw.new.self c.put_all.new.candidates c.requires c.in-Applied.ensures.after c.in-Ok.ensures.table c.in-Ok.ensures.snapshot
     (c.withdraw.ensures ∙ ap (λ (dead : List ℕ). live_of dead c.self.inside.witnesses) (c.as_slice.ensures.value ∙ c.in-Ok.ensures.dead)) (c.put_all.ensures _ c.in-Ok.ensures.parts)
 
+pub first_unfinished-self-inside-requires : goal.first_unfinished-self-inside-requires
+first_unfinished-self-inside-requires c = to_search (record { rows = c.apply-answer.new.self; witnesses = c.withdraw.new.self; candidates = c.put_all.new.candidates }) c.next-next.result c.start-self-inside.result c.next-next.ensures.value (past-both _ c.start-self-inside.result c.start-self-inside.ensures.unfinished c.start-self-inside.ensures.drawable)
+
 pub invariant_of-self-in-Ok : goal.invariant_of-self-in-Ok
-invariant_of-self-in-Ok c = ((all c).kept, c.in-Ok.ensures.store, past-both _ c.start-self-inside.result c.start-self-inside.ensures.unfinished c.start-self-inside.ensures.drawable)
+invariant_of-self-in-Ok c =
+    let w = searched (record { rows = c.apply-answer.new.self; witnesses = c.withdraw.new.self; candidates = c.put_all.new.candidates }) _ (all c).kept c.next-next.result c.start-self-inside.result c.first_unfinished-self-inside.new.cursor c.first_unfinished-self-inside.result c.next-next.ensures.value (past-both _ c.start-self-inside.result c.start-self-inside.ensures.unfinished c.start-self-inside.ensures.drawable) c.first_unfinished-self-inside.ensures.past c.first_unfinished-self-inside.ensures.found in
+    ((all c).kept, c.in-Ok.ensures.store, w.past, w.first)
 
 pub returns-in-Ok-clause-step : goal.returns-in-Ok-clause-step
 returns-in-Ok-clause-step c = subst (λ (a : Applying). steps.Applying c.args.self.now c.args.batch.now (reply_of_batch a) (record { rows = c.apply-answer.new.self; witnesses = c.withdraw.new.self; candidates = c.put_all.new.candidates })) (sym c.in-Applied.is) (record {

@@ -1,11 +1,13 @@
-use Rattle.std.proofs.Common.{ℕ, ◌∙◌, sym, refl, subst}
-use Rattle.cover_steps.specs.Core.{is_drawable}
+use Rattle.std.proofs.Common.{◌≡◌, ℕ, ◌∙◌, sym, refl, subst, None}
+use Rattle.cover_steps.specs.Core.{Core, is_drawable, first_drawable}
 use Rattle.cover_steps.specs.Steps as steps
 use Rattle.cover_core.specs.Past.{IsPast}
 use Rattle.cover_core.specs.Replies.{reply_of_draw}
 use Rattle.cover_core.specs.declared.answers.Draw.{Draw}
-use Rattle.cover_core.proofs.Whole.{DrawAll, draw-all, draw-target, none_drawable, unfinished-found}
-use Rattle.cover_core.proofs.Cursors.{past-held}
+use Rattle.cover_core.proofs.Calls.{with_lists}
+use Rattle.cover_core.proofs.Whole.{DrawAll, draw-all, draw-target, none_drawable, some_drawable}
+use Rattle.cover_core.proofs.Turn.{on-err}
+use Rattle.cover_core.proofs.Cursors.{past-held, to_search, searched, first-told, first-none}
 use Rattle.cover_core.proofs.book.Book.draw.Goals as goal
 use Rattle.cover_core.proofs.book.Book.draw.Goals.{After-of-job, in-Some-first, in-None-first}
 
@@ -16,8 +18,11 @@ all c = draw-all _ _ _ c.self.invariant.0 c.self.view_is c.next-next.result c.fi
 pub hold-requires : goal.hold-requires
 hold-requires c = draw-target _ _ _ c.self.invariant.0 c.self.view_is c.next-next.result c.first_drawable.result c.in-Some.target c.in-Some.cand c.next-next.ensures.value c.first_drawable.ensures.found c.in-Some.is
 
+pub first_unfinished-self-inside-requires : goal.first_unfinished-self-inside-requires
+first_unfinished-self-inside-requires c = to_search (with_lists (record { rows = c.self.inside.rows; witnesses = c.self.inside.witnesses; candidates = c.self.inside.candidates }) c.hold.new.self) c.next-next.result (record { unfinished = c.self.inside.cursors.unfinished; drawable = c.first_drawable.new.cursor }) c.next-next.ensures.value (past-held (record { rows = c.self.inside.rows; witnesses = c.self.inside.witnesses; candidates = c.self.inside.candidates }) c.in-Some.target c.in-Some.cand.left c.hold.new.self (draw-target _ _ _ c.self.invariant.0 c.self.view_is c.next-next.result c.first_drawable.result c.in-Some.target c.in-Some.cand c.next-next.ensures.value c.first_drawable.ensures.found c.in-Some.is) (record { unfinished = c.self.inside.cursors.unfinished; drawable = c.first_drawable.new.cursor }) c.hold.ensures.list (record { unfinished = c.self.invariant.2.unfinished; drawable = subst (λ (n : ℕ). IsPast (is_drawable n) c.self.inside.candidates c.first_drawable.new.cursor) c.next-next.ensures.value c.first_drawable.ensures.past }))
+
 pub invariant_of-self : goal.invariant_of-self
-invariant_of-self c = (c.self.invariant.0, c.self.invariant.1, record { unfinished = c.self.invariant.2.unfinished; drawable = subst (λ (n : ℕ). IsPast (is_drawable n) c.self.inside.candidates c.first_drawable.new.cursor) c.next-next.ensures.value c.first_drawable.ensures.past })
+invariant_of-self c = (c.self.invariant.0, c.self.invariant.1, (record { unfinished = c.self.invariant.2.unfinished; drawable = subst (λ (n : ℕ). IsPast (is_drawable n) c.self.inside.candidates c.first_drawable.new.cursor) c.next-next.ensures.value c.first_drawable.ensures.past }), c.self.invariant.3)
 
 pub returns-in_ok-snapshot-in-Some-clause-step : goal.returns-in_ok-snapshot-in-Some-clause-step
 returns-in_ok-snapshot-in-Some-clause-step c = (all c).step
@@ -29,21 +34,23 @@ pub returns-in_ok-snapshot-in-Some-clause-sound : goal.returns-in_ok-snapshot-in
 returns-in_ok-snapshot-in-Some-clause-sound c = (all c).kept.sound
 
 pub invariant_of-self-in-Some : goal.invariant_of-self-in-Some
-invariant_of-self-in-Some c = (
-  (all c).kept,
-  c.self.invariant.1,
-  past-held (record { rows = c.self.inside.rows; witnesses = c.self.inside.witnesses; candidates = c.self.inside.candidates }) c.in-Some.target c.in-Some.cand.left c.hold.new.self
-      (draw-target _ _ _ c.self.invariant.0 c.self.view_is c.next-next.result c.first_drawable.result c.in-Some.target c.in-Some.cand c.next-next.ensures.value c.first_drawable.ensures.found c.in-Some.is)
-      (record { unfinished = c.self.inside.cursors.unfinished; drawable = c.first_drawable.new.cursor }) c.hold.ensures.list
-      (record { unfinished = c.self.invariant.2.unfinished; drawable = subst (λ (n : ℕ). IsPast (is_drawable n) c.self.inside.candidates c.first_drawable.new.cursor) c.next-next.ensures.value c.first_drawable.ensures.past }),
-)
+invariant_of-self-in-Some c =
+    let w = searched (with_lists (record { rows = c.self.inside.rows; witnesses = c.self.inside.witnesses; candidates = c.self.inside.candidates }) c.hold.new.self) _ (all c).kept c.next-next.result (record { unfinished = c.self.inside.cursors.unfinished; drawable = c.first_drawable.new.cursor }) c.first_unfinished-self-inside.new.cursor c.first_unfinished-self-inside.result c.next-next.ensures.value (past-held (record { rows = c.self.inside.rows; witnesses = c.self.inside.witnesses; candidates = c.self.inside.candidates }) c.in-Some.target c.in-Some.cand.left c.hold.new.self (draw-target _ _ _ c.self.invariant.0 c.self.view_is c.next-next.result c.first_drawable.result c.in-Some.target c.in-Some.cand c.next-next.ensures.value c.first_drawable.ensures.found c.in-Some.is) (record { unfinished = c.self.inside.cursors.unfinished; drawable = c.first_drawable.new.cursor }) c.hold.ensures.list (record { unfinished = c.self.invariant.2.unfinished; drawable = subst (λ (n : ℕ). IsPast (is_drawable n) c.self.inside.candidates c.first_drawable.new.cursor) c.next-next.ensures.value c.first_drawable.ensures.past })) c.first_unfinished-self-inside.ensures.past c.first_unfinished-self-inside.ensures.found in
+    ((all c).kept, c.self.invariant.1, w.past, w.first)
 
 pub returns-after-first-clause-step : goal.returns-after-first-clause-step
 returns-after-first-clause-step c =
     let none = none_drawable _ _ _ c.self.invariant.0 c.self.view_is c.next-next.result c.first_drawable.result c.next-next.ensures.value c.first_drawable.ensures.found c.in-None.is in
+    let same : Core = record { rows = c.self.inside.rows; witnesses = c.self.inside.witnesses; candidates = c.self.inside.candidates } in
     elim c.match-first.branch [
-      | in-Some-first w ↦ subst (λ (d : Draw). steps.Drawing c.args.self.now (reply_of_draw d) (record { rows = c.self.inside.rows; witnesses = c.self.inside.witnesses; candidates = c.self.inside.candidates })) (sym w.result-is)
-          (record { none = none; first = (w.in-Some-first.cand, unfinished-found _ _ _ c.self.invariant.0 c.self.view_is c.next-next.result c.first_unfinished-first.result _ c.next-next.ensures.value c.first_unfinished-first.ensures.found w.in-Some-first.is, refl) }, c.self.view_is)
-      | in-None-first w ↦ subst (λ (d : Draw). steps.Drawing c.args.self.now (reply_of_draw d) (record { rows = c.self.inside.rows; witnesses = c.self.inside.witnesses; candidates = c.self.inside.candidates })) (sym w.result-is)
-          (unfinished-found _ _ _ c.self.invariant.0 c.self.view_is c.next-next.result c.first_unfinished-first.result _ c.next-next.ensures.value c.first_unfinished-first.ensures.found w.in-None-first.is, c.self.view_is)
+      | in-Some-first w ↦
+          let told = first-told same c.first.result w.in-Some-first.first c.first.ensures w.in-Some-first.is in
+          subst (λ (m : Core). steps.Drawing m (reply_of_draw c.match-first.result) same) c.self.view_is
+          (subst (λ (d : Draw). steps.Drawing same (reply_of_draw d) same) (sym w.result-is) (record { none = subst (λ (m : Core). first_drawable m ≡ None) (sym c.self.view_is) none; first = (told.0, told.1, told.2) }, refl))
+      | in-None-first w ↦
+          subst (λ (m : Core). steps.Drawing m (reply_of_draw c.match-first.result) same) c.self.view_is
+          (subst (λ (d : Draw). steps.Drawing same (reply_of_draw d) same) (sym w.result-is) (first-none same c.first.result c.first.ensures w.in-None-first.is, refl))
     ]
+
+pub returns-in_err-snapshot-in-Some-clause-wanted : goal.returns-in_err-snapshot-in-Some-clause-wanted
+returns-in_err-snapshot-in-Some-clause-wanted c = on-err c.from_residual.result _ (some_drawable _ _ _ c.self.invariant.0 c.self.view_is c.next-next.result c.first_drawable.result (c.in-Some.target, c.in-Some.cand) c.next-next.ensures.value c.first_drawable.ensures.found c.in-Some.is)

@@ -1,29 +1,38 @@
-use Rattle.std.proofs.Common.{◌≡◌, ◌∙◌, sym, ap, cond}
+use Rattle.std.proofs.Common.{◌≡◌, ◌∙◌, sym, ap, subst, cond}
+use Rattle.candidate_cover.specs.Lists.{CandLists}
+use Rattle.cover_core.specs.Past.{ArePast, IsFirst}
 use Rattle.cover_core.specs.declared.answers.Release.TheVariants as releases
+use Rattle.cover_core.proofs.Calls.{with_lists}
 use Rattle.cover_core.proofs.Whole.{ReleaseAll, release-all}
-use Rattle.cover_core.proofs.Cursors.{past-released, target-of}
+use Rattle.cover_core.proofs.Cursors.{past-released, past-dropped, to_search, searched, target-of}
 use Rattle.cover_core.proofs.book.Book.release.Goals as goal
-use Rattle.cover_core.proofs.book.Book.release.Goals.{Joined-hold, then-hold, else-hold}
-
-told : (c : Joined-hold) → c.if-hold.result ≡ cond c.hold.result releases.Released releases.Dropped
-told c = elim c.if-hold.branch [
-  | then-hold w ↦ w.result-is ∙ sym (ap (λ b. cond b releases.Released releases.Dropped) w.if-hold.true)
-  | else-hold w ↦ w.result-is ∙ sym (ap (λ b. cond b releases.Released releases.Dropped) w.if-hold.false)
-]
-
-all : (c : Joined-hold) → ReleaseAll _ _ _ c.self.invariant.0 c.self.view_is c.args.job.now c.if-hold.result c.hold.new.self
-all c = release-all _ _ _ c.self.invariant.0 c.self.view_is c.args.job.now c.target.result c.left.result c.hold.result c.if-hold.result c.hold.new.self c.target.ensures c.left.ensures c.requires.target c.hold.ensures.answer (told c) c.hold.ensures.list
 
 pub invariant_of-self : goal.invariant_of-self
-invariant_of-self c = (
-  (all c).kept,
-  c.self.invariant.1,
-  past-released (record { rows = c.self.inside.rows; witnesses = c.self.inside.witnesses; candidates = c.self.inside.candidates }) c.target.result c.left.result c.hold.new.self (target-of _ _ _ c.self.invariant.0 c.self.view_is c.target.result _ c.target.ensures c.requires.target) c.self.inside.cursors c.let_go-self-inside.result
-      c.let_go-self-inside.ensures.unfinished c.let_go-self-inside.ensures.drawable c.hold.ensures.list c.self.invariant.2,
-)
+invariant_of-self c =
+    let same : c.hold.new.self ≡ c.self.inside.candidates = past-dropped (record { rows = c.self.inside.rows; witnesses = c.self.inside.witnesses; candidates = c.self.inside.candidates }) c.target-target.result c.left-left.result c.hold.new.self c.self.inside.cursors (sym c.hold.ensures.answer ∙ c.if-not-hold.true) c.hold.ensures.list in (
+      (release-all _ _ _ c.self.invariant.0 c.self.view_is c.args.job.now c.target-target.result c.left-left.result c.hold.result releases.Dropped c.hold.new.self c.target-target.ensures c.left-left.ensures c.requires.target c.hold.ensures.answer (sym (ap (λ b. cond b releases.Released releases.Dropped) c.if-not-hold.true)) c.hold.ensures.list).kept,
+      c.self.invariant.1,
+      subst (λ (l : CandLists). ArePast (with_lists (record { rows = c.self.inside.rows; witnesses = c.self.inside.witnesses; candidates = c.self.inside.candidates }) l) c.self.inside.cursors) (sym same) c.self.invariant.2,
+      subst (λ (l : CandLists). IsFirst (with_lists (record { rows = c.self.inside.rows; witnesses = c.self.inside.witnesses; candidates = c.self.inside.candidates }) l) c.self.inside.first) (sym same) c.self.invariant.3,
+    )
+
+pub returns-then-not-hold-clause-step : goal.returns-then-not-hold-clause-step
+returns-then-not-hold-clause-step c = (release-all _ _ _ c.self.invariant.0 c.self.view_is c.args.job.now c.target-target.result c.left-left.result c.hold.result releases.Dropped c.hold.new.self c.target-target.ensures c.left-left.ensures c.requires.target c.hold.ensures.answer (sym (ap (λ b. cond b releases.Released releases.Dropped) c.if-not-hold.true)) c.hold.ensures.list).step
+
+pub returns-then-not-hold-clause-sound : goal.returns-then-not-hold-clause-sound
+returns-then-not-hold-clause-sound c = (release-all _ _ _ c.self.invariant.0 c.self.view_is c.args.job.now c.target-target.result c.left-left.result c.hold.result releases.Dropped c.hold.new.self c.target-target.ensures c.left-left.ensures c.requires.target c.hold.ensures.answer (sym (ap (λ b. cond b releases.Released releases.Dropped) c.if-not-hold.true)) c.hold.ensures.list).kept.sound
+
+pub first_unfinished-self-inside-requires : goal.first_unfinished-self-inside-requires
+first_unfinished-self-inside-requires c = to_search (with_lists (record { rows = c.self.inside.rows; witnesses = c.self.inside.witnesses; candidates = c.self.inside.candidates }) c.hold.new.self) c.next-next.result c.let_go.new.self c.next-next.ensures.value (past-released (record { rows = c.self.inside.rows; witnesses = c.self.inside.witnesses; candidates = c.self.inside.candidates }) c.target-target.result c.left-left.result c.hold.new.self (target-of _ _ _ c.self.invariant.0 c.self.view_is c.target-target.result _ c.target-target.ensures c.requires.target) c.self.inside.cursors c.let_go.new.self c.let_go.ensures.unfinished c.let_go.ensures.drawable c.hold.ensures.list c.self.invariant.2)
+
+pub invariant_of-self-2 : goal.invariant_of-self-2
+invariant_of-self-2 c =
+    let all = release-all _ _ _ c.self.invariant.0 c.self.view_is c.args.job.now c.target-target.result c.left-left.result c.hold.result releases.Released c.hold.new.self c.target-target.ensures c.left-left.ensures c.requires.target c.hold.ensures.answer (sym (ap (λ b. cond b releases.Released releases.Dropped) c.if-not-hold.false)) c.hold.ensures.list in
+    let w = searched (with_lists (record { rows = c.self.inside.rows; witnesses = c.self.inside.witnesses; candidates = c.self.inside.candidates }) c.hold.new.self) _ all.kept c.next-next.result c.let_go.new.self c.first_unfinished-self-inside.new.cursor c.first_unfinished-self-inside.result c.next-next.ensures.value (past-released (record { rows = c.self.inside.rows; witnesses = c.self.inside.witnesses; candidates = c.self.inside.candidates }) c.target-target.result c.left-left.result c.hold.new.self (target-of _ _ _ c.self.invariant.0 c.self.view_is c.target-target.result _ c.target-target.ensures c.requires.target) c.self.inside.cursors c.let_go.new.self c.let_go.ensures.unfinished c.let_go.ensures.drawable c.hold.ensures.list c.self.invariant.2) c.first_unfinished-self-inside.ensures.past c.first_unfinished-self-inside.ensures.found in
+    (all.kept, c.self.invariant.1, w.past, w.first)
 
 pub returns-clause-step : goal.returns-clause-step
-returns-clause-step c = (all c).step
+returns-clause-step c = (release-all _ _ _ c.self.invariant.0 c.self.view_is c.args.job.now c.target-target.result c.left-left.result c.hold.result releases.Released c.hold.new.self c.target-target.ensures c.left-left.ensures c.requires.target c.hold.ensures.answer (sym (ap (λ b. cond b releases.Released releases.Dropped) c.if-not-hold.false)) c.hold.ensures.list).step
 
 pub returns-clause-sound : goal.returns-clause-sound
-returns-clause-sound c = (all c).kept.sound
+returns-clause-sound c = (release-all _ _ _ c.self.invariant.0 c.self.view_is c.args.job.now c.target-target.result c.left-left.result c.hold.result releases.Released c.hold.new.self c.target-target.ensures c.left-left.ensures c.requires.target c.hold.ensures.answer (sym (ap (λ b. cond b releases.Released releases.Dropped) c.if-not-hold.false)) c.hold.ensures.list).kept.sound
