@@ -225,7 +225,7 @@ impl Book {
     /// Applies a batch whole or not at all. The witnesses with a dead row are withdrawn, and the candidates are what the rest
     /// leaves.
     ///
-    /// It takes a copy of all codes for the new snapshot, a look at each witness, and for each target of which a withdrawn agree
+    /// It takes a copy of the codes of the last rows for the new snapshot, a look at each witness, and for each target of which a withdrawn agree
     /// set lacks the target what `generalise` takes. After a refusal or want of memory nothing changed.
     pub fn apply(&mut self, batch: &Batch) -> Applying
         requires { All (IsAsWide (width self.old.rows)) batch.now }
@@ -250,7 +250,7 @@ impl Book {
                 self.witnesses.withdraw(made.dead.as_slice());
                 put_all(&mut self.candidates, made.parts);
                 self.snapshot = made.snapshot;
-                self.store = made.store;
+                self.store.renew(self.alloc, made.shared);
                 self.cursors = Cursors::start();
                 let next = self.rows.next();
                 self.first = first_unfinished(&self.candidates, &mut self.cursors.unfinished, next);

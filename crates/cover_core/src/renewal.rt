@@ -10,7 +10,6 @@ ghost use Rattle.cover_core.specs.NewLists.{AreParts};
 
 use crate::ended::ended;
 use crate::parts::{Parts, generalised};
-use crate::verdict::store_of;
 use candidate_cover::CandidateCover;
 use negative_cover::NegativeCover;
 use rel_base::{Batch, RowNo, Snapshot, Steps};
@@ -18,13 +17,12 @@ use row_log::RowLog;
 use std::alloc::{AllocError, Global};
 use std::sync::Arc;
 use std::sync::ledger::{Blank, Ledger};
-use validator::Store;
 
-// The new snapshot and its store, the rows that end, and the new lists of candidates.
+// The new snapshot with two owners, the rows that end, and the new lists of candidates.
 #[derive(Drop)]
 pub(crate) struct Renewal {
     pub(crate) snapshot: Arc<Snapshot>,
-    pub(crate) store: Store,
+    pub(crate) shared: Arc<Snapshot>,
     pub(crate) dead: Vec<RowNo>,
     pub(crate) parts: Parts,
 }
@@ -44,7 +42,7 @@ pub(crate) fn renewed_after<L: Ledger>(
     requires least { AreLeast (width candidates.now) (sets_of witnesses.now) candidates.now }
     ensures snapshot { IfOk result (λ made. Shows made.snapshot.value rows.now) }
     ensures table { IfOk result (λ made. IsCodeTable made.snapshot.value) }
-    ensures store { IfOk result (λ made. made.store ≡ made.snapshot.value) }
+    ensures shared { IfOk result (λ made. made.shared.value ≡ made.snapshot.value) }
     ensures dead { IfOk result (λ made. made.dead.items ≡ rows_of.ended batch.now) }
     ensures parts { IfOk result (λ made. AreParts (width candidates.now) (sets_of (live_of (rows_of.ended batch.now) witnesses.now)) candidates.now made.parts.rows made.parts.columns.items) }
 {
@@ -61,10 +59,10 @@ pub(crate) fn renewed_after<L: Ledger>(
         parted.gone.as_slice(),
         &mut steps,
     )?;
-    let store = store_of(alloc, &snapshot)?;
+    let shared = snapshot.clone()?;
     Ok(Renewal {
         snapshot,
-        store,
+        shared,
         dead,
         parts,
     })

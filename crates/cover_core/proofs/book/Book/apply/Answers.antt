@@ -20,7 +20,7 @@ first_unfinished-self-inside-requires c = to_search (record { rows = c.apply-ans
 pub invariant_of-self-in-Ok : goal.invariant_of-self-in-Ok
 invariant_of-self-in-Ok c =
     let w = searched (record { rows = c.apply-answer.new.self; witnesses = c.withdraw.new.self; candidates = c.put_all.new.candidates }) _ (all c).kept c.next-next.result c.start-self-inside.result c.first_unfinished-self-inside.new.cursor c.first_unfinished-self-inside.result c.next-next.ensures.value (past-both _ c.start-self-inside.result c.start-self-inside.ensures.unfinished c.start-self-inside.ensures.drawable) c.first_unfinished-self-inside.ensures.past c.first_unfinished-self-inside.ensures.found in
-    ((all c).kept, c.in-Ok.ensures.store, w.past, w.first)
+    ((all c).kept, c.renew.ensures ∙ c.in-Ok.ensures.shared, w.past, w.first)
 
 pub returns-in-Ok-clause-step : goal.returns-in-Ok-clause-step
 returns-in-Ok-clause-step c = subst (λ (a : Applying). steps.Applying c.args.self.now c.args.batch.now (reply_of_batch a) (record { rows = c.apply-answer.new.self; witnesses = c.withdraw.new.self; candidates = c.put_all.new.candidates })) (sym c.in-Applied.is) (record {
