@@ -1,5 +1,11 @@
-pub mod Cuts
 pub mod Places
-pub mod Merging
-pub mod Added
-pub mod Mapped
+pub mod Values
+pub mod Growing
+pub mod Paths
+pub mod Reading
+pub mod Spots
+pub mod Listing
+pub mod Walking
+pub mod Apart
+pub mod Whole
+pub mod Nearest

@@ -1,201 +1,105 @@
--- Pairs in report order and the place of a key among them.
-use Rattle.std.proofs.Common.{inl, inr, ◌≡◌, ◌≢◌, ℕ, suc, ◌+◌, ◌-◌, ◌<◌, ◌≤◌, Bool, true, false, not, eqb, refl, sym, ap, ap₂, ◌∙◌, subst, arith, List, ◌∷◌, ◌++◌, length, get_or, take, drop, set, if◌then◌else◌, Some, None, Result, Ok, Err, is_ok, Ordering, Less, Equal, Greater}
-use Rattle.std.specs.List.{filter}
-use Rattle.std.specs.List.Sorted.{IsBinarySearchResult, IsSearchInRange, IsSortedBy}
-use Rattle.std.specs.Option.{option_map}
-use Rattle.std.specs.Ordering.{is_lt, is_eq, ordering_reverse}
-use Rattle.std.proofs.lemmas.Bool.{eqb-true, eq-eqb, true≢false, cases_eq, cases_lt}
-use Rattle.std.proofs.lemmas.Cmp.{tied_itself}
-use Rattle.std.proofs.lemmas.List.{set_split, take_all, length-drop}
-use Rattle.std.proofs.lemmas.List.Folds.{list_any_none}
-use Rattle.std.proofs.lemmas.List.Sorted.{searchable_from_sorted}
-use Rattle.col_set.specs.ColSet.{report_cmp}
-use Rattle.col_set.specs.Columns.{report_total}
-use Rattle.col_set.specs.AllSets.{report_matches_eq}
-use Rattle.col_set.specs.Lists.{Listed, Rises-filter, Rises-append, Rises-map, Listed-filter_parts}
-use Rattle.col_set.proofs.Places.{AllPairs-rises}
-use Rattle.set_tree.specs.Pairs.{IsInOrder, is_key, value_at, inserted, with_value, without_key, from}
-use Rattle.set_tree.specs.Place.{Parts, Stands, Lacks, IsPlace}
-use Rattle.set_tree.proofs.Cuts.{kept_front, kept_back, kept_but, kept_all, set-map, map_same, found_at, found_none, any_at}
+-- Places: how often they are used or spare.
+use Rattle.std.proofs.Common.{IfSome, option_to_list, if◌then◌else◌, inl, inr, ◌≡◌, ◌⊎◌, ℕ, ◌+◌, ◌<◌, ◌≤◌, Bool, true, false, eqb, cond, refl, sym, ap, ◌∙◌, subst, arith, List, [], ◌∷◌, ◌++◌, length, Option, Some, None}
+use Rattle.std.specs.List.{slice_get}
+use Rattle.std.specs.Option.{is_some}
+use Rattle.std.proofs.lemmas.Bool.{eqb-true, eq-eqb, lt-ltb, le-ltb, cases_lt, true≢false}
+use Rattle.std.proofs.lemmas.Option.{slice_get-get_or}
+use Rattle.std.proofs.Math.ListN.{get_or, get_or-append}
+use Rattle.std.proofs.lemmas.List.{length-append}
+use Rattle.set_tree.specs.Tree.{one, behind, times, spare}
 
--- ---- report order
-pub same_from_equal : (x y : ℕ) → report_cmp x y ≡ Equal → x ≡ y
-same_from_equal x y e = eqb-true x y (report_matches_eq x y ∙ ap is_eq e)
+pub one_same : (k : ℕ) → one k k ≡ 1
+unfolding one
+one_same k = ap (λ (b : Bool). cond b 1 0) (eq-eqb k k refl)
 
-pub apart_from_less : (x y : ℕ) → report_cmp x y ≡ Less → eqb x y ≡ false
-apart_from_less x y e = report_matches_eq x y ∙ ap is_eq e
+pub one_cases : (at k : ℕ) → ((at ≡ k) × (one at k ≡ 1)) ⊎ (one at k ≡ 0)
+unfolding one
+one_cases at k = by (eqb at k) refl
+  where
+    by : (b : Bool) → eqb at k ≡ b → ((at ≡ k) × (◌≡◌ {A = ℕ} (cond b 1 0) 1)) ⊎ (◌≡◌ {A = ℕ} (cond b 1 0) 0)
+    by true e = inl (eqb-true at k e, refl)
+    by false e = inr refl
 
-apart_from_greater : (x y : ℕ) → report_cmp y x ≡ Less → eqb x y ≡ false
-apart_from_greater x y e = report_matches_eq x y ∙ ap is_eq (report_total.antisymm x y ∙ ap ordering_reverse e)
+pub behind_in : (n k : ℕ) → k < n → behind n k ≡ 0
+unfolding behind
+behind_in n k l = ap (λ (b : Bool). cond b 0 1) (lt-ltb k n l)
 
-pub less_is : (x y : ℕ) → report_cmp x y ≡ Less → is_lt (report_cmp x y) ≡ true
-less_is x y e = ap is_lt e
+pub behind_out : (n k : ℕ) → n ≤ k → behind n k ≡ 1
+unfolding behind
+behind_out n k l = ap (λ (b : Bool). cond b 0 1) (le-ltb k n l)
 
-less_from : (o : Ordering) → is_lt o ≡ true → o ≡ Less
-less_from Less e = refl
-less_from Equal e = absurd (true≢false (sym e))
-less_from Greater e = absurd (true≢false (sym e))
+pub times-append : (us : List ℕ) (place k : ℕ) → times (us ++ place ∷ []) k ≡ one place k + times us k
+unfolding times
+times-append [] place k = refl
+times-append (u ∷ us) place k = let e : times (us ++ place ∷ []) k ≡ one place k + times us k = times-append us place k in omega (arith, e)
 
-pub not_less : (x y : ℕ) → report_cmp y x ≡ Less → is_lt (report_cmp x y) ≡ false
-not_less x y e = ap is_lt (report_total.antisymm x y ∙ ap ordering_reverse e)
+pub spare_none : (k : ℕ) → spare 0 [] k ≤ 1
+unfolding spare times
+spare_none k = let e : behind 0 k ≡ 1 = behind_out 0 k (omega arith) in omega (arith, e)
 
-not_less_same : (x y : ℕ) → x ≡ y → is_lt (report_cmp x y) ≡ false
-not_less_same x y e = ap is_lt (ap (report_cmp x) (sym e) ∙ tied_itself report_total x)
+-- what is spare no more than once stands among the nodes
+pub spare_within : (n : ℕ) (us : List ℕ) (place : ℕ) → times us place ≡ 1 → spare n us place ≤ 1 → place < n
+unfolding spare
+spare_within n us place e l = elim (cases_lt place n) as (λ _. place < n) [
+  | inl h ↦ h
+  | inr h ↦ absurd (let b : behind n place ≡ 1 = behind_out n place h in omega (arith, e, b, l))
+]
 
-module _ {V : Type 0} where
-  sorted : (ps : List (ℕ × V)) → IsInOrder ps → IsSortedBy (λ p q. is_lt (report_cmp p.0 q.0)) ps
-  sorted ps r k d l h = not_less _ _ (AllPairs-rises (λ p q. report_cmp p.0 q.0) ps r k (k + 1) d (omega arith) (omega arith))
+-- one place more, behind all others
+pub spare_pushed : (n : ℕ) (us : List ℕ) (k : ℕ) → one n k + spare (n + 1) us k ≤ spare n us k
+unfolding spare
+spare_pushed n us k = elim (one_cases n k) as (λ _. one n k + (times us k + behind (n + 1) k) ≤ times us k + behind n k) [
+  | inl h ↦ let b : behind n k ≡ 1 = behind_out n k (omega (arith, h.0)) in let d : behind (n + 1) k ≡ 0 = behind_in (n + 1) k (omega (arith, h.0)) in omega (arith, h.1, b, d)
+  | inr h ↦ elim (cases_lt k n) as (λ _. one n k + (times us k + behind (n + 1) k) ≤ times us k + behind n k) [
+    | inl l ↦ let b : behind n k ≡ 0 = behind_in n k l in let d : behind (n + 1) k ≡ 0 = behind_in (n + 1) k (omega (arith, l)) in omega (arith, h, b, d)
+    | inr l ↦ let b : behind n k ≡ 1 = behind_out n k l in elim (cases_lt k (n + 1)) as (λ _. one n k + (times us k + behind (n + 1) k) ≤ times us k + behind n k) [
+      | inl m ↦ let d : behind (n + 1) k ≡ 0 = behind_in (n + 1) k m in omega (arith, h, b, d)
+      | inr m ↦ let d : behind (n + 1) k ≡ 1 = behind_out (n + 1) k m in omega (arith, h, b, d)
+    ]
+  ]
+]
 
-  -- what a search by halves finds
-  pub place_found : (ps : List (ℕ × V)) (x : ℕ) (r : Result ℕ ℕ) → IsInOrder ps → IsSearchInRange r (length ps) → IsBinarySearchResult (λ p. report_cmp p.0 x) ps r → IsPlace ps x r
-  place_found ps x (Ok i) o b s = record {
-    within = b;
-    same = λ d. same_from_equal _ x (s d);
-    parts = record {
-      before = λ k d h l. ap (report_cmp (get_or ps k d).0) (sym (same_from_equal _ x (s d))) ∙ AllPairs-rises (λ p q. report_cmp p.0 q.0) ps o k i d h b;
-      after = λ k d h l. ap (λ (z : ℕ). report_cmp z (get_or ps k d).0) (sym (same_from_equal _ x (s d))) ∙ AllPairs-rises (λ p q. report_cmp p.0 q.0) ps o i k d (omega arith) l;
-    };
-  }
-  place_found ps x (Err i) o b s =
-      let w = s (searchable_from_sorted report_total (λ (p : ℕ × V). p.0) ps x (sorted ps o)) in
-      record {
-        within = b;
-        parts = record {
-          before = λ k d h l. w.0 k d (omega arith) h;
-          after = λ k d h l. report_total.antisymm x (get_or ps k d).0 ∙ ap ordering_reverse (w.1 k d h l);
-        };
-      }
+module _ {X : Type 0} where
+  pub get_in : (xs : List X) (x : X) (k : ℕ) → k < length xs → slice_get (xs ++ x ∷ []) k ≡ slice_get xs k
+  get_in xs x k l =
+      slice_get-get_or (xs ++ x ∷ []) k x (let e : length (xs ++ x ∷ []) ≡ length xs + 1 = length-append xs (x ∷ []) in omega (arith, e, l))
+      ∙ ap (λ z. Some z) (get_or-append xs (x ∷ []) x k l) ∙ sym (slice_get-get_or xs k x l)
 
-  module _ (ps : List (ℕ × V)) (x : ℕ) where
-    -- ---- x is the key at the place
-    module _ (i : ℕ) (s : Stands ps x i) where
-      others : (k : ℕ) (d : ℕ × V) → k ≢ i → k < length ps → eqb (get_or ps k d).0 x ≡ false
-      others k d n l = elim (cases_lt k i) as (λ _. eqb (get_or ps k d).0 x ≡ false) [
-        | inl h ↦ apart_from_less _ x (s.parts.before k d h l)
-        | inr h ↦ apart_from_greater _ x (s.parts.after k d (omega arith) l)
-      ]
+  last : (xs : List X) (x : X) → get_or (xs ++ x ∷ []) (length xs) x ≡ x
+  last [] x = refl
+  last (y ∷ xs) x = last xs x
 
-      pub is_key-stands : is_key ps x ≡ true
-      is_key-stands = any_at (λ p. eqb p.0 x) ps i s.within (λ d. eq-eqb _ x (s.same d))
+  pub get_last : (xs : List X) (x : X) → slice_get (xs ++ x ∷ []) (length xs) ≡ Some x
+  get_last xs x = slice_get-get_or (xs ++ x ∷ []) (length xs) x (let e : length (xs ++ x ∷ []) ≡ length xs + 1 = length-append xs (x ∷ []) in omega (arith, e)) ∙ ap (λ z. Some z) (last xs x)
 
-      pub value_at-stands : (d : ℕ × V) → value_at ps x ≡ Some (get_or ps i d).1
-      value_at-stands d = ap (option_map (λ p. p.1)) (found_at (λ p. eqb p.0 x) ps i s.within (λ k d h l. others k d (omega arith) l) (λ d. eq-eqb _ x (s.same d)) d)
+pub noted : (n : ℕ) (us new : List ℕ) (place : ℕ) (b : Bool) → new ≡ (if b then us ++ place ∷ [] else us) → (k : ℕ) → spare n new k ≤ one place k + spare n us k
+unfolding spare
+noted n us new place true e k = let t : times new k ≡ one place k + times us k = ap (λ (ws : List ℕ). times ws k) e ∙ times-append us place k in omega (arith, t)
+noted n us new place false e k = let t : times new k ≡ times us k = ap (λ (ws : List ℕ). times ws k) e in omega (arith, t)
 
-      pub inserted-stands : (v : V) → inserted ps x v ≡ set ps i (x, v)
-      inserted-stands v = ap₂ (λ (us vs : List (ℕ × V)). us ++ (x, v) ∷ vs)
-          (kept_front (λ p. is_lt (report_cmp p.0 x)) ps i (λ k d h l. less_is _ x (s.parts.before k d h l)) (λ k d h l. here_on k d h l))
-          (kept_back (λ p. is_lt (report_cmp x p.0)) ps (suc i) (λ k d h l. up_to_here k d h l) (λ k d h l. less_is x _ (s.parts.after k d (omega arith) l)))
-          ∙ sym (set_split ps i (x, v) s.within)
-        where
-          here_on : (k : ℕ) (d : ℕ × V) → i ≤ k → k < length ps → is_lt (report_cmp (get_or ps k d).0 x) ≡ false
-          here_on k d h l = elim (cases_eq k i) as (λ _. is_lt (report_cmp (get_or ps k d).0 x) ≡ false) [
-            | inl e ↦ not_less_same _ x (ap (λ (j : ℕ). (get_or ps j d).0) e ∙ s.same d)
-            | inr ne ↦ not_less _ x (s.parts.after k d (omega arith) l)
-          ]
+pub taken : (old new : List ℕ) (o : Option ℕ) → old ≡ new ++ option_to_list o → IfSome o (λ place. (k : ℕ) → one place k + times new k ≡ times old k)
+taken old new None e = tt
+taken old new (Some place) e = λ k. sym (ap (λ (ws : List ℕ). times ws k) e ∙ times-append new place k)
 
-          up_to_here : (k : ℕ) (d : ℕ × V) → k < suc i → k < length ps → is_lt (report_cmp x (get_or ps k d).0) ≡ false
-          up_to_here k d h l = elim (cases_eq k i) as (λ _. is_lt (report_cmp x (get_or ps k d).0) ≡ false) [
-            | inl e ↦ not_less_same x _ (sym (ap (λ (j : ℕ). (get_or ps j d).0) e ∙ s.same d))
-            | inr ne ↦ not_less x _ (s.parts.before k d (omega arith) l)
-          ]
+pub taken_within : (n : ℕ) (old new : List ℕ) (place : ℕ) → ((k : ℕ) → one place k + times new k ≡ times old k) → ((k : ℕ) → spare n old k ≤ 1) → place < n
+unfolding spare
+taken_within n old new place e once = elim (cases_lt place n) as (λ _. place < n) [
+  | inl h ↦ h
+  | inr h ↦ absurd (let b : behind n place ≡ 1 = behind_out n place h in let o : one place place ≡ 1 = one_same place in let t = e place in let w = once place in omega (arith, b, o, t, w))
+]
 
-      pub with_value-stands : (v : V) → with_value ps x v ≡ set ps i (x, v)
-      with_value-stands v = sym (set-map (λ p. if eqb p.0 x then (x, v) else p) ps i (x, v) s.within
-          (λ d. ap (λ b. if b then (x, v) else get_or ps i d) (eq-eqb _ x (s.same d)))
-          (λ k d n l. ap (λ b. if b then (x, v) else get_or ps k d) (others k d n l)))
+pub taken_fewer : (n : ℕ) (old new : List ℕ) (place : ℕ) → ((k : ℕ) → one place k + times new k ≡ times old k) → (k : ℕ) → one place k + spare n new k ≤ spare n old k
+unfolding spare
+taken_fewer n old new place e k = let t = e k in omega (arith, t)
 
-      pub without_key-stands : without_key ps x ≡ take i ps ++ drop (suc i) ps
-      without_key-stands = kept_but (λ p. not (eqb p.0 x)) ps i s.within (λ d. ap not (eq-eqb _ x (s.same d))) (λ k d n l. ap not (others k d n l))
+pub taken_other : (n : ℕ) (old new : List ℕ) (place : ℕ) → ((k : ℕ) → one place k + times new k ≡ times old k) → (k : ℕ) → spare n old k ≡ 0 → k ≡ place → ⊥
+unfolding spare
+taken_other n old new place e k z i = let t = e k in let o : one place place ≡ 1 = one_same place in let w : one place k ≡ 1 = subst (λ (j : ℕ). one place j ≡ 1) (sym i) o in omega (arith, t, w, z)
 
-    -- ---- x is no key
-    module _ (i : ℕ) (s : Lacks ps x i) where
-      none : (k : ℕ) (d : ℕ × V) → k < length ps → eqb (get_or ps k d).0 x ≡ false
-      none k d l = elim (cases_lt k i) as (λ _. eqb (get_or ps k d).0 x ≡ false) [
-        | inl h ↦ apart_from_less _ x (s.parts.before k d h l)
-        | inr h ↦ apart_from_greater _ x (s.parts.after k d h l)
-      ]
+pub spare_nothing : (n : ℕ) (us : List ℕ) (k : ℕ) → spare n us k ≡ 0 → k < n
+unfolding spare
+spare_nothing n us k z = elim (cases_lt k n) as (λ _. k < n) [ inl h ↦ h | inr h ↦ absurd (let b : behind n k ≡ 1 = behind_out n k h in omega (arith, b, z)) ]
 
-      pub is_key-lacks : is_key ps x ≡ false
-      is_key-lacks = list_any_none (λ p. eqb p.0 x) ps none
-
-      pub value_at-lacks : value_at ps x ≡ None
-      value_at-lacks = ap (option_map (λ p. p.1)) (found_none (λ p. eqb p.0 x) ps none)
-
-      pub inserted-lacks : (v : V) → inserted ps x v ≡ take i ps ++ (x, v) ∷ drop i ps
-      inserted-lacks v = ap₂ (λ (us vs : List (ℕ × V)). us ++ (x, v) ∷ vs)
-          (kept_front (λ p. is_lt (report_cmp p.0 x)) ps i (λ k d h l. less_is _ x (s.parts.before k d h l)) (λ k d h l. not_less _ x (s.parts.after k d h l)))
-          (kept_back (λ p. is_lt (report_cmp x p.0)) ps i (λ k d h l. not_less x _ (s.parts.before k d h l)) (λ k d h l. less_is x _ (s.parts.after k d h l)))
-
-      pub with_value-lacks : (v : V) → with_value ps x v ≡ ps
-      with_value-lacks v = sym (map_same (λ p. if eqb p.0 x then (x, v) else p) ps (λ k d l. ap (λ b. if b then (x, v) else get_or ps k d) (none k d l)))
-
-      pub without_key-lacks : without_key ps x ≡ ps
-      without_key-lacks = kept_all (λ p. not (eqb p.0 x)) ps (λ k d l. ap not (none k d l))
-
-  -- ---- from the key on
-  module _ (ps : List (ℕ × V)) (x i : ℕ) where
-    earlier : (j : ℕ) → Parts ps x i j → (k : ℕ) (d : ℕ × V) → k < i → k < length ps → not (is_lt (report_cmp (get_or ps k d).0 x)) ≡ false
-    earlier j s k d h l = ap not (less_is _ x (s.before k d h l))
-
-    -- what `&ps[i..]` is seen as
-    rest : i ≤ length ps → take (length ps - i) (drop i ps) ≡ drop i ps
-    rest l = take_all (length ps - i) (drop i ps) (omega (arith, length-drop i ps))
-
-    pub from-stands : Stands ps x i → take (length ps - i) (drop i ps) ≡ from x ps
-    from-stands s = rest (let l = s.within in omega arith) ∙ sym (kept_back (λ p. not (is_lt (report_cmp p.0 x))) ps i (earlier (i + 1) s.parts) here_on)
-      where
-        here_on : (k : ℕ) (d : ℕ × V) → i ≤ k → k < length ps → not (is_lt (report_cmp (get_or ps k d).0 x)) ≡ true
-        here_on k d h l = elim (cases_eq k i) as (λ _. not (is_lt (report_cmp (get_or ps k d).0 x)) ≡ true) [
-          | inl e ↦ ap not (not_less_same _ x (ap (λ (j : ℕ). (get_or ps j d).0) e ∙ s.same d))
-          | inr ne ↦ ap not (not_less _ x (s.parts.after k d (omega arith) l))
-        ]
-
-    pub from-lacks : Lacks ps x i → take (length ps - i) (drop i ps) ≡ from x ps
-    from-lacks s = rest s.within ∙ sym (kept_back (λ p. not (is_lt (report_cmp p.0 x))) ps i (earlier i s.parts) (λ k d h l. ap not (not_less _ x (s.parts.after k d h l))))
-
-  -- ---- what stays in order
-  pub IsInOrder-inserted : (ps : List (ℕ × V)) (x : ℕ) (v : V) → IsInOrder ps → IsInOrder (inserted ps x v)
-  IsInOrder-inserted ps x v r = Rises-append (λ p q. report_cmp p.0 q.0) (filter before ps) ((x, v) ∷ filter after ps) (Rises-filter _ before ps r)
-      ((λ q h. is_after q h), Rises-filter _ after ps r)
-      (λ p q h g. all_after p q h g)
-    where
-      before : ℕ × V → Bool
-      before p = is_lt (report_cmp p.0 x)
-
-      after : ℕ × V → Bool
-      after p = is_lt (report_cmp x p.0)
-
-      is_after : (q : ℕ × V) → Listed q (filter after ps) → report_cmp x q.0 ≡ Less
-      is_after q h = less_from _ (Listed-filter_parts after q ps h).1
-
-      is_before : (p : ℕ × V) → Listed p (filter before ps) → report_cmp p.0 x ≡ Less
-      is_before p h = less_from _ (Listed-filter_parts before p ps h).1
-
-      all_after : (p q : ℕ × V) → Listed p (filter before ps) → Listed q ((x, v) ∷ filter after ps) → report_cmp p.0 q.0 ≡ Less
-      all_after p q h (inl e) = ap (λ (z : ℕ × V). report_cmp p.0 z.0) e ∙ is_before p h
-      all_after p q h (inr g) = report_total.trans p.0 x q.0 (is_before p h) (is_after q g)
-
-  pub IsInOrder-with_value : (ps : List (ℕ × V)) (x : ℕ) (v : V) → IsInOrder ps → IsInOrder (with_value ps x v)
-  IsInOrder-with_value ps x v r = Rises-map (λ p q. report_cmp p.0 q.0) (λ p q. report_cmp p.0 q.0) (λ p. if eqb p.0 x then (x, v) else p) ps r
-      (λ p q h g e. ap₂ report_cmp (same p) (same q) ∙ e)
-    where
-      same : (p : ℕ × V) → (if eqb p.0 x then (x, v) else p).0 ≡ p.0
-      same p = by (eqb p.0 x) refl
-        where
-          by : (b : Bool) → eqb p.0 x ≡ b → (if b then (x, v) else p).0 ≡ p.0
-          by true e = sym (eqb-true p.0 x e)
-          by false e = refl
-
-  pub IsInOrder-without_key : (ps : List (ℕ × V)) (x : ℕ) → IsInOrder ps → IsInOrder (without_key ps x)
-  IsInOrder-without_key ps x r = Rises-filter _ (λ p. not (eqb p.0 x)) ps r
-
-  -- ---- the same of an equal list
-  pub stands_in : (qs ps : List (ℕ × V)) (x i : ℕ) → qs ≡ ps → Stands qs x i → Stands ps x i
-  stands_in qs ps x i e s = subst (λ ps. Stands ps x i) e s
-
-  pub lacks_in : (qs ps : List (ℕ × V)) (x i : ℕ) → qs ≡ ps → Lacks qs x i → Lacks ps x i
-  lacks_in qs ps x i e s = subst (λ ps. Lacks ps x i) e s
-
-  pub is_key-place : (ps : List (ℕ × V)) (x : ℕ) (r : Result ℕ ℕ) → IsPlace ps x r → is_ok r ≡ is_key ps x
-  is_key-place ps x (Ok i) s = sym (is_key-stands ps x i s)
-  is_key-place ps x (Err i) s = sym (is_key-lacks ps x i s)
+pub not_some : {A : Type 0} (o : Option A) → is_some o ≡ false → o ≡ None
+not_some None e = refl
+not_some (Some x) e = absurd (true≢false e)

@@ -1,2 +1,3 @@
 pub mod Pairs
-pub mod Place
+pub mod Tree
+pub mod Walks

@@ -1,6 +1,6 @@
 -- Column sets with a value each, as a list of pairs in report order.
-use Rattle.std.specs.Prelude.{if◌then◌else◌, ◌==◌, Bool, not, List, [], ◌∷◌, ◌++◌, map, Option}
-use Rattle.std.specs.List.{filter, find, list_any}
+use Rattle.std.specs.Prelude.{if◌then◌else◌, ◌==◌, ◌≢◌, Bool, not, List, ◌∷◌, ◌++◌, map, Option}
+use Rattle.std.specs.List.{filter, find, list_any, Contains, AllPairs}
 use Rattle.std.specs.Option.{option_map}
 use Rattle.std.specs.Ordering.{is_lt}
 use Rattle.col_set.specs.ColSet.{Columns, subset, report_cmp}
@@ -30,10 +30,6 @@ module _ {V : Type 0} where
   abbrev pub with_value : List (Columns × V) → Columns → V → List (Columns × V)
   with_value ps x v = map (λ p. if p.0 == x then (x, v) else p) ps
 
-  -- each key has what f makes of its value
-  abbrev pub with_values : (V → V) → List (Columns × V) → List (Columns × V)
-  with_values f ps = map (λ p. (p.0, f p.1)) ps
-
   abbrev pub without_key : List (Columns × V) → Columns → List (Columns × V)
   without_key ps x = filter (λ p. not (p.0 == x)) ps
 
@@ -44,11 +40,8 @@ module _ {V : Type 0} where
   abbrev pub not_inside : List (Columns × V) → Columns → List (Columns × V)
   not_inside ps z = filter (λ p. not (subset p.0 z)) ps
 
-  -- the pairs whose keys do not stand before x
-  abbrev pub from : Columns → List (Columns × V) → List (Columns × V)
-  from x ps = filter (λ p. not (is_lt (report_cmp p.0 x))) ps
-
-  -- the pairs, with the value v for each of these column sets that is no key
-  abbrev pub added : List (Columns × V) → List Columns → V → List (Columns × V)
-  added ps [] v = ps
-  added ps (x ∷ xs) v = added (if is_key ps x then ps else inserted ps x v) xs v
+  -- each of these pairs and no other, each key once, in any order
+  pub record AreThose (wanted ps : List (Columns × V)) : Type 0 where
+    pub every : (p : Columns × V) → Contains wanted p → Contains ps p
+    pub only : (p : Columns × V) → Contains ps p → Contains wanted p
+    pub once : AllPairs (λ p q. p.0 ≢ q.0) ps

@@ -1,9 +1,11 @@
-//! Column sets with a value each, in report order.
+//! Column sets with values, in a prefix tree.
 #![tactic(auto)]
 
-mod place;
+mod node;
+mod nodes;
 mod set_tree;
 #[cfg(test)]
 mod tests;
+mod walk;
 
 pub use set_tree::SetTree;

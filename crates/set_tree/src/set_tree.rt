@@ -1,60 +1,152 @@
-// A map from column sets to values, which is kept as a sorted list.
-ghost use Rattle.std.specs.Prelude.{◌≡◌, [], Bool, OnOk, OnErr, IfOk, IsTrue, length};
+// A map from column sets to values, which is kept as a prefix tree.
+ghost use Rattle.std.specs.Prelude.{◌≡◌, [], Bool, ℕ, List, OnOk, OnErr, IfOk};
 ghost use Rattle.std.specs.List.{find, list_any};
-ghost use Rattle.col_set.specs.ColSet.{Columns, subset, report_cmp};
-ghost use Rattle.col_set.specs.Lists.{Rises};
-ghost use Rattle.set_tree.specs.Pairs.{IsInOrder, keys, is_key, value_at, inserted, with_value, without_key, with_values, inside, not_inside, added, from};
+ghost use Rattle.col_set.specs.ColSet.{Columns, subset, all};
+ghost use Rattle.set_tree.specs.Pairs.{IsInOrder, is_key, value_at, inserted, with_value, without_key, inside, not_inside, AreThose};
+ghost use Rattle.set_tree.specs.Walks as words;
+ghost use Rattle.set_tree.specs.Walks.{joined};
 
-use crate::place::place_of;
-use col_set::ColSet;
+use crate::nodes::Nodes;
+use crate::walk::{join_entry, nearer, push_entry};
+use col_set::{ColSet, MOST_COLUMNS};
 use std::alloc::{AllocError, Global};
 use std::marker::Model;
 
 /// Column sets with a value each.
 ///
-/// Contracts see the list of pairs in report order. It is kept as that list in one piece of memory: a look-up takes the
-/// logarithm of its length, an insert or a removal moves what follows, and a scan for subsets reads the whole list.
+/// Contracts see the list of pairs in report order. It is kept as a tree of columns: the path of a column set goes over its columns,
+/// ascending, and sets that begin with the same columns share the nodes of these. A node takes four words beside the value. A path is
+/// looked up in as many steps as there are columns up to its last one, and a walk over the sets inside a small one meets few of many
+/// (compare the set tries of Savnik, 2013).
 #[derive(Drop)]
 pub struct SetTree<V: Copy> {
-    pairs: Vec<(ColSet, V)>,
+    // The value of the empty set, whose path has no column.
+    of_empty: Option<V>,
+    first: Option<u32>,
+    nodes: Nodes<V>,
 }
 
 impl<V: Copy> Model for SetTree<V> {
     ghost use Rattle.std.specs.Prelude.{List};
     ghost use Rattle.col_set.specs.ColSet.{Columns};
-    ghost use Rattle.set_tree.specs.Pairs.{IsInOrder};
+    ghost use Rattle.col_set.specs.declared.col_set.TheConstants.{MOST_COLUMNS};
+    ghost use Rattle.set_tree.specs.Tree.{IsTree};
+    ghost use Rattle.set_tree.specs.Walks.{listed, values, read};
 
     ghost Value = { List (Columns × V) };
 
-    ghost view = { λ t. t.pairs.items };
+    ghost view = { λ t. listed (values t.of_empty (read MOST_COLUMNS t.nodes.list.items t.first)) };
 
-    ghost invariant = { λ t. IsInOrder t.pairs.items };
+    ghost invariant = { λ t. IsTree t.nodes.list.items t.nodes.unused.items t.first 0 (read MOST_COLUMNS t.nodes.list.items t.first) };
 }
 
 impl<V: Copy> SetTree<V> {
-    /// No column sets.
+    /// No column sets. It takes no memory.
     pub fn new(alloc: Global) -> SetTree<V>
         ensures { result ≡ [] }
     {
         SetTree {
-            pairs: Vec::new(alloc),
+            of_empty: None,
+            first: None,
+            nodes: Nodes::new(alloc),
         }
     }
 
-    /// The tree of these pairs, which takes no memory.
-    pub fn of_list(pairs: Vec<(ColSet, V)>) -> SetTree<V>
-        requires { IsInOrder pairs.items }
-        ensures { result ≡ pairs.items }
+    /// Gives x this value, in place of the one that it has. After want of memory the tree is as before.
+    ///
+    /// It takes as many nodes as x has columns at most, first those of column sets that were taken out.
+    pub fn insert(&mut self, x: ColSet, v: V) -> Result<(), AllocError>
+        ensures pairs { OnOk result (self.new ≡ inserted self.old x v) }
+        ensures refused { OnErr result (self.new ≡ self.old) }
     {
-        SetTree { pairs }
+        match x.first() {
+            Some(column) => {
+                self.nodes.reserve(x.len() as usize)?;
+                let first = self.nodes.insert(self.first, column, x.without(column), v)?;
+                self.first = Some(first);
+            }
+            None => self.of_empty = Some(v),
+        }
+        Ok(())
     }
 
-    /// The pairs in report order, which takes no memory.
-    pub fn into_list(self) -> Vec<(ColSet, V)>
-        ensures pairs { result.items ≡ self }
-        ensures order { IsInOrder self }
+    /// Gives x this value if it is there, and answers whether it is. It takes no memory.
+    pub fn set(&mut self, x: ColSet, v: V) -> bool
+        ensures found { result ≡ is_key self.old x }
+        ensures pairs { self.new ≡ with_value self.old x v }
     {
-        self.pairs
+        if x == ColSet::empty() {
+            if self.of_empty.is_none() {
+                return false;
+            }
+            self.of_empty = Some(v);
+            return true;
+        }
+        self.nodes.replace(self.first, x, v)
+    }
+
+    /// The value of x. It takes no memory.
+    pub fn get(&self, x: ColSet) -> Option<V>
+        ensures { result ≡ value_at self.now x }
+    {
+        if x == ColSet::empty() {
+            return self.of_empty;
+        }
+        self.nodes.value(self.first, x)
+    }
+
+    /// Whether x is there. It takes no memory.
+    pub fn has(&self, x: ColSet) -> bool
+        ensures { result ≡ is_key self.now x }
+    {
+        self.get(x).is_some()
+    }
+
+    /// Takes x out, and answers whether it was there. It takes no memory; the nodes of x alone are used again.
+    pub fn remove(&mut self, x: ColSet) -> bool
+        ensures found { result ≡ is_key self.old x }
+        ensures pairs { self.new ≡ without_key self.old x }
+    {
+        let found = self.has(x);
+        match x.first() {
+            Some(column) => {
+                self.first = self.nodes.remove(self.first, column, x.without(column));
+            }
+            None => self.of_empty = None,
+        }
+        found
+    }
+
+    /// Whether a column set of the tree lies inside x. It takes no memory, and stops at the first that it meets.
+    pub fn any_subset_of(&self, x: ColSet) -> bool
+        ensures { result ≡ list_any (λ p. subset p.0 x) self.now }
+    {
+        self.of_empty.is_some() || self.nodes.any_inside(self.first, x)
+    }
+
+    /// What `join` makes of the column sets that lie inside x and their values, one after another, each once, in the order of a
+    /// walk. It takes no memory, and enters only nodes whose columns x has.
+    pub fn fold_subsets_of<A, F: Fn(A, ColSet, V) -> A>(&self, x: ColSet, start: A, join: F) -> A
+        requires { F.IsAlwaysCallable join }
+        ensures whole { inside self.now (all MOST_COLUMNS) ≡ self.now }
+        ensures order { IsInOrder self.now }
+        ensures joined { (f : A → Columns × V → A) → ((a : A) (y : Columns) (v : V) (b : A) → F.post join a y v b → b ≡ f a (y, v)) → (ps : List (Columns × V)) × AreThose (inside self.now x) ps × (result ≡ joined f start ps) }
+    {
+        let own = join_entry(start, ColSet::empty(), self.of_empty, &join);
+        self.nodes
+            .fold_inside(self.first, ColSet::empty(), x, own, &join)
+    }
+
+    /// The first pair in report order that meets the test. It takes no memory, and a step a node.
+    pub fn first<F: Fn(ColSet, V) -> bool>(&self, test: F) -> Option<(ColSet, V)>
+        requires { F.IsAlwaysCallable test }
+        ensures { (p : Columns × V → Bool) → ((x : Columns) (v : V) (b : Bool) → F.post test x v b → b ≡ p (x, v)) → result ≡ find p self.now }
+    {
+        let join = |best: Option<(ColSet, V)>, set: ColSet, value: V| -> Option<(ColSet, V)>
+            requires { F.IsAlwaysCallable test }
+            ensures { (p : Columns × V → Bool) → ((x : Columns) (v : V) (b : Bool) → F.post test x v b → b ≡ p (x, v)) → result ≡ words.nearer p best (set, value) }
+        { nearer(best, set, value, &test) };
+        self.fold_subsets_of(ColSet::all(MOST_COLUMNS), None, join)
     }
 
     /// The pairs in report order.
@@ -62,122 +154,21 @@ impl<V: Copy> SetTree<V> {
         ensures pairs { IfOk result (λ list. list.items ≡ self.now) }
         ensures order { IsInOrder self.now }
     {
-        let mut list = Vec::with_capacity(alloc, self.pairs.len())?;
-        list.extend_from_slice(self.pairs.as_slice())?;
-        Ok(list)
+        self.subsets_of(alloc, ColSet::all(MOST_COLUMNS))
     }
 
-    /// How many column sets there are.
-    pub fn len(&self) -> usize
-        ensures len { result ≡ length self.now }
+    /// The pairs whose column sets lie inside z, in report order.
+    pub fn subsets_of(&self, alloc: Global, z: ColSet) -> Result<Vec<(ColSet, V)>, AllocError>
+        ensures pairs { IfOk result (λ found. found.items ≡ inside self.now z) }
+        ensures whole { inside self.now (all MOST_COLUMNS) ≡ self.now }
         ensures order { IsInOrder self.now }
     {
-        self.pairs.len()
-    }
-
-    /// Whether these are the column sets of the tree, in report order. It takes a step a set, and no memory.
-    pub fn has_keys(&self, sets: &[ColSet]) -> bool
-        ensures same { IsTrue result → keys self.now ≡ sets.now }
-        ensures other { keys self.now ≡ sets.now → IsTrue result }
-        ensures order { IsInOrder self.now }
-    {
-        if self.pairs.len() != sets.len() {
-            return false;
-        }
-        for place in 0..sets.len() {
-            if self.pairs[place].0 != sets[place] {
-                return false;
-            }
-        }
-        true
-    }
-
-    /// Gives x this value, in place of the one that it has. After want of memory the tree is as before.
-    pub fn insert(&mut self, x: ColSet, v: V) -> Result<(), AllocError>
-        ensures pairs { OnOk result (self.new ≡ inserted self.old x v) }
-        ensures refused { OnErr result (self.new ≡ self.old) }
-    {
-        match place_of(self.pairs.as_slice(), x) {
-            Ok(place) => self.pairs[place] = (x, v),
-            Err(place) => self.pairs.insert(place, (x, v))?,
-        }
-        Ok(())
-    }
-
-    /// Gives each of these column sets that is not there the value, and leaves the others as they are.
-    ///
-    /// They stand in report order, so that one pass over the tree serves for all. After want of memory the tree is as before.
-    pub fn add_all(&mut self, alloc: Global, sets: &[ColSet], v: V) -> Result<(), AllocError>
-        requires { Rises report_cmp sets.now }
-        ensures pairs { OnOk result (self.new ≡ added self.old sets.now v) }
-        ensures refused { OnErr result (self.new ≡ self.old) }
-    {
-        self.pairs = merged(alloc, self.pairs.as_slice(), sets, v)?;
-        Ok(())
-    }
-
-    /// Gives x this value if it is there, and answers whether it is.
-    pub fn set(&mut self, x: ColSet, v: V) -> bool
-        ensures found { result ≡ is_key self.old x }
-        ensures pairs { self.new ≡ with_value self.old x v }
-    {
-        match place_of(self.pairs.as_slice(), x) {
-            Ok(place) => {
-                self.pairs[place] = (x, v);
-                true
-            }
-            Err(_) => false,
-        }
-    }
-
-    /// Gives each column set what `change` makes of its value. It takes a step a set, and no memory.
-    pub fn map_values<F: Fn(V) -> V>(&mut self, change: F)
-        requires { F.IsAlwaysCallable change }
-        ensures { (f : V → V) → ((v w : V) → F.post change v w → w ≡ f v) → self.new ≡ with_values f self.old }
-    {
-        for place in 0..self.pairs.len() {
-            let (x, v) = self.pairs[place];
-            self.pairs[place] = (x, change(v));
-        }
-    }
-
-    /// The value of x.
-    pub fn get(&self, x: ColSet) -> Option<V>
-        ensures value { result ≡ value_at self.now x }
-        ensures order { IsInOrder self.now }
-    {
-        match place_of(self.pairs.as_slice(), x) {
-            Ok(place) => Some(self.pairs[place].1),
-            Err(_) => None,
-        }
-    }
-
-    /// Whether x is there.
-    pub fn has(&self, x: ColSet) -> bool
-        ensures { result ≡ is_key self.now x }
-    {
-        place_of(self.pairs.as_slice(), x).is_ok()
-    }
-
-    /// Takes x out, and answers whether it was there.
-    pub fn remove(&mut self, x: ColSet) -> bool
-        ensures found { result ≡ is_key self.old x }
-        ensures pairs { self.new ≡ without_key self.old x }
-    {
-        match place_of(self.pairs.as_slice(), x) {
-            Ok(place) => {
-                self.pairs.remove(place);
-                true
-            }
-            Err(_) => false,
-        }
-    }
-
-    /// Whether a column set of the tree lies inside x.
-    pub fn any_subset_of(&self, x: ColSet) -> bool
-        ensures { result ≡ list_any (λ p. subset p.0 x) self.now }
-    {
-        self.pairs.iter().any(|pair| pair.0.subset_of(x))
+        let mut found = Vec::new(alloc);
+        push_entry(&mut found, ColSet::empty(), self.of_empty)?;
+        self.nodes
+            .push_inside(self.first, ColSet::empty(), z, &mut found)?;
+        found.sort_unstable_by_key(|pair| pair.0);
+        Ok(found)
     }
 
     /// Takes out the column sets that lie inside z, and answers them with their values in report order.
@@ -191,95 +182,10 @@ impl<V: Copy> SetTree<V> {
         ensures left { OnOk result (self.new ≡ not_inside self.old z) }
         ensures refused { OnErr result (self.new ≡ self.old) }
     {
-        let taken = subsets_of(alloc, self.pairs.as_slice(), z)?;
-        self.pairs.retain(|pair| !pair.0.subset_of(z));
+        let taken = self.subsets_of(alloc, z)?;
+        for pair in taken.as_slice() {
+            self.remove(pair.0);
+        }
         Ok(taken)
     }
-
-    /// The first pair in report order that meets the test.
-    pub fn first<F: Fn(ColSet, V) -> bool>(&self, test: F) -> Option<(ColSet, V)>
-        requires { F.IsAlwaysCallable test }
-        ensures { (p : Columns × V → Bool) → ((x : Columns) (v : V) (b : Bool) → F.post test x v b → b ≡ p (x, v)) → result ≡ find p self.now }
-    {
-        first_in(self.pairs.as_slice(), test)
-    }
-
-    /// The first pair in report order, from x on, that meets the test.
-    ///
-    /// It looks up where x stands or would stand, and takes a step a pair from there.
-    pub fn first_from<F: Fn(ColSet, V) -> bool>(&self, x: ColSet, test: F) -> Option<(ColSet, V)>
-        requires { F.IsAlwaysCallable test }
-        ensures found { (p : Columns × V → Bool) → ((x : Columns) (v : V) (b : Bool) → F.post test x v b → b ≡ p (x, v)) → result ≡ find p (from x self.now) }
-        ensures order { IsInOrder self.now }
-    {
-        let place = match place_of(self.pairs.as_slice(), x) {
-            Ok(place) => place,
-            Err(place) => place,
-        };
-        first_in(&self.pairs[place..], test)
-    }
-}
-
-// The first of these pairs that meets the test.
-fn first_in<V: Copy, F: Fn(ColSet, V) -> bool>(
-    pairs: &[(ColSet, V)],
-    test: F,
-) -> Option<(ColSet, V)>
-    requires { F.IsAlwaysCallable test }
-    ensures { (p : Columns × V → Bool) → ((x : Columns) (v : V) (b : Bool) → F.post test x v b → b ≡ p (x, v)) → result ≡ find p pairs.now }
-{
-    for pair in pairs {
-        if test(pair.0, pair.1) {
-            return Some(*pair);
-        }
-    }
-    None
-}
-
-// These pairs and those of the column sets that are no keys among them, in report order.
-fn merged<V: Copy>(
-    alloc: Global,
-    pairs: &[(ColSet, V)],
-    sets: &[ColSet],
-    v: V,
-) -> Result<Vec<(ColSet, V)>, AllocError>
-    requires pairs { IsInOrder pairs.now }
-    requires sets { Rises report_cmp sets.now }
-    ensures { IfOk result (λ made. made.items ≡ added pairs.now sets.now v) }
-{
-    let mut made = Vec::new(alloc);
-    made.reserve(pairs.len())?;
-    let mut rest = pairs;
-    for x in sets {
-        match place_of(rest, *x) {
-            Ok(place) => {
-                made.extend_from_slice(&rest[..place])?;
-                rest = &rest[place..];
-            }
-            Err(place) => {
-                made.extend_from_slice(&rest[..place])?;
-                made.push((*x, v))?;
-                rest = &rest[place..];
-            }
-        }
-    }
-    made.extend_from_slice(rest)?;
-    Ok(made)
-}
-
-// The pairs whose column sets lie inside z.
-fn subsets_of<V: Copy>(
-    alloc: Global,
-    pairs: &[(ColSet, V)],
-    z: ColSet,
-) -> Result<Vec<(ColSet, V)>, AllocError>
-    ensures { IfOk result (λ taken. taken.items ≡ inside pairs.now z) }
-{
-    let mut taken = Vec::new(alloc);
-    for pair in pairs {
-        if pair.0.subset_of(z) {
-            taken.push(*pair)?;
-        }
-    }
-    Ok(taken)
 }

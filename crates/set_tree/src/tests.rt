@@ -1,47 +1,83 @@
 use crate::SetTree;
-use col_set::ColSet;
+use col_set::{ColSet, MOST_COLUMNS};
+use std::alloc::{AllocError, Global};
 use std::test::Fail;
+
+fn set(columns: &[u8]) -> ColSet {
+    columns.iter().fold(
+        ColSet::empty(),
+        |set, column| set.with(*column % MOST_COLUMNS),
+    )
+}
+
+// The column sets that are tried, with the numbers that are their values.
+const SETS: &[&[u8]] = &[
+    &[1, 2],
+    &[3],
+    &[1],
+    &[],
+    &[0, 1, 2, 127],
+    &[0, 2],
+    &[127],
+    &[2, 3, 126],
+];
+
+fn tree(alloc: Global) -> Result<SetTree<u32>, AllocError> {
+    let mut tree = SetTree::new(alloc);
+    for (value, columns) in (0u32..).zip(SETS) {
+        tree.insert(set(columns), value)?;
+    }
+    Ok(tree)
+}
+
+#[test]
+fn column_sets_are_listed_in_report_order(rt: HostRuntime) -> Result<(), Fail> {
+    let list = tree(rt.alloc())?.list(rt.alloc())?;
+    let values = [3, 2, 1, 6, 5, 0, 7, 4];
+    assert!(rt; list.len() == values.len());
+    for (pair, value) in list.iter().zip(&values) {
+        assert!(rt; pair.1 == *value && SETS.get(pair.1 as usize).is_some());
+    }
+    Ok(())
+}
 
 #[test]
 fn subsets_are_taken_in_report_order(rt: HostRuntime) -> Result<(), Fail> {
-    let alloc = rt.alloc();
-    let one = ColSet::empty().with(0);
-    let both = one.with(1);
-    let third = ColSet::empty().with(2);
-    let mut tree = SetTree::new(alloc);
-    for (set, value) in [(both, 5u32), (third, 6), (one, 7)] {
-        tree.insert(set, value)?;
-    }
-    assert!(rt; tree.len() == 3);
-    assert!(rt; tree.has_keys(&[one, third, both]) && !tree.has_keys(&[one, third]));
-    assert!(rt; !tree.has_keys(&[one, both, third]));
-    assert!(rt; tree.list(alloc)?.as_slice() == [(one, 7), (third, 6), (both, 5)].as_slice());
-    assert!(rt; tree.first(|set, value| set.len() == 2 || value == 6) == Some((third, 6)));
-    assert!(rt; tree.first(|_, value| value == 8) == None);
-    assert!(rt; tree.first_from(third, |_, _| true) == Some((third, 6)));
-    assert!(rt; tree.first_from(third, |_, value| value != 6) == Some((both, 5)));
-    assert!(rt; tree.first_from(one.with(2), |_, _| true) == None);
-    assert!(rt; tree.any_subset_of(both));
-    let taken = tree.take_subsets_of(alloc, both)?;
-    assert!(rt; taken.as_slice() == [(one, 7), (both, 5)].as_slice());
-    assert!(rt; tree.into_list().as_slice() == [(third, 6)].as_slice());
+    let mut tree = tree(rt.alloc())?;
+    let taken = tree.take_subsets_of(rt.alloc(), set(&[1, 2, 3]))?;
+    let wanted = [
+        (set(&[]), 3),
+        (set(&[1]), 2),
+        (set(&[3]), 1),
+        (set(&[1, 2]), 0),
+    ];
+    assert!(rt; taken.as_slice() == wanted.as_slice());
+    assert!(rt; !tree.any_subset_of(set(&[1, 2, 3])) && tree.any_subset_of(set(&[0, 2])));
+    assert!(rt; tree.list(rt.alloc())?.len() == 4);
     Ok(())
 }
 
 #[test]
 fn values_are_replaced_and_removed(rt: HostRuntime) -> Result<(), Fail> {
-    let one = ColSet::empty().with(0);
-    let third = ColSet::empty().with(2);
-    let mut tree = SetTree::new(rt.alloc());
-    tree.insert(third, 1u32)?;
-    tree.insert(third, 2)?;
-    assert!(rt; tree.len() == 1 && tree.get(third) == Some(2));
-    assert!(rt; tree.set(third, 3) && !tree.set(one, 4));
-    assert!(rt; tree.get(third) == Some(3) && tree.get(one) == None);
-    tree.map_values(|value| value.wrapping_add(1));
-    assert!(rt; tree.get(third) == Some(4) && tree.len() == 1);
-    assert!(rt; tree.has(third) && !tree.has(one));
-    assert!(rt; !tree.any_subset_of(one));
-    assert!(rt; !tree.remove(one) && tree.remove(third) && tree.len() == 0);
+    let mut tree = tree(rt.alloc())?;
+    tree.insert(set(&[3]), 9)?;
+    assert!(rt; tree.get(set(&[3])) == Some(9) && tree.get(set(&[0])) == None);
+    assert!(rt; tree.set(set(&[0, 2]), 8) && !tree.set(set(&[0, 1]), 7));
+    assert!(rt; tree.get(set(&[0, 2])) == Some(8) && tree.has(set(&[127])));
+    assert!(rt; tree.remove(set(&[0, 1, 2, 127])) && !tree.remove(set(&[0, 1])));
+    assert!(rt; tree.remove(set(&[])) && !tree.has(set(&[])));
+    tree.insert(set(&[0, 1]), 6)?;
+    assert!(rt; tree.get(set(&[0, 1])) == Some(6) && tree.get(set(&[0, 2])) == Some(8));
+    Ok(())
+}
+
+#[test]
+fn what_lies_inside_is_joined(rt: HostRuntime) -> Result<(), Fail> {
+    let tree = tree(rt.alloc())?;
+    let join = |all: ColSet, x: ColSet, value: u32| all
+        .union(x)
+        .with((value % 8) as u8 % MOST_COLUMNS);
+    let found = tree.fold_subsets_of(set(&[2, 3, 126]), ColSet::empty(), join);
+    assert!(rt; found == set(&[1, 2, 3, 7, 126]));
     Ok(())
 }

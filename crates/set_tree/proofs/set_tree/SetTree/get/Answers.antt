@@ -1,12 +1,15 @@
-use Rattle.std.proofs.Common.{◌∙◌, sym, ap, Some}
+use Rattle.std.proofs.Common.{◌∙◌, sym, ap}
+use Rattle.std.proofs.lemmas.Bool.{eqb-true, eqb-false}
+use Rattle.col_set.specs.declared.col_set.TheConstants.{MOST_COLUMNS}
 use Rattle.set_tree.specs.Pairs.{value_at}
-use Rattle.set_tree.proofs.Places.{value_at-stands, value_at-lacks, stands_in, lacks_in}
+use Rattle.set_tree.specs.Walks.{values, read}
+use Rattle.set_tree.proofs.Spots.{tree_reads}
+use Rattle.set_tree.proofs.Listing.{value_listed}
+use Rattle.set_tree.proofs.Whole.{values_here, values_path, values_narrow}
 use Rattle.set_tree.proofs.set_tree.SetTree.get.Goals as goal
 
-pub returns-in-Ok-clause-value : goal.returns-in-Ok-clause-value
-returns-in-Ok-clause-value g c = let s = stands_in _ _ c.args.x c.in-Ok.place c.as_slice.ensures.value c.in-Ok.ensures in
-    ap (λ p. Some p.1) c.index.ensures ∙ sym (value_at-stands c.self.inside.pairs.items c.args.x c.in-Ok.place s c.index.result.now) ∙ ap (λ ps. value_at ps c.args.x) c.self.view_is
+pub returns-then-eq : goal.returns-then-eq
+returns-then-eq g c = sym (values_here c.self.inside.of_empty (read MOST_COLUMNS c.self.inside.nodes.list.items c.self.inside.first) c.args.x (eqb-true _ _ (sym c.eq.ensures ∙ c.if-eq.true) ∙ c.empty.ensures)) ∙ sym (value_listed (values c.self.inside.of_empty (read MOST_COLUMNS c.self.inside.nodes.list.items c.self.inside.first)) (values_narrow c.self.inside.of_empty (read MOST_COLUMNS c.self.inside.nodes.list.items c.self.inside.first) c.self.invariant.ascends) c.args.x) ∙ ap (λ ps. value_at ps c.args.x) c.self.view_is
 
-pub returns-in-Err-clause-value : goal.returns-in-Err-clause-value
-returns-in-Err-clause-value g c = let s = lacks_in _ _ c.args.x c.in-Err.field-0 c.as_slice.ensures.value c.in-Err.ensures in
-    sym (value_at-lacks c.self.inside.pairs.items c.args.x c.in-Err.field-0 s) ∙ ap (λ ps. value_at ps c.args.x) c.self.view_is
+pub returns : goal.returns
+returns g c = c.value.ensures 0 (read MOST_COLUMNS c.self.inside.nodes.list.items c.self.inside.first) (tree_reads c.self.inside.nodes.list.items c.self.inside.nodes.unused.items c.self.inside.first 0 (read MOST_COLUMNS c.self.inside.nodes.list.items c.self.inside.first) c.self.invariant) ∙ sym (values_path c.self.inside.of_empty (read MOST_COLUMNS c.self.inside.nodes.list.items c.self.inside.first) c.args.x (λ e. eqb-false _ _ (sym c.eq.ensures ∙ c.if-eq.false) (e ∙ sym c.empty.ensures))) ∙ sym (value_listed (values c.self.inside.of_empty (read MOST_COLUMNS c.self.inside.nodes.list.items c.self.inside.first)) (values_narrow c.self.inside.of_empty (read MOST_COLUMNS c.self.inside.nodes.list.items c.self.inside.first) c.self.invariant.ascends) c.args.x) ∙ ap (λ ps. value_at ps c.args.x) c.self.view_is
