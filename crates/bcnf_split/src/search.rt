@@ -3,12 +3,14 @@ ghost use Rattle.std.specs.Prelude.{◌≡◌, ◌<◌, ◌↔◌, ◌&&◌, tru
 ghost use Rattle.std.specs.List.{Contains};
 ghost use Rattle.col_set.specs.ColSet.{Columns, IsSubset, has, subset, report_cmp};
 ghost use Rattle.std.specs.declared.cmp.Ordering.TheVariants.{Less};
+ghost use Rattle.fd_closure.specs.Closure.{IsInOrder, Tells};
 ghost use Rattle.rel_base.specs.RowState.{RowState};
 ghost use Rattle.bcnf_split.specs.Bcnf.{IsBcnf, IsTableOf, violates, first_violation};
 ghost use Rattle.bcnf_split.specs.Search.{IsParting, IsViolation, IsFoundBy};
 
 use crate::dependents::parting_by;
 use crate::parted::Parting;
+use fd_closure::LeftSides;
 use rel_base::{ColSet, Covers, Fd, MOST_COLUMNS};
 
 /// The first column set in report order that determines, inside the table s, some column outside itself and not all of s. There is
@@ -21,11 +23,16 @@ pub fn violation(covers: &Covers, s: ColSet) -> Option<ColSet>
     ensures first { (r : RowState) → IsTableOf covers.now r s → result ≡ first_violation r s }
     ensures none { (r : RowState) → IsTableOf covers.now r s → IsNone result ↔ IsBcnf r s }
 {
-    first_parting(covers, s).map(|parting| parting.left)
+    first_parting(covers, None, s).map(|parting| parting.left)
 }
 
-// The first violation in report order, with what it determines in s.
-pub(crate) fn first_parting(covers: &Covers, s: ColSet) -> Option<Parting>
+// The first violation in report order, with what it determines in s. Closures go by the index where there is one.
+pub(crate) fn first_parting(
+    covers: &Covers,
+    index: Option<&LeftSides>,
+    s: ColSet,
+) -> Option<Parting>
+    requires { IfSome index (λ sides. IsInOrder covers.now.fds → Tells covers.now.fds sides.now) }
     ensures smaller { IfSome result (IsParting s) }
     ensures told { (r : RowState) → IsTableOf covers.now r s → IfSome result (IsViolation r s) }
     ensures first { (r : RowState) → IsTableOf covers.now r s → (x : Columns) → first_violation r s ≡ Some x → IsFoundBy x result }
@@ -34,7 +41,7 @@ pub(crate) fn first_parting(covers: &Covers, s: ColSet) -> Option<Parting>
     let mut first = None;
     for fd in fds {
         if is_ahead(covers, fd, s, &first) {
-            if let Some(parting) = parting_by(covers, fd.left, s) {
+            if let Some(parting) = parting_by(covers, index, fd.left, s) {
                 first = Some(parting);
             }
         }

@@ -6,3 +6,4 @@ pub mod Telling
 pub mod Sizes
 pub mod Grouping
 pub mod Reaching
+pub mod Siding

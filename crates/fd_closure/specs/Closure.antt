@@ -2,7 +2,7 @@
 use Rattle.std.specs.Prelude.{◌≡◌, ◌<◌, ℕ, ◌==◌, nat_lt, nat_le, Bool, ◌&&◌, ◌||◌, List, map}
 use Rattle.std.specs.List.{filter, list_any, All, AllPairs}
 use Rattle.std.specs.declared.cmp.Ordering.TheVariants.{Less}
-use Rattle.col_set.specs.ColSet.{Columns, subset, size, union, set_of}
+use Rattle.col_set.specs.ColSet.{Columns, has, subset, size, union, set_of}
 use Rattle.col_set.specs.declared.col_set.TheConstants.{MOST_COLUMNS}
 use Rattle.rel_base.specs.declared.dependency.Fd.{Fd}
 use Rattle.rel_base.specs.Laws.{fd_cmp}
@@ -27,3 +27,11 @@ is_before a fd = nat_lt fd.right a
 -- the same, or it is one of that column with at most so many columns on the left
 abbrev pub is_short : ℕ → ℕ → Fd → Bool
 is_short a most fd = nat_lt fd.right a || ((fd.right == a) && nat_le (size fd.left) most)
+
+-- whether a column is one of those that stand beside a left side inside X
+unfoldable pub has_right_inside : List (Columns × Columns) → Columns → ℕ → Bool
+has_right_inside sides x a = list_any (λ p. subset p.0 x && has p.1 a) sides
+
+-- left sides, each with columns beside it, tell of every set what dependencies tell
+abbrev pub Tells : List Fd → List (Columns × Columns) → Type 0
+Tells fds sides = (x : Columns) (a : ℕ) → has_right_inside sides x a ≡ has_left_inside fds x a

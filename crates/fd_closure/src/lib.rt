@@ -3,8 +3,10 @@
 
 mod group;
 pub mod laws;
+mod left_sides;
 mod reach;
 #[cfg(test)]
 mod tests;
 
+pub use left_sides::LeftSides;
 pub use reach::{closure, determines, shrink_key};

@@ -1,4 +1,4 @@
-use crate::{closure, determines, shrink_key};
+use crate::{LeftSides, closure, determines, shrink_key};
 use rel_base::{ColSet, Covers, Fd, MOST_COLUMNS};
 use std::alloc::{AllocError, Global};
 use std::test::Fail;
@@ -52,5 +52,27 @@ fn left_sides_of_several_columns(rt: HostRuntime) -> Result<(), Fail> {
     assert!(rt; closure(&covers, set(&[1, 2, 127])) == set(&[0, 1, 2, 3, 127]));
     assert!(rt; closure(&covers, set(&[1, 3])) == set(&[1, 3]));
     assert!(rt; shrink_key(&covers, set(&[0, 1, 127])) == set(&[0, 1]));
+    Ok(())
+}
+
+#[test]
+fn left_sides_tell_what_their_covers_tell(rt: HostRuntime) -> Result<(), Fail> {
+    let covers = covers(
+        rt.alloc(),
+        &[
+            (&[1, 127], 0),
+            (&[2], 3),
+            (&[0, 1], 4),
+            (&[2], 127),
+            (&[], 9),
+        ],
+    )?;
+    let sides = LeftSides::of(rt.alloc(), &covers)?;
+    assert!(rt; sides.closure(set(&[1, 2])) == set(&[1, 2, 3, 9, 127]));
+    assert!(rt; sides.closure(set(&[1, 2, 127])) == set(&[0, 1, 2, 3, 9, 127]));
+    assert!(rt;
+        sides.determines(set(&[2]), set(&[3, 9])) && !sides.determines(set(&[1]), set(&[0]))
+    );
+    assert!(rt; sides.shrink_key(set(&[2, 3, 9])) == set(&[2]));
     Ok(())
 }

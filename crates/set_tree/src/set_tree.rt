@@ -87,7 +87,8 @@ impl<V: Copy> SetTree<V> {
 
     /// The value of x. It takes no memory.
     pub fn get(&self, x: ColSet) -> Option<V>
-        ensures { result ≡ value_at self.now x }
+        ensures value { result ≡ value_at self.now x }
+        ensures order { IsInOrder self.now }
     {
         if x == ColSet::empty() {
             return self.of_empty;
