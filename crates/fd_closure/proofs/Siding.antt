@@ -1,21 +1,21 @@
 -- Left sides with the columns beside them: what they tell, and one dependency more.
-use Rattle.std.proofs.Common.{inl, inr, ◌≡◌, ◌⊎◌, ℕ, ◌<◌, ◌==◌, true, false, not, ◌&&◌, ◌||◌, Bool, cond, eqb, refl, sym, ap, ap₂, ◌∙◌, subst, arith, List, [], ◌∷◌, ◌++◌, map, take, length, get_or, Option, Some, None, Ordering, Less, Equal, Greater}
-use Rattle.std.specs.List.{filter, find, list_any, Contains}
+use Rattle.std.proofs.Common.{inl, inr, ◌≡◌, ◌⊎◌, ℕ, ◌==◌, true, false, ◌&&◌, ◌||◌, Bool, eqb, refl, sym, ap, ◌∙◌, subst, List, [], ◌∷◌, ◌++◌, Option, Some, None, Ordering, Less, Equal, Greater}
+use Rattle.std.specs.List.{filter, find, list_any}
 use Rattle.std.specs.Option.{option_map}
 use Rattle.std.specs.Ordering.{is_lt, ordering_reverse}
 use Rattle.std.proofs.lemmas.Option.{none-some}
-use Rattle.std.proofs.lemmas.Bool.{true≢false, and_parts, and_from, or_cases, or_left, or_right, eqb-true, eq-eqb, ne_eqb, false_from_ne_true}
+use Rattle.std.proofs.lemmas.Bool.{true≢false, and_parts, and_from, or_cases, or_left, or_right, eqb-true, eq-eqb}
 use Rattle.col_set.specs.ColSet.{IsSubset, has, with, union, subset, empty, report_cmp}
 use Rattle.col_set.specs.Members.{has-union, has-with, has-empty, same_set}
 use Rattle.col_set.specs.Columns.{report_total}
 use Rattle.col_set.specs.AllSets.{report_cmp-same}
-use Rattle.col_set.specs.Lists.{Listed, Rises, Listed-filter, Listed-filter_parts, Listed-append_left, Listed-append_right, Listed-append_cases, list_any_at, list_any_which}
+use Rattle.col_set.specs.Lists.{Listed, Listed-filter, Listed-filter_parts, Listed-append_left, Listed-append_right, Listed-append_cases, list_any_at, list_any_which}
 use Rattle.col_set.specs.Subsets.{same_test}
 use Rattle.col_set.proofs.Places.{Contains-listed, Listed-contained}
 use Rattle.rel_base.specs.declared.dependency.Fd.{Fd}
 use Rattle.set_tree.specs.Pairs.{IsInOrder as Ordered, value_at, inserted, inside, AreThose}
 use Rattle.set_tree.specs.Walks.{joined}
-use Rattle.set_tree.proofs.Listing.{find_some, find_none, less_from, less_not_same}
+use Rattle.set_tree.proofs.Listing.{find_some, find_none, less_not_same}
 use Rattle.set_tree.proofs.Growing.{some-injective}
 use Rattle.fd_closure.specs.Closure.{closure_of, has_left_inside, has_right_inside, Tells}
 use Rattle.fd_closure.proofs.Closing.{has-closure_of}

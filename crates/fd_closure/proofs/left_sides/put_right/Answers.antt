@@ -1,5 +1,4 @@
-use Rattle.std.proofs.Common.{◌≡◌, ◌∙◌, sym, ap, subst, ℕ, Some, None}
-use Rattle.col_set.specs.ColSet.{with}
+use Rattle.std.proofs.Common.{◌∙◌, sym, ap, subst}
 use Rattle.set_tree.specs.Pairs.{inserted}
 use Rattle.set_tree.proofs.Paths.{on_done}
 use Rattle.fd_closure.proofs.Siding.{Beside, beside_found, beside_none, tells_more}

@@ -1,6 +1,5 @@
-use Rattle.std.proofs.Common.{◌∙◌, sym, ap, subst, List}
+use Rattle.std.proofs.Common.{◌∙◌, sym, subst}
 use Rattle.col_set.specs.ColSet.{IsSubset, union}
-use Rattle.set_tree.specs.Pairs.{inside, AreThose}
 use Rattle.fd_closure.specs.Closure.{Tells}
 use Rattle.fd_closure.proofs.Siding.{joined_own, joined_told}
 use Rattle.fd_closure.proofs.left_sides.LeftSides.closure.Goals as goal
