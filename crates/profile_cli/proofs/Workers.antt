@@ -28,7 +28,7 @@ use Rattle.clap.specs.declared.error.kind.ErrorKind.TheVariants as kind
 use Rattle.clap.proofs.CallerReads.{signed_reads}
 use Rattle.clap.proofs.ValueTestLemmas.{accepts-Accepts}
 use Rattle.profile_cli.specs.declared.request.Request.{Request}
-use Rattle.profile_cli.specs.Request.{options_of}
+use Rattle.profile_cli.specs.Task.{task_of}
 use Rattle.profile_cli.specs.Words.{the_app}
 use Rattle.profile_cli.specs.Command.{command, number_or, profile_request, request_of, session_request, workers_of}
 
@@ -415,12 +415,12 @@ below_good words q none is =
     entered_good b stop q fit_subs is m.0
 
 -- what a command asks for is 1 to 16 workers
-pub workers-range : (words : List Text) (request : Request) → command words ≡ Some request → (1 ≤ (options_of request).workers) × ((options_of request).workers ≤ 16)
-unfolding command
+pub workers-range : (words : List Text) (request : Request) → command words ≡ Some request → (1 ≤ (task_of request).workers) × ((task_of request).workers ≤ 16)
+unfolding command task_of
 workers-range words request is = kinds (fault_of the_app words) refl is
   where
     InRange : Request → Type 0
-    InRange r = (1 ≤ (options_of r).workers) × ((options_of r).workers ≤ 16)
+    InRange r = (1 ≤ (task_of r).workers) × ((task_of r).workers ≤ 16)
 
     named : (q : Text × List Row) (b c : Bool) → Good q.1 → cond b (Some (profile_request q.1)) (cond c (Some (session_request q.1)) None) ≡ Some request → InRange request
     named q true c good e =

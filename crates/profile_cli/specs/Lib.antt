@@ -1,11 +1,14 @@
 pub mod Usage
-pub mod Request
 pub mod Words
 pub mod Command
+pub mod Contents
+pub mod Written
+pub mod Task
+pub mod Output
 pub mod Outcomes
+pub mod Ends
 pub mod Reports
 pub mod Session
 pub mod Items
-pub mod Output
 pub mod Columns
 pub mod FilesRead

@@ -3,7 +3,7 @@ ghost use Rattle.std.specs.Prelude.{◌≡◌, map, IfOk, IfSome};
 ghost use Rattle.clap.specs.Words.{found_of, rows_of};
 ghost use Rattle.profile_cli.specs.Command as words_of;
 ghost use Rattle.profile_cli.specs.Command.{texts};
-ghost use Rattle.profile_cli.specs.Request as asked;
+ghost use Rattle.profile_cli.specs.Task.{HasWorkers, task_of};
 
 use crate::request::{Names, Options, Request};
 use crate::words::depprof_words;
@@ -88,7 +88,7 @@ fn session_of(alloc: Global, found: &ArgMatches) -> Result<Request, AllocError>
 /// The request that the words are, if they are one. The first word is the program's own name.
 pub(crate) fn request_of(alloc: Global, words: &[String]) -> Result<Option<Request>, AllocError>
     ensures command { IfOk result (λ found. found ≡ words_of.command (texts words.now)) }
-    ensures workers { IfOk result (λ found. IfSome found (λ request. asked.HasWorkers (asked.options_of request))) }
+    ensures workers { IfOk result (λ found. IfSome found (λ request. HasWorkers (task_of request))) }
 {
     match depprof_words(alloc)?.try_get_matches_from(words) {
         Ok(matches) => match matches.subcommand_matches("profile") {

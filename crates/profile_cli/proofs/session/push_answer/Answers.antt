@@ -1,4 +1,4 @@
-use Rattle.std.proofs.Common.{◌∙◌, ◌++◌, ◌<◌, ◌^◌, ◌+◌, length, sym, ap, arith, subst}
+use Rattle.std.proofs.Common.{◌∙◌, ◌++◌, sym, ap, arith, subst}
 use Rattle.rel_base.specs.RowState.{width}
 use Rattle.batch_update.specs.declared.item.Item.{Item}
 use Rattle.batch_update.specs.declared.item.Item.TheVariants.{Batch, Bad}

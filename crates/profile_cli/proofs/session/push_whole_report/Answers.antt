@@ -1,7 +1,7 @@
 use Rattle.std.proofs.Common.{◌≡◌, ◌∙◌, ◌++◌, ◌∷◌, [], subst}
 use Rattle.rel_base.specs.RowState.{RowState}
 use Rattle.profile_cli.specs.Reports.{inclusion_lines}
-use Rattle.profile_cli.proofs.Answering.{reports-one}
+use Rattle.profile_cli.proofs.SessionAnswers.{reports-one}
 use Rattle.profile_cli.proofs.Texts.{OnOk-map}
 use Rattle.profile_cli.proofs.session.push_whole_report.Goals as goal
 

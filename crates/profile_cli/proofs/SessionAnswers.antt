@@ -1,11 +1,10 @@
 -- What a session answers, item by item.
-use Rattle.std.proofs.Common.{◌≡◌, ◌∙◌, ◌+◌, ◌<◌, ◌≤◌, ℕ, Bool, cond, true, false, refl, sym, ap, ap₂, subst, zero, suc, ◌^◌, arith, List, [], ◌∷◌, ◌++◌, length, drop, get_or, append_assoc, append-nil, add-one, drop-cons, Result, Ok, Err}
+use Rattle.std.proofs.Common.{◌≡◌, ◌∙◌, ◌+◌, ◌<◌, ◌≤◌, ℕ, Bool, cond, true, false, refl, sym, ap, ap₂, zero, suc, ◌^◌, arith, List, [], ◌∷◌, ◌++◌, length, drop, get_or, append_assoc, append-nil, add-one, drop-cons, Result, Ok, Err}
 use Rattle.std.specs.List.{All}
 use Rattle.rel_base.specs.declared.batch.Op.{Op}
 use Rattle.rel_base.specs.declared.batch.Op.TheVariants.{Insert, Delete, Update}
 use Rattle.rel_base.specs.declared.why.Why.{Why}
 use Rattle.rel_base.specs.declared.why.Why.TheVariants.{Rows, Missing}
-use Rattle.rel_base.specs.Cells.{Row}
 use Rattle.rel_base.specs.RowState.{RowState, width}
 use Rattle.rel_base.specs.Batches.{after, after_from, applied, deleted, go_on, inserted, is_full, is_live, kept_or_after}
 use Rattle.batch_update.specs.Numbers.{IsNumberedTo}
