@@ -10,3 +10,7 @@ pub mod Bare
 pub mod TheApp
 pub mod Tasks
 pub mod Storing
+pub mod RowParts
+pub mod Witnessed
+pub mod Tables
+pub mod Drawn

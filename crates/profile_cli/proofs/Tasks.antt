@@ -1,9 +1,9 @@
 -- What is known of every command.
-use Rattle.std.proofs.Common.{◌≡◌, refl, ℕ, false, List, []}
+use Rattle.std.proofs.Common.{◌≡◌, refl, sym, ℕ, false, List, []}
 use Rattle.rel_base.specs.declared.limits.Limits.{Limits}
 use Rattle.rel_base.specs.Relation.{Content}
 use Rattle.profile_cli.specs.declared.request.Request.{Request}
-use Rattle.profile_cli.specs.declared.request.Request.TheVariants.{Profile, Session}
+use Rattle.profile_cli.specs.declared.request.Request.TheVariants.{Profile, Session, Normalize, Demo}
 use Rattle.profile_cli.specs.Task.{task_of}
 
 -- one that writes no files writes none
@@ -11,3 +11,5 @@ pub writes_none : (request : Request) (limits : Limits) (relations : List Conten
 unfolding task_of
 writes_none (Profile options files) limits relations input none = refl
 writes_none (Session options file) limits relations input none = refl
+writes_none (Normalize workers prefix file) limits relations input none = absurd (false≢true (sym none))
+writes_none (Demo workers seed) limits relations input none = refl

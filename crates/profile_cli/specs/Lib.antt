@@ -3,6 +3,8 @@ pub mod Words
 pub mod Command
 pub mod Contents
 pub mod Written
+pub mod Normalize
+pub mod Demo
 pub mod Task
 pub mod Output
 pub mod Outcomes

@@ -1,11 +1,14 @@
 -- What each command does. A further command is one more case of `task_of`.
 use Rattle.std.specs.Prelude.{◌≤◌, ℕ, Bool, true, false, List, [], ◌∷◌, map}
 use Rattle.rel_base.specs.declared.limits.Limits.{Limits}
+use Rattle.rel_base.specs.declared.nulls.Nulls.TheVariants.{Equal}
 use Rattle.rel_base.specs.Relation.{Content}
 use Rattle.rel_base.specs.RowState.{opened}
 use Rattle.profile_cli.specs.declared.request.Request.{Request}
-use Rattle.profile_cli.specs.declared.request.Request.TheVariants.{Profile, Session}
+use Rattle.profile_cli.specs.declared.request.Request.TheVariants.{Profile, Session, Normalize, Demo}
 use Rattle.profile_cli.specs.Contents.{first_of}
+use Rattle.profile_cli.specs.Demo.{demo_content, demo_text}
+use Rattle.profile_cli.specs.Normalize.{normalized}
 use Rattle.profile_cli.specs.Reports.{reports}
 use Rattle.profile_cli.specs.Session.{session_text}
 use Rattle.profile_cli.specs.Written.{Written, text_alone}
@@ -34,6 +37,20 @@ task_of (Session options file) = record {
   reads_input = true;
   writes_files = false;
   writes = λ limits relations input. text_alone (session_text file (opened options.nulls limits.rows (first_of relations)) limits input);
+}
+task_of (Normalize workers prefix file) = record {
+  workers = workers;
+  reads = file ∷ [];
+  reads_input = false;
+  writes_files = true;
+  writes = λ limits relations input. normalized prefix file (opened Equal limits.rows (first_of relations));
+}
+task_of (Demo workers seed) = record {
+  workers = workers;
+  reads = [];
+  reads_input = false;
+  writes_files = false;
+  writes = λ limits relations input. text_alone (demo_text seed (opened Equal limits.rows (demo_content seed)));
 }
 
 -- there is a worker, and there are no more than 16

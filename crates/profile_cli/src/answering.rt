@@ -7,8 +7,10 @@ ghost use Rattle.profile_cli.specs.Outcomes.{IfReadFault, IfRefused, OnDone, Unl
 ghost use Rattle.profile_cli.specs.Task.{task_of};
 
 use crate::Outcome;
+use crate::demo::demo_text_of;
 use crate::ending::{end_at_input_fault, refuse_input};
 use crate::made::Made;
+use crate::normalizing::normalized_of;
 use crate::reports::reports_of;
 use crate::request::Request;
 use crate::session::session_of;
@@ -33,12 +35,26 @@ fn made_of<R: Threads + Sync>(
 {
     match request {
         Request::Profile { options, files } => {
-            let text = reports_of(rt, alloc, options.nulls, limits, files.as_slice(), relations)?;
+            let text = reports_of(
+                rt,
+                alloc,
+                options.nulls,
+                limits,
+                files.as_slice(),
+                relations,
+            )?;
             Ok(Made::text_alone(alloc, text))
         }
         Request::Session { options, file } => {
             let relation = relations.swap_remove(0);
             let text = session_of(rt, alloc, options.nulls, limits, file, relation, input)?;
+            Ok(Made::text_alone(alloc, text))
+        }
+        Request::Normalize { prefix, file, .. } => {
+            normalized_of(rt, alloc, limits, prefix, file, relations.swap_remove(0))
+        }
+        Request::Demo { seed, .. } => {
+            let text = demo_text_of(rt, alloc, limits, *seed)?;
             Ok(Made::text_alone(alloc, text))
         }
     }

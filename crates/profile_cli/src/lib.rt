@@ -4,10 +4,13 @@
 mod answering;
 mod columns;
 mod command;
+mod demo;
 mod ending;
 pub mod laws;
 mod made;
+mod normalizing;
 mod outcome;
+mod projecting;
 mod reading;
 mod reports;
 mod request;
@@ -19,6 +22,7 @@ mod usage;
 mod words;
 mod writing;
 
+pub use demo::demo_relation;
 pub use outcome::Outcome;
 pub use top_call::run;
 pub use usage::usage_line;

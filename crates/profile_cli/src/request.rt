@@ -57,9 +57,26 @@ impl Names {
 #[derive(Drop)]
 pub(crate) enum Request {
     /// The reports of these files, in this order, and the inclusions among all their columns.
-    Profile { options: Options, files: Names },
+    Profile {
+        options: Options,
+        files: Names,
+    },
     /// The answers to the change text that the input is, for the relation of this file.
-    Session { options: Options, file: Name },
+    Session {
+        options: Options,
+        file: Name,
+    },
+    /// The report of this file, its tables, and a file for each table, whose name begins with the prefix.
+    Normalize {
+        workers: u8,
+        prefix: Name,
+        file: Name,
+    },
+    /// The counts of the lines that `normalize` would write for the relation that is made of this seed.
+    Demo {
+        workers: u8,
+        seed: u32,
+    },
 }
 
 // What a request has read, as the definition of its command says.
@@ -74,6 +91,8 @@ impl Request {
         match self {
             Request::Profile { files, .. } => files.as_slice(),
             Request::Session { file, .. } => slice::from_ref(file),
+            Request::Normalize { file, .. } => slice::from_ref(file),
+            Request::Demo { .. } => &[],
         }
     }
 
@@ -92,6 +111,8 @@ impl Request {
         match self {
             Request::Profile { files, .. } => files.into_name(place),
             Request::Session { file, .. } => file,
+            Request::Normalize { file, .. } => file,
+            Request::Demo { .. } => unreachable!(),
         }
     }
 }
