@@ -1,5 +1,6 @@
 -- What is known of every command.
 use Rattle.std.proofs.Common.{◌≡◌, refl, sym, ℕ, false, List, []}
+use Rattle.std.proofs.lemmas.Bool.{false≢true}
 use Rattle.rel_base.specs.declared.limits.Limits.{Limits}
 use Rattle.rel_base.specs.Relation.{Content}
 use Rattle.profile_cli.specs.declared.request.Request.{Request}

@@ -6,7 +6,6 @@ use Rattle.col_set.specs.declared.target.Target.TheVariants.{Col, RowId}
 use Rattle.col_set.specs.AllSets.{Listed-upto_within}
 use Rattle.col_set.specs.ColSet.{upto}
 use Rattle.col_set.specs.Evidence.{least}
-use Rattle.col_set.specs.Lists.{flat_map_same}
 use Rattle.col_set.specs.Target.{IsColumnTarget}
 use Rattle.rel_base.specs.Covers.{covers, fds_to, least_covers}
 use Rattle.rel_base.specs.RowState.{width}
@@ -16,6 +15,7 @@ use Rattle.negative_cover.specs.Witnesses.{sets_of}
 use Rattle.cover_steps.specs.Core.{Core, first_unfinished}
 use Rattle.cover_steps.specs.Sound.{Sound}
 use Rattle.cover_steps.proofs.Exact.{lefts-exact}
+use Rattle.cover_steps.proofs.Lists.{flat_map_same}
 
 pub witnesses_leave : (s : Core) → Sound s → first_unfinished s ≡ None → covers s.rows ≡ least_covers (width s.rows) (sets_of s.witnesses)
 unfolding least_covers

@@ -1,17 +1,19 @@
 // The relation that `demo` makes, and the counts of what `normalize` would write for it.
-ghost use Rattle.std.specs.Prelude.{◌≡◌, ◌++◌, ◌∷◌, ◌<◌, ◌^◌, [], map, decimal, IfOk, OnOk};
+ghost use Rattle.std.specs.Prelude.{◌≡◌, ◌++◌, ◌∷◌, ◌<◌, ◌^◌, [], length, map, decimal, IfOk, OnOk};
 ghost use Rattle.csv.specs.Records.{fields_of, partial_of};
 ghost use Rattle.rel_base.specs.declared.nulls.Nulls.TheVariants.{Equal};
+ghost use Rattle.rel_base.specs.Inclusion.{all_columns, inclusions};
 ghost use Rattle.rel_base.specs.RowState.{opened};
 ghost use Rattle.profile_cli.specs.Demo as words;
 
 use crate::columns::Columns;
-use bcnf_split::split;
+use crate::normalizing::tables_of;
 use cover_core::Book;
 use csv::ByteRecord;
 use itoa::Buffer;
 use rel_base::{Limits, Relation, Row};
 use report_text::demo_line;
+use row_log::RowLog;
 use std::alloc::{AllocError, Global};
 use std::thread::Threads;
 
@@ -126,6 +128,41 @@ pub fn demo_relation(alloc: Global, seed: u32) -> Result<Relation, AllocError>
     Ok(Relation::of(names(alloc)?, rows))
 }
 
+// How many inclusions there are among the columns of these rows.
+fn count_inclusions<R: Threads + Sync>(
+    rt: &R,
+    alloc: Global,
+    rows: &RowLog,
+) -> Result<u64, AllocError>
+    ensures { IfOk result (λ count. count ≡ length (inclusions (all_columns (rows.now ∷ [])))) }
+{
+    let mut columns = Columns::new(alloc);
+    columns.push(alloc, rows)?;
+    columns.count_inclusions(rt, alloc)
+}
+
+// The line of the counts of what `normalize` would write for a book's rows.
+fn counted<R: Threads + Sync>(
+    rt: &R,
+    alloc: Global,
+    seed: u32,
+    book: &mut Book,
+) -> Result<Vec<u8>, AllocError>
+    ensures { IfOk result (λ text. text.items ≡ words.demo_text seed book.old.rows) }
+{
+    let found = book.finish()?;
+    let inclusions = count_inclusions(rt, alloc, book.rows())?;
+    let tables = tables_of(alloc, book.rows(), &found)?;
+    demo_line(
+        alloc,
+        seed,
+        found.keys().len() as u64,
+        found.fds().len() as u64,
+        inclusions,
+        tables.len() as u64,
+    )
+}
+
 /// The line of counts that `demo` writes for a seed.
 pub(crate) fn demo_text_of<R: Threads + Sync>(
     rt: &R,
@@ -136,17 +173,5 @@ pub(crate) fn demo_text_of<R: Threads + Sync>(
     ensures { IfOk result (λ text. text.items ≡ words.demo_text seed (opened Equal limits.rows (words.demo_content seed))) }
 {
     let mut book = Book::open(alloc, demo_relation(alloc, seed)?, limits)?;
-    let found = book.finish()?;
-    let mut columns = Columns::new(alloc);
-    columns.push(alloc, book.rows())?;
-    let inclusions = columns.count_inclusions(rt, alloc)?;
-    let tables = split(alloc, &found, book.rows().names().len() as u8)?;
-    demo_line(
-        alloc,
-        seed,
-        found.keys().len() as u64,
-        found.fds().len() as u64,
-        inclusions,
-        tables.len() as u64,
-    )
+    counted(rt, alloc, seed, &mut book)
 }

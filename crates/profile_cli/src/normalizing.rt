@@ -131,8 +131,8 @@ fn files_of(
     Ok(files)
 }
 
-// The tables that rows with these covers are split into.
-fn tables_of(alloc: Global, rows: &RowLog, found: &Covers) -> Result<Vec<Table>, AllocError>
+/// The tables that rows with these covers are split into.
+pub(crate) fn tables_of(alloc: Global, rows: &RowLog, found: &Covers) -> Result<Vec<Table>, AllocError>
     requires { found.now ≡ covers rows.now }
     ensures { IfOk result (λ tables. tables.items ≡ words.tables rows.now) }
 {

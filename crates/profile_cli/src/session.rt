@@ -74,10 +74,7 @@ fn push_answer<R: Threads + Sync>(
     match item {
         Item::Batch { no, first, batch } => push_batch(lines, book, *no as u32, *first, batch),
         Item::Bad { no, rec, why } => lines.push_refused_line(*no as u32, *rec, *why),
-        Item::Report => {
-            push_whole_report(rt, alloc, lines, name, book)?;
-            Ok(())
-        }
+        Item::Report => push_report_now(rt, alloc, lines, name, book),
     }
 }
 
@@ -103,7 +100,22 @@ fn push_batch(
     }
 }
 
-/// Adds the report of the rows as they are now, and the inclusions among their columns, and gives the covers of the rows. The agree sets of the
+// Adds the report of the rows as they are now, and the inclusions among their columns.
+fn push_report_now<R: Threads + Sync>(
+    rt: &R,
+    alloc: Global,
+    lines: &mut Lines,
+    name: &Name,
+    book: &mut Book,
+) -> Result<(), AllocError>
+    ensures text { OnOk result (lines.new ≡ lines.old ++ reports (name.now ∷ []) (book.old.rows ∷ [])) }
+    ensures rows { book.new.rows ≡ book.old.rows }
+{
+    push_whole_report(rt, alloc, lines, name, book)?;
+    Ok(())
+}
+
+/// Does the same, and gives the covers of the rows. The agree sets of the
 /// witnesses leave them, too.
 pub(crate) fn push_whole_report<R: Threads + Sync>(
     rt: &R,

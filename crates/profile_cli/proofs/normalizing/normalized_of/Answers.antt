@@ -7,14 +7,6 @@ use Rattle.ports.specs.Lists.{File}
 use Rattle.profile_cli.specs.Normalize.{normalized}
 use Rattle.profile_cli.proofs.normalizing.normalized_of.Goals as goal
 
-pub push_normalized-requires-after_bounds : goal.push_normalized-requires-after_bounds
-push_normalized-requires-after_bounds g c κs within =
-    let rows : c.in_ok-book.book.rows ≡ opened Equal c.args.limits.rows c.args.relation = ap (λ (b : Core). b.rows) c.in_ok-book.ensures in
-    record {
-      equal = ap (λ (r : RowState). r.nulls) rows;
-      live = subst (λ (r : RowState). r.live ≡ range_with_len 1 (length r.given)) (sym rows) refl;
-    }
-
 pub returns : goal.returns
 returns g c =
     let rows : c.in_ok-book.book.rows ≡ opened Equal c.args.limits.rows c.args.relation = ap (λ (b : Core). b.rows) c.in_ok-book.ensures in
