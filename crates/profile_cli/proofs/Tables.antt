@@ -1,5 +1,5 @@
 -- The tables of a relation and their other keys.
-use Rattle.std.proofs.Common.{◌≡◌, ◌∙◌, ◌==◌, ◌+◌, ◌<◌, ◌^◌, ℕ, suc, not, refl, sym, ap, ap₂, subst, arith, List, [], ◌∷◌, ◌++◌, length, map, get_or, append_assoc}
+use Rattle.std.proofs.Common.{◌≡◌, ◌∙◌, ◌==◌, ◌+◌, ◌<◌, ◌^◌, ℕ, suc, not, refl, sym, ap, ap₂, subst, arith, List, [], ◌∷◌, ◌++◌, map, append_assoc}
 use Rattle.std.specs.List.{All, enumerate_from, filter, flat_map}
 use Rattle.std.proofs.lemmas.List.Elements.{All-map}
 use Rattle.col_set.specs.ColSet.{Columns, all}

@@ -1,6 +1,5 @@
 -- The relation that `demo` makes of a seed, and the line of counts that it writes.
-use Rattle.std.specs.Prelude.{if◌then◌else◌, ◌==◌, ◌++◌, ◌+◌, ◌-◌, ◌*◌, ◌/◌, ◌%◌, ℕ, zero, suc, List, [], ◌∷◌, length, map, codes, decimal}
-use Rattle.std.specs.List.{range_with_len}
+use Rattle.std.specs.Prelude.{if◌then◌else◌, ◌==◌, ◌++◌, ◌+◌, ◌*◌, ◌/◌, ◌%◌, ℕ, zero, suc, List, [], ◌∷◌, length, map, codes, decimal}
 use Rattle.col_set.specs.ColSet.{all}
 use Rattle.rel_base.specs.Cells.{Row}
 use Rattle.rel_base.specs.Relation.{Content}

@@ -1,4 +1,4 @@
-use Rattle.std.proofs.Common.{◌≡◌, ◌∙◌, ◌∷◌, [], length, ap, sym}
+use Rattle.std.proofs.Common.{◌≡◌, ◌∙◌, ◌∷◌, [], length, ap}
 use Rattle.rel_base.specs.Covers.{CoverLists, covers}
 use Rattle.rel_base.specs.Inclusion.{all_columns, inclusions}
 use Rattle.rel_base.specs.RowState.{RowState}

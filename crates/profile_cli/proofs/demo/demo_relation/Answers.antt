@@ -1,7 +1,7 @@
-use Rattle.std.proofs.Common.{◌≡◌, ◌∙◌, ◌<◌, ◌≤◌, ℕ, List, length, sym, ap, subst, arith}
+use Rattle.std.proofs.Common.{◌≡◌, ◌∙◌, ℕ, List, length, sym, ap, subst, arith}
 use Rattle.std.specs.List.{All}
 use Rattle.rel_base.specs.Cells.{Row}
-use Rattle.profile_cli.specs.Demo.{demo_content, demo_names, demo_rows, rows_from}
+use Rattle.profile_cli.specs.Demo.{demo_content, demo_rows, rows_from}
 use Rattle.profile_cli.proofs.Drawn.{length-rows_from, rows-wide}
 use Rattle.profile_cli.proofs.demo.demo_relation.Goals as goal
 

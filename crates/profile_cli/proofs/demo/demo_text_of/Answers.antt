@@ -1,7 +1,7 @@
 use Rattle.std.proofs.Common.{◌∙◌, ap}
 use Rattle.rel_base.specs.declared.nulls.Nulls.TheVariants.{Equal}
 use Rattle.rel_base.specs.Relation.{Content}
-use Rattle.rel_base.specs.RowState.{RowState, opened}
+use Rattle.rel_base.specs.RowState.{opened}
 use Rattle.cover_steps.specs.Core.{Core}
 use Rattle.profile_cli.specs.Demo.{demo_text}
 use Rattle.profile_cli.proofs.Texts.{IfOk-map}

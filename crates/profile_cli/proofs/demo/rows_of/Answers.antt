@@ -1,4 +1,4 @@
-use Rattle.std.proofs.Common.{◌≡◌, ◌∙◌, ◌++◌, ◌+◌, ◌-◌, ◌≤◌, ℕ, sym, subst, arith}
+use Rattle.std.proofs.Common.{◌≡◌, ◌++◌, ◌+◌, ◌-◌, ℕ, sym, subst, arith}
 use Rattle.profile_cli.specs.Demo.{rows_from}
 use Rattle.profile_cli.proofs.Drawn.{rows_end, rows_more}
 use Rattle.profile_cli.proofs.demo.rows_of.Goals as goal

@@ -1,4 +1,4 @@
-use Rattle.std.proofs.Common.{◌≡◌, ◌∙◌, ◌==◌, ◌+◌, ◌++◌, ◌<◌, ◌≤◌, ◌^◌, ℕ, List, [], not, map, sym, ap, ap₂, subst, arith, length}
+use Rattle.std.proofs.Common.{◌∙◌, ◌==◌, ◌++◌, ◌<◌, ◌^◌, ℕ, List, [], not, map, sym, ap, ap₂, subst, arith}
 use Rattle.std.specs.List.{filter}
 use Rattle.col_set.specs.ColSet.{Columns}
 use Rattle.rel_base.specs.declared.dependency.Table.{Table}

@@ -1,4 +1,4 @@
-use Rattle.std.proofs.Common.{◌≡◌, ◌∙◌, ◌<◌, ◌^◌, ℕ, List, ap}
+use Rattle.std.proofs.Common.{◌∙◌, List, ap}
 use Rattle.col_set.specs.ColSet.{Columns}
 use Rattle.negative_cover.specs.Witnesses.{sets_of}
 use Rattle.profile_cli.specs.Normalize.{alternates_within}

@@ -1,4 +1,4 @@
-use Rattle.std.proofs.Common.{◌≡◌, ◌∙◌, ◌+◌, ◌++◌, ◌∷◌, ◌<◌, ◌≤◌, ◌^◌, ℕ, List, [], map, sym, ap, subst, arith, length}
+use Rattle.std.proofs.Common.{◌∙◌, ◌++◌, ◌∷◌, ◌<◌, ◌^◌, ℕ, [], sym, ap, subst, arith}
 use Rattle.std.specs.List.{enumerate_from}
 use Rattle.rel_base.specs.declared.dependency.Table.{Table}
 use Rattle.rel_base.specs.RowState.{width}

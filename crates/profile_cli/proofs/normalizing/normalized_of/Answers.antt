@@ -1,9 +1,7 @@
-use Rattle.std.proofs.Common.{◌≡◌, ◌∙◌, ◌++◌, ℕ, List, ap, sym, refl, subst, length}
-use Rattle.std.specs.List.{range_with_len}
+use Rattle.std.proofs.Common.{◌≡◌, ◌∙◌, ◌++◌, ℕ, List, ap}
 use Rattle.rel_base.specs.declared.nulls.Nulls.TheVariants.{Equal}
 use Rattle.rel_base.specs.RowState.{RowState, opened}
 use Rattle.cover_steps.specs.Core.{Core}
-use Rattle.ports.specs.Lists.{File}
 use Rattle.profile_cli.specs.Normalize.{normalized}
 use Rattle.profile_cli.proofs.normalizing.normalized_of.Goals as goal
 

@@ -1,4 +1,4 @@
-use Rattle.std.proofs.Common.{◌≡◌, ◌∙◌, ◌++◌, ◌<◌, ◌^◌, ℕ, List, ap, ap₂, sym, subst, length, map}
+use Rattle.std.proofs.Common.{◌∙◌, ◌++◌, ◌<◌, ◌^◌, ℕ, List, ap, ap₂, sym, subst, map}
 use Rattle.std.specs.List.{All, enumerate_from}
 use Rattle.col_set.specs.ColSet.{Columns}
 use Rattle.rel_base.specs.declared.dependency.Table.{Table}

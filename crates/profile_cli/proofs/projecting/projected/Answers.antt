@@ -1,6 +1,6 @@
-use Rattle.std.proofs.Common.{◌≡◌, ◌∙◌, ◌+◌, ◌-◌, ◌≤◌, ℕ, length, map, sym, ap, subst, arith}
+use Rattle.std.proofs.Common.{◌≡◌, ◌∙◌, ℕ, length, ap, arith}
 use Rattle.rel_base.specs.Projection.{part}
-use Rattle.rel_base.specs.RowState.{next, row}
+use Rattle.rel_base.specs.RowState.{row}
 use Rattle.profile_cli.proofs.RowParts.{parts_all, parts_more, parts_none}
 use Rattle.profile_cli.proofs.Texts.{IfOk-map}
 use Rattle.profile_cli.proofs.projecting.projected.Goals as goal
