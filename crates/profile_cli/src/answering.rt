@@ -33,7 +33,14 @@ fn made_of<R: Threads + Sync>(
 {
     match request {
         Request::Profile { options, files } => {
-            let text = reports_of(rt, alloc, options.nulls, limits, files.as_slice(), relations)?;
+            let text = reports_of(
+                rt,
+                alloc,
+                options.nulls,
+                limits,
+                files.as_slice(),
+                relations,
+            )?;
             Ok(Made::text_alone(alloc, text))
         }
         Request::Session { options, file } => {

@@ -61,7 +61,7 @@ pub fn run<R: Threads + Wait + Sync, H: Shelf, I: Source, O: Sink, G: Gate + Syn
         → ((place : ℕ) → place < length (task_of request).reads → RoseAt (slice_index_or (task_of request).reads place []) H.read_faults H.read_last shelf.old shelf.new → ⊥)
         → ((task_of request).reads_input ≡ true → Rose (I.faults input.old) (I.faults input.new) → ⊥)
         → ((place : ℕ) → place < length (output (texts words.items) limits files bytes).written.files
-            → RoseAt (file_at (output (texts words.items) limits files bytes).written.files place).0 H.write_faults H.write_last shelf.old shelf.new → ⊥)
+        → RoseAt (file_at (output (texts words.items) limits files bytes).written.files place).0 H.write_faults H.write_last shelf.old shelf.new → ⊥)
         → (Rose (O.faults out.old) (O.faults out.new) → ⊥)
         → IsDoneOrNoMemory result }
 
@@ -78,7 +78,7 @@ pub fn run<R: Threads + Wait + Sync, H: Shelf, I: Source, O: Sink, G: Gate + Syn
     ensures refused_at { IfRefused result (λ file rec why. IsSomeAnd (words_of.command (texts words.items)) (λ request.
         IsFileRefusal limits (H.content shelf.old) (task_of request) file rec why input.old input.new
         ⊎ (AreAccepted limits (H.content shelf.old) (task_of request).reads H.read_faults H.read_last shelf.old shelf.new
-            × IsInputRefusal limits (task_of request).reads_input file rec why (I.left input.old) (I.left input.new)))) }
+        × IsInputRefusal limits (task_of request).reads_input file rec why (I.left input.old) (I.left input.new)))) }
     ensures not_accepted { (request : Request) (files : Files) (bytes file : List ℕ) (rec : ℕ) (why : Why) → words_of.command (texts words.items) ≡ Some request → H.content shelf.old ≡ Some files
         → IsInput (task_of request).reads_input (I.left input.old) bytes → refusal (task_of request) limits files bytes ≡ Some (file, rec, why)
         → ((place : ℕ) → place < length (task_of request).reads → RoseAt (slice_index_or (task_of request).reads place []) H.read_faults H.read_last shelf.old shelf.new → ⊥)
@@ -89,7 +89,7 @@ pub fn run<R: Threads + Wait + Sync, H: Shelf, I: Source, O: Sink, G: Gate + Syn
     ensures read_fault { IfReadFault result (λ file. IsSomeAnd (words_of.command (texts words.items)) (λ request.
         IsFileFault limits (H.content shelf.old) (task_of request) file H.read_faults H.read_last shelf.old shelf.new input.old input.new
         ⊎ (AreAccepted limits (H.content shelf.old) (task_of request).reads H.read_faults H.read_last shelf.old shelf.new
-            × IsInputFault limits (task_of request).reads_input file (I.left input.old) (I.left input.new) (I.faults input.old) (I.faults input.new)))) }
+        × IsInputFault limits (task_of request).reads_input file (I.left input.old) (I.left input.new) (I.faults input.old) (I.faults input.new)))) }
     ensures fault_line { IfReadFault result (λ file. IsPut (fault_line file) (O.held out.old) (O.held out.new) (O.faults out.old) (O.faults out.new)) }
 
     // Nothing is refused, and a call failed on a file of the output, or on the sink: at a file those before it are whole, it is as it was or holds some first bytes, and the
@@ -97,7 +97,7 @@ pub fn run<R: Threads + Wait + Sync, H: Shelf, I: Source, O: Sink, G: Gate + Syn
     ensures write_fault { OnWriteFault result (IsSomeAnd (words_of.command (texts words.items)) (λ request. OnSources (task_of request) (H.content shelf.old) (I.left input.old) (λ files bytes.
         ((output (texts words.items) limits files bytes).status ≡ 0)
         × (StopsAtFile (output (texts words.items) limits files bytes).written (H.content shelf.old) (H.content shelf.new) (O.held out.old) (O.held out.new) (O.faults out.old) (O.faults out.new) H.write_faults H.write_last shelf.old shelf.new
-          ⊎ StopsAtSink (output (texts words.items) limits files bytes).written (H.content shelf.old) (H.content shelf.new) (O.held out.old) (O.held out.new) (O.faults out.old) (O.faults out.new) H.write_faults H.write_last shelf.old shelf.new)))) }
+        ⊎ StopsAtSink (output (texts words.items) limits files bytes).written (H.content shelf.old) (H.content shelf.new) (O.held out.old) (O.held out.new) (O.faults out.old) (O.faults out.new) H.write_faults H.write_last shelf.old shelf.new)))) }
     ensures write_count { OnWriteFault result (Rose (O.faults out.old) (O.faults out.new) ⊎ Rose (H.write_faults shelf.old) (H.write_faults shelf.new)) }
 
     // Nothing was written.
@@ -142,11 +142,11 @@ fn perform<R: Threads + Sync, H: Shelf, I: Source, O: Sink>(
     ensures refused { IfRefused result (λ file rec why.
         IsFileRefusal limits.now (H.content shelf.old) (task_of request) file rec why input.old input.new
         ⊎ (AreAccepted limits.now (H.content shelf.old) (task_of request).reads H.read_faults H.read_last shelf.old shelf.new
-            × IsInputRefusal limits.now (task_of request).reads_input file rec why (I.left input.old) (I.left input.new))) }
+        × IsInputRefusal limits.now (task_of request).reads_input file rec why (I.left input.old) (I.left input.new))) }
     ensures read_fault { IfReadFault result (λ file.
         IsFileFault limits.now (H.content shelf.old) (task_of request) file H.read_faults H.read_last shelf.old shelf.new input.old input.new
         ⊎ (AreAccepted limits.now (H.content shelf.old) (task_of request).reads H.read_faults H.read_last shelf.old shelf.new
-            × IsInputFault limits.now (task_of request).reads_input file (I.left input.old) (I.left input.new) (I.faults input.old) (I.faults input.new))) }
+        × IsInputFault limits.now (task_of request).reads_input file (I.left input.old) (I.left input.new) (I.faults input.old) (I.faults input.new))) }
     ensures reads { UnlessFaulted result (SameFaults H.read_faults H.read_last shelf.old shelf.new) }
     ensures input_reads { UnlessFaulted result (I.faults input.new ≡ I.faults input.old) }
     ensures through { OnDone result (IsReadThrough (task_of request).reads_input (I.left input.new)) }
