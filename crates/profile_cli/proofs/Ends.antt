@@ -250,7 +250,7 @@ output_of : (words : List Text) (request : Request) (limits : Limits) (held : Fi
 unfolding output
 output_of words request limits held input e = ap (λ c. asked c limits held input) e
 
-accepted_output : (words : List Text) (request : Request) (limits : Limits) (held : Files) (input : List ℕ) → command words ≡ Some request → refusal (task_of request) limits held input ≡ None
+pub accepted_output : (words : List Text) (request : Request) (limits : Limits) (held : Files) (input : List ℕ) → command words ≡ Some request → refusal (task_of request) limits held input ≡ None
     → output words limits held input ≡ record { status = 0; written = written (task_of request) limits held input }
 accepted_output words request limits held input e none = output_of words request limits held input e ∙ ap (λ r. judged r (written (task_of request) limits held input)) none
 
