@@ -132,7 +132,11 @@ fn files_of(
 }
 
 /// The tables that rows with these covers are split into.
-pub(crate) fn tables_of(alloc: Global, rows: &RowLog, found: &Covers) -> Result<Vec<Table>, AllocError>
+pub(crate) fn tables_of(
+    alloc: Global,
+    rows: &RowLog,
+    found: &Covers,
+) -> Result<Vec<Table>, AllocError>
     requires { found.now ≡ covers rows.now }
     ensures { IfOk result (λ tables. tables.items ≡ words.tables rows.now) }
 {
