@@ -1,53 +1,38 @@
 -- What the ends of a run say.
-use Rattle.std.proofs.Common.{◌≡◌, ◌∙◌, ◌⊎◌, inl, inr, ◌<◌, ◌≤◌, ℕ, Bool, cond, refl, sym, ap, subst, arith, List, [], ◌∷◌, length, take, map, Option, Some, None}
-use Rattle.std.specs.Prelude.{IfSome, nat_lt}
-use Rattle.std.specs.List.{Contains}
+use Rattle.std.proofs.Common.{◌≡◌, ◌∙◌, ◌⊎◌, inl, inr, ◌<◌, ◌≤◌, ℕ, Bool, true, false, cond, refl, sym, ap, subst, arith, List, [], length, get_or, Option, Some, None}
+use Rattle.std.specs.Prelude.{IfSome}
+use Rattle.std.specs.Option.{option_map}
 use Rattle.std.proofs.lemmas.Bool.{le-ltb, lt-ltb}
-use Rattle.rel_base.specs.declared.nulls.Nulls.{Nulls}
 use Rattle.rel_base.specs.declared.limits.Limits.{Limits}
 use Rattle.rel_base.specs.declared.why.Why.{Why}
 use Rattle.rel_base.specs.declared.why.Why.TheVariants.{Bytes}
 use Rattle.rel_base.specs.Relation.{Content}
-use Rattle.rel_base.specs.RowState.{opened}
-use Rattle.ports.specs.Bytes.{Gains}
+use Rattle.clap.specs.Walk.{Text}
 use Rattle.ports.specs.Faults.{Rose, RoseAt, SameFaults}
-use Rattle.ports.specs.Files.{Files, bytes_of}
-use Rattle.csv_load.specs.Refusal.{refused_file}
+use Rattle.ports.specs.Files.{Files}
+use Rattle.ports.specs.Lists.{file_at}
 use Rattle.report_text.specs.Outcome.{file_line, fault_line}
 use Rattle.profile_cli.specs.declared.outcome.Outcome.{Outcome}
 use Rattle.profile_cli.specs.declared.outcome.Outcome.TheVariants.{Done, Usage, Refused, ReadFault, WriteFault, NoMemory}
-use Rattle.profile_cli.specs.declared.request.Options.{Options}
 use Rattle.profile_cli.specs.declared.request.Request.{Request}
-use Rattle.profile_cli.specs.declared.request.Request.TheVariants.{Profile, Session}
-use Rattle.profile_cli.specs.Request.{ReadsInput, files_of, input_name, sources_of}
-use Rattle.profile_cli.specs.Output.{IsPut, IsReached, file_content, file_state, first_refusal, named, or_else, output_text, refusal}
-use Rattle.profile_cli.specs.Outcomes.{Answered, EndsWith, IsDoneOrNoMemory, IsInput, IsRefusedOrNoMemory, IfReadFault, InputCounted, IsFileFault, IsInputFault, OnDone, OnSources, ReadsCounted, Runs, WritesText}
-use Rattle.profile_cli.specs.Reports.{reports}
-use Rattle.profile_cli.specs.Session.{session_text}
-use Rattle.profile_cli.proofs.Files.{first_refusal-none, first_refusal-one}
-use Rattle.profile_cli.proofs.Texts.{reports_read}
+use Rattle.profile_cli.specs.Command.{command}
+use Rattle.profile_cli.specs.Contents.{contents_of, first_refusal, or_else}
+use Rattle.profile_cli.specs.Ends.{AreAccepted, EndsWith, IsFileFault, IsInput, IsInputFault, IsPut, IsUnwritten, IsWhole, OnInput, OnMade, OnRead, OnSources, OnTold, Runs, StopsAtFile, StopsAtSink}
+use Rattle.profile_cli.specs.Outcomes.{IfReadFault, IfRefused, IsDoneOrNoMemory, IsRefusedOrNoMemory, IsWritingEnd, OnDone, OnNoMemory, OnUsage, OnWriteFault, UnlessFaulted, UnlessWritten}
+use Rattle.profile_cli.specs.Output.{asked, input_name, input_refusal, judged, output, refusal, with_files, written}
+use Rattle.profile_cli.specs.Task.{Task, task_of}
+use Rattle.profile_cli.specs.Written.{Written}
 
 pub some_same : {X : Type 0} (x y : X) → Some x ≡ Some y → x ≡ y
 some_same x y e = cc
 
-none_is_some : {X : Type 0} (x : X) → None ≡ Some x → ⊥
+pub none_is_some : {X : Type 0} (x : X) → None ≡ Some x → ⊥
 none_is_some x e = cc
 
 -- ---- a run that ends with a line
 module _ (o wanted : Outcome) (line : List ℕ) (before now : Option (List ℕ)) (faults faults' : ℕ) where
-  pub ends_cases : (P : Outcome → Type 0) → EndsWith o wanted line before now faults faults' → P NoMemory → P wanted → P o
-  ends_cases P e memory here = by o e
-    where
-      by : (x : Outcome) → EndsWith x wanted line before now faults faults' → P x
-      by NoMemory e = memory
-      by Done e = subst P (sym e.0) here
-      by Usage e = subst P (sym e.0) here
-      by (Refused file rec why) e = subst P (sym e.0) here
-      by (ReadFault file) e = subst P (sym e.0) here
-      by WriteFault e = subst P (sym e.0) here
-
   -- where memory ran out nothing was written, and else the line was put
-  ends_put : (P : Outcome → Type 0) → EndsWith o wanted line before now faults faults' → ((now ≡ before) × (faults' ≡ faults) → P NoMemory) → (IsPut line before now faults faults' → P wanted) → P o
+  pub ends_put : (P : Outcome → Type 0) → EndsWith o wanted line before now faults faults' → ((now ≡ before) × (faults' ≡ faults) → P NoMemory) → (IsPut line before now faults faults' → P wanted) → P o
   ends_put P e memory here = by o e
     where
       by : (x : Outcome) → EndsWith x wanted line before now faults faults' → P x
@@ -58,42 +43,7 @@ module _ (o wanted : Outcome) (line : List ℕ) (before now : Option (List ℕ))
       by (ReadFault file) e = subst P (sym e.0) (here e.1)
       by WriteFault e = subst P (sym e.0) (here e.1)
 
-module _ (o : Outcome) (request : Request) (limits : Limits) (content : Option Files) (input before now : Option (List ℕ)) (faults faults' : ℕ) where
-  pub Runs-refused : (file : List ℕ) (rec : ℕ) (why : Why) → EndsWith o (Refused file rec why) (file_line file rec why) before now faults faults'
-      → OnSources request content input (λ files bytes. refusal request limits files bytes ≡ Some (file, rec, why)) → Contains (sources_of request) file → Runs o request limits content input before now faults faults'
-  Runs-refused file rec why e known among =
-      ends_put o (Refused file rec why) (file_line file rec why) before now faults faults' (λ x. Runs x request limits content input before now faults faults') e (λ same. same) (λ put. (known, among, put))
-
-  pub Runs-fault : (file : List ℕ) → EndsWith o (ReadFault file) (fault_line file) before now faults faults' → Runs o request limits content input before now faults faults'
-  Runs-fault file e =
-      ends_put o (ReadFault file) (fault_line file) before now faults faults' (λ x. Runs x request limits content input before now faults faults') e (λ same. same) (λ put. put)
-
--- ---- the reads of a run
-pub ReadsCounted-same : {S : Type 0} (o : Outcome) (count : S → ℕ) (last : S → Option (List ℕ)) (old new : S) → SameFaults count last old new → ReadsCounted o count last old new
-ReadsCounted-same Done count last old new s = s
-ReadsCounted-same Usage count last old new s = s
-ReadsCounted-same (Refused file rec why) count last old new s = s
-ReadsCounted-same (ReadFault file) count last old new s = tt
-ReadsCounted-same WriteFault count last old new s = s
-ReadsCounted-same NoMemory count last old new s = tt
-
-pub InputCounted-same : (o : Outcome) (before now : ℕ) → now ≡ before → InputCounted o before now
-InputCounted-same Done before now s = s
-InputCounted-same Usage before now s = s
-InputCounted-same (Refused file rec why) before now s = s
-InputCounted-same (ReadFault file) before now s = tt
-InputCounted-same WriteFault before now s = s
-InputCounted-same NoMemory before now s = tt
-
--- a text has no read fault
-pub IfReadFault-written : (o : Outcome) (P : List ℕ → Type 0) (text : List ℕ) (before now : Option (List ℕ)) (faults faults' : ℕ) → WritesText o text before now faults faults' → IfReadFault o P
-IfReadFault-written Done P text before now faults faults' w = tt
-IfReadFault-written Usage P text before now faults faults' w = tt
-IfReadFault-written (Refused file rec why) P text before now faults faults' w = tt
-IfReadFault-written (ReadFault file) P text before now faults faults' w = absurd w
-IfReadFault-written WriteFault P text before now faults faults' w = tt
-IfReadFault-written NoMemory P text before now faults faults' w = tt
-
+-- ---- facts of ends
 pub OnDone-always : (o : Outcome) (P : Type 0) → P → OnDone o P
 OnDone-always Done P p = p
 OnDone-always Usage P p = tt
@@ -102,185 +52,328 @@ OnDone-always (ReadFault file) P p = tt
 OnDone-always WriteFault P p = tt
 OnDone-always NoMemory P p = tt
 
--- ---- a run of `profile` whose files were read
-pub Runs-read : (o : Outcome) (options : Options) (files : List (List ℕ)) (limits : Limits) (content : Option Files) (relations : List Content) (before now : Option (List ℕ)) (faults faults' : ℕ)
-    → IfSome content (λ held. (first_refusal limits held files ≡ None) × (relations ≡ map (λ name. file_content (bytes_of held name)) files))
-    → WritesText o (reports files (map (opened options.nulls limits.rows) relations)) before now faults faults'
-    → Runs o (Profile options files) limits content None before now faults faults'
-Runs-read Done options files limits None relations before now faults faults' k w = (k, w.1)
-Runs-read Done options files limits (Some held) relations before now faults faults' k w =
-    ((ap (λ r. or_else r None) k.0, subst (Gains before now) (reports_read options.nulls limits held files relations k.1) w.0), w.1)
-Runs-read Usage options files limits content relations before now faults faults' k w = w
-Runs-read (Refused file rec why) options files limits content relations before now faults faults' k w = absurd w
-Runs-read (ReadFault file) options files limits content relations before now faults faults' k w = absurd w
-Runs-read WriteFault options files limits None relations before now faults faults' k w = (k, w.1)
-Runs-read WriteFault options files limits (Some held) relations before now faults faults' k w =
-    ((ap (λ r. or_else r None) k.0, (w.0.0, subst (λ text. Gains before now (take w.0.0 text)) (reports_read options.nulls limits held files relations k.1) w.0.1)), w.1)
-Runs-read NoMemory options files limits content relations before now faults faults' k w = w
+pub OnDone-map : (o : Outcome) (P Q : Type 0) → (P → Q) → OnDone o P → OnDone o Q
+OnDone-map Done P Q f p = f p
+OnDone-map Usage P Q f p = tt
+OnDone-map (Refused file rec why) P Q f p = tt
+OnDone-map (ReadFault file) P Q f p = tt
+OnDone-map WriteFault P Q f p = tt
+OnDone-map NoMemory P Q f p = tt
 
--- ---- a run of `session`
-accepted_file : (limits : Limits) (held : Files) (file : List ℕ) → refused_file limits (bytes_of held file) ≡ None → first_refusal limits held (file ∷ []) ≡ None
-accepted_file limits held file e = first_refusal-one limits held file ∙ ap (named file) e
+pub OnWriteFault-map : (o : Outcome) (P Q : Type 0) → (P → Q) → OnWriteFault o P → OnWriteFault o Q
+OnWriteFault-map Done P Q f p = tt
+OnWriteFault-map Usage P Q f p = tt
+OnWriteFault-map (Refused file rec why) P Q f p = tt
+OnWriteFault-map (ReadFault file) P Q f p = tt
+OnWriteFault-map WriteFault P Q f p = f p
+OnWriteFault-map NoMemory P Q f p = tt
 
-pub accepted_content : (limits : Limits) (content : Option Files) (file : List ℕ) (relation : Content)
-    → IfSome content (λ held. (refused_file limits (bytes_of held file) ≡ None) × (relation ≡ file_content (bytes_of held file))) → IfSome content (λ held. first_refusal limits held (file ∷ []) ≡ None)
-accepted_content limits None file relation k = k
-accepted_content limits (Some held) file relation k = accepted_file limits held file k.0
+pub UnlessFaulted-always : (o : Outcome) (P : Type 0) → P → UnlessFaulted o P
+UnlessFaulted-always Done P p = p
+UnlessFaulted-always Usage P p = p
+UnlessFaulted-always (Refused file rec why) P p = p
+UnlessFaulted-always (ReadFault file) P p = tt
+UnlessFaulted-always WriteFault P p = p
+UnlessFaulted-always NoMemory P p = tt
 
--- the refusal of its file is the first one, whatever the input holds
-pub refused_content : (options : Options) (limits : Limits) (content : Option Files) (input : Option (List ℕ)) (file : List ℕ) (rec : ℕ) (why : Why)
-    → IfSome content (λ held. refused_file limits (bytes_of held file) ≡ Some (rec, why))
-    → OnSources (Session options file) content input (λ held bytes. refusal (Session options file) limits held bytes ≡ Some (file, rec, why))
-refused_content options limits None input file rec why k = k
-refused_content options limits (Some held) None file rec why k = tt
-refused_content options limits (Some held) (Some bytes) file rec why k =
-    ap (λ r. or_else r (cond (nat_lt limits.bytes (length bytes)) (Some (input_name, 0, Bytes)) None)) (first_refusal-one limits held file ∙ ap (named file) k)
+pub IfRefused-map : (o : Outcome) (P Q : List ℕ → ℕ → Why → Type 0) → ((file : List ℕ) (rec : ℕ) (why : Why) → P file rec why → Q file rec why) → IfRefused o P → IfRefused o Q
+IfRefused-map Done P Q f p = tt
+IfRefused-map Usage P Q f p = tt
+IfRefused-map (Refused file rec why) P Q f p = f file rec why p
+IfRefused-map (ReadFault file) P Q f p = tt
+IfRefused-map WriteFault P Q f p = tt
+IfRefused-map NoMemory P Q f p = tt
 
-module _ (options : Options) (file : List ℕ) (limits : Limits) (held : Files) (bytes : List ℕ) (none : refused_file limits (bytes_of held file) ≡ None) where
-  no_refusal : length bytes ≤ limits.bytes → refusal (Session options file) limits held bytes ≡ None
-  no_refusal h =
-      ap (λ r. or_else r (cond (nat_lt limits.bytes (length bytes)) (Some (input_name, 0, Bytes)) None)) (accepted_file limits held file none)
-      ∙ ap (λ (b : Bool). cond b (Some (input_name, 0, Bytes)) None) (le-ltb limits.bytes (length bytes) h)
+pub IfReadFault-map : (o : Outcome) (P Q : List ℕ → Type 0) → ((file : List ℕ) → P file → Q file) → IfReadFault o P → IfReadFault o Q
+IfReadFault-map Done P Q f p = tt
+IfReadFault-map Usage P Q f p = tt
+IfReadFault-map (Refused file rec why) P Q f p = tt
+IfReadFault-map (ReadFault file) P Q f p = f file p
+IfReadFault-map WriteFault P Q f p = tt
+IfReadFault-map NoMemory P Q f p = tt
 
-  long_refusal : limits.bytes < length bytes → refusal (Session options file) limits held bytes ≡ Some (input_name, 0, Bytes)
-  long_refusal h =
-      ap (λ r. or_else r (cond (nat_lt limits.bytes (length bytes)) (Some (input_name, 0, Bytes)) None)) (accepted_file limits held file none)
-      ∙ ap (λ (b : Bool). cond b (Some (input_name, 0, Bytes)) None) (lt-ltb limits.bytes (length bytes) h)
+pub IfRefused-writing : (o : Outcome) (P : List ℕ → ℕ → Why → Type 0) → IsWritingEnd o → IfRefused o P
+IfRefused-writing Done P w = tt
+IfRefused-writing Usage P w = absurd w
+IfRefused-writing (Refused file rec why) P w = absurd w
+IfRefused-writing (ReadFault file) P w = absurd w
+IfRefused-writing WriteFault P w = tt
+IfRefused-writing NoMemory P w = tt
 
-module _ (options : Options) (file : List ℕ) (limits : Limits) (relation : Content) (before now : Option (List ℕ)) (faults faults' : ℕ) where
-  abbrev Known : Option Files → Type 0
-  Known content = IfSome content (λ held. (refused_file limits (bytes_of held file) ≡ None) × (relation ≡ file_content (bytes_of held file)))
+pub IfReadFault-writing : (o : Outcome) (P : List ℕ → Type 0) → IsWritingEnd o → IfReadFault o P
+IfReadFault-writing Done P w = tt
+IfReadFault-writing Usage P w = absurd w
+IfReadFault-writing (Refused file rec why) P w = absurd w
+IfReadFault-writing (ReadFault file) P w = absurd w
+IfReadFault-writing WriteFault P w = tt
+IfReadFault-writing NoMemory P w = tt
 
-  abbrev text : List ℕ → List ℕ
-  text = session_text file (opened options.nulls limits.rows relation) limits
+-- ---- what is known of the first refusal and of what is written
+abbrev pub Refusal : Type 0
+Refusal = Option (List ℕ × ℕ × Why)
 
-  text_is : (held : Files) (bytes : List ℕ) → relation ≡ file_content (bytes_of held file) → text bytes ≡ output_text (Session options file) limits held bytes
-  text_is held bytes is = ap (λ (c : Content). session_text file (opened options.nulls limits.rows c) limits bytes) is
+abbrev pub Fact : Type 1
+Fact = Refusal → Written → Type 0
 
-  done : (content : Option Files) (input : Option (List ℕ)) → Known content → IfSome input (λ bytes. (length bytes ≤ limits.bytes) × Gains before now (text bytes))
-      → OnSources (Session options file) content input (λ held bytes. (refusal (Session options file) limits held bytes ≡ None) × Gains before now (output_text (Session options file) limits held bytes))
-  done None input k a = k
-  done (Some held) None k a = a
-  done (Some held) (Some bytes) k a = (no_refusal options file limits held bytes k.0 a.0, subst (Gains before now) (text_is held bytes k.1) a.1)
+OnInput-map : (reads : Bool) (input : Option (List ℕ)) (P Q : List ℕ → Type 0) → ((bytes : List ℕ) → P bytes → Q bytes) → OnInput reads input P → OnInput reads input Q
+OnInput-map true None P Q f p = tt
+OnInput-map true (Some bytes) P Q f p = f bytes p
+OnInput-map false input P Q f p = f [] p
 
-  failed : (content : Option Files) (input : Option (List ℕ)) → Known content → IfSome input (λ bytes. (length bytes ≤ limits.bytes) × ((count : ℕ) × Gains before now (take count (text bytes))))
-      → OnSources (Session options file) content input (λ held bytes. (refusal (Session options file) limits held bytes ≡ None) × ((count : ℕ) × Gains before now (take count (output_text (Session options file) limits held bytes))))
-  failed None input k a = k
-  failed (Some held) None k a = a
-  failed (Some held) (Some bytes) k a =
-      (no_refusal options file limits held bytes k.0 a.0, (a.1.0, subst (λ t. Gains before now (take a.1.0 t)) (text_is held bytes k.1) a.1.1))
+OnInput-always : (reads : Bool) (input : Option (List ℕ)) (P : List ℕ → Type 0) → ((bytes : List ℕ) → P bytes) → OnInput reads input P
+OnInput-always true None P f = tt
+OnInput-always true (Some bytes) P f = f bytes
+OnInput-always false input P f = f []
 
-  long : (content : Option Files) (input : Option (List ℕ)) → Known content → IfSome input (λ bytes. limits.bytes < length bytes)
-      → OnSources (Session options file) content input (λ held bytes. refusal (Session options file) limits held bytes ≡ Some (input_name, 0, Bytes))
-  long None input k a = k
-  long (Some held) None k a = a
-  long (Some held) (Some bytes) k a = long_refusal options file limits held bytes k.0 a
+-- what the files hold was read
+pub OnTold-read : (task : Task) (limits : Limits) (content : Option Files) (input : Option (List ℕ)) (relations : List Content)
+    → IfSome content (λ held. (first_refusal limits held task.reads ≡ None) × (relations ≡ contents_of held task.reads))
+    → (P Q : Fact) → ((r : Refusal) (w : Written) → P r w → Q r w) → OnRead task limits relations input P → OnTold task limits content input Q
+OnTold-read task limits None input relations k P Q f r = tt
+OnTold-read task limits (Some held) input relations k P Q f r =
+    OnInput-map task.reads_input input (λ bytes. P (input_refusal task.reads_input limits bytes) (task.writes limits relations bytes)) (λ bytes. Q (refusal task limits held bytes) (written task limits held bytes))
+    (λ bytes p.
+    subst (λ (x : Refusal). Q (or_else x (input_refusal task.reads_input limits bytes)) (written task limits held bytes)) (sym k.0)
+    (subst (λ (rs : List Content). Q (input_refusal task.reads_input limits bytes) (task.writes limits rs bytes)) k.1 (f (input_refusal task.reads_input limits bytes) (task.writes limits relations bytes) p))) r
 
-  -- the line of a refusal
-  line_of : Outcome → List ℕ
-  line_of Done = []
-  line_of Usage = []
-  line_of (Refused name rec why) = file_line name rec why
-  line_of (ReadFault name) = []
-  line_of WriteFault = []
-  line_of NoMemory = []
+-- a file is refused
+pub OnTold-refused : (task : Task) (limits : Limits) (content : Option Files) (input : Option (List ℕ)) (file : List ℕ) (rec : ℕ) (why : Why)
+    → IfSome content (λ held. first_refusal limits held task.reads ≡ Some (file, rec, why)) → OnTold task limits content input (λ r w. r ≡ Some (file, rec, why))
+OnTold-refused task limits None input file rec why k = tt
+OnTold-refused task limits (Some held) input file rec why k =
+    OnInput-always task.reads_input input (λ bytes. refusal task limits held bytes ≡ Some (file, rec, why)) (λ bytes. ap (λ (x : Refusal). or_else x (input_refusal task.reads_input limits bytes)) k)
 
-  pub Runs-answered : (o : Outcome) (content : Option Files) (input : Option (List ℕ)) → Known content → Answered o limits input text before now faults faults'
-      → Runs o (Session options file) limits content input before now faults faults'
-  unfolding line_of
-  Runs-answered Done content input k a = (done content input k a.0, a.1)
-  Runs-answered Usage content input k a = a
-  Runs-answered (Refused name rec why) content input k a =
-      subst (λ x. Runs x (Session options file) limits content input before now faults faults') (sym a.1)
-      (long content input k a.0, (1, omega arith, refl), subst (λ x. IsPut (line_of x) before now faults faults') a.1 a.2)
-  Runs-answered (ReadFault name) content input k a = a.1
-  Runs-answered WriteFault content input k a = (failed content input k a.0, a.1)
-  Runs-answered NoMemory content input k a = a
+module _ (task : Task) (limits : Limits) (relations : List Content) (input : Option (List ℕ)) (P Q : Fact) where
+  abbrev At : Bool → Type 0
+  At b = OnInput b input (λ bytes. Q (input_refusal b limits bytes) (task.writes limits relations bytes))
 
-module _ {S : Type 0} (options : Options) (limits : Limits) (content : Option Files) (file : List ℕ) (count : S → ℕ) (last : S → Option (List ℕ)) (old new : S) where
-  -- a call on the file failed
-  pub file_fault : (before now : ℕ) → RoseAt file count last old new → now ≡ before
-      → IsFileFault limits content (Session options file) file count last old new before now ⊎ IsInputFault limits content (Session options file) file count last old new before now
-  file_fault before now rose same = inl (record {
-    reached = record { place = 0; within = omega arith; name = refl; accepted = all content };
-    shelf = rose;
-    input = same;
-  })
+  -- the input isn't read
+  pub OnRead-unread : task.reads_input ≡ false → ((r : Refusal) (w : Written) → P r w → Q r w) → OnMade (task.writes limits relations []) P → OnRead task limits relations input Q
+  OnRead-unread unread f p = subst At (sym unread) (f None (task.writes limits relations []) p)
+
+  -- the input was read to its end
+  pub OnRead-loaded : task.reads_input ≡ true → (bytes : List ℕ) → IfSome input (λ all. (bytes ≡ all) × (length all ≤ limits.bytes)) → ((r : Refusal) (w : Written) → P r w → Q r w)
+      → OnMade (task.writes limits relations bytes) P → OnRead task limits relations input Q
+  OnRead-loaded reads bytes k f p = subst At (sym reads) (at input k)
     where
-      all : (c : Option Files) → IfSome c (λ held. first_refusal limits held (take 0 (file ∷ [])) ≡ None)
-      all None = tt
-      all (Some held) = first_refusal-none limits held
+      at : (i : Option (List ℕ)) → IfSome i (λ all. (bytes ≡ all) × (length all ≤ limits.bytes)) → IfSome i (λ all. Q (input_refusal true limits all) (task.writes limits relations all))
+      at None k = tt
+      at (Some all) k =
+          subst (λ (b : Bool). Q (cond b (Some (input_name, 0, Bytes)) None) (task.writes limits relations all)) (sym (le-ltb limits.bytes (length all) k.1))
+          (subst (λ (xs : List ℕ). Q None (task.writes limits relations xs)) k.0 (f None (task.writes limits relations bytes) p))
 
-  -- a call on the input failed
-  pub input_fault : (o : Outcome) (input : Option (List ℕ)) (text : List ℕ → List ℕ) (held now : Option (List ℕ)) (faults faults' before after : ℕ)
-      → Answered o limits input text held now faults faults' → IfReadFault o (λ name. Rose before after)
-      → IfSome content (λ held. first_refusal limits held (file ∷ []) ≡ None) → SameFaults count last old new
-      → IfReadFault o (λ name. IsFileFault limits content (Session options file) name count last old new before after ⊎ IsInputFault limits content (Session options file) name count last old new before after)
-  input_fault Done input text held now faults faults' before after a r k s = tt
-  input_fault Usage input text held now faults faults' before after a r k s = tt
-  input_fault (Refused name rec why) input text held now faults faults' before after a r k s = tt
-  input_fault (ReadFault name) input text held now faults faults' before after a r k s = inr (record { reads = tt; name = a.0; accepted = k; shelf = s; input = r })
-  input_fault WriteFault input text held now faults faults' before after a r k s = tt
-  input_fault NoMemory input text held now faults faults' before after a r k s = tt
+-- the input is too long
+pub OnRead-long : (task : Task) (limits : Limits) (relations : List Content) (input : Option (List ℕ)) → task.reads_input ≡ true → IfSome input (λ all. limits.bytes < length all)
+    → OnRead task limits relations input (λ r w. r ≡ Some (input_name, 0, Bytes))
+OnRead-long task limits relations input reads k =
+    subst (λ (b : Bool). OnInput b input (λ bytes. input_refusal b limits bytes ≡ Some (input_name, 0, Bytes))) (sym reads) (at input k)
+  where
+    at : (i : Option (List ℕ)) → IfSome i (λ all. limits.bytes < length all) → IfSome i (λ all. input_refusal true limits all ≡ Some (input_name, 0, Bytes))
+    at None k = tt
+    at (Some all) k = ap (λ (b : Bool). cond b (Some (input_name, 0, Bytes)) None) (lt-ltb limits.bytes (length all) k)
 
--- ---- a session's text that was written, and its input that was too long or failed
-pub Answered-written : (o : Outcome) (limits : Limits) (input : Option (List ℕ)) (text : List ℕ → List ℕ) (bytes : List ℕ) (before now : Option (List ℕ)) (faults faults' : ℕ)
-    → IfSome input (λ all. (bytes ≡ all) × (length all ≤ limits.bytes)) → WritesText o (text bytes) before now faults faults' → Answered o limits input text before now faults faults'
-Answered-written Done limits None text bytes before now faults faults' k w = (k, w.1)
-Answered-written Done limits (Some all) text bytes before now faults faults' k w = ((k.1, subst (λ b. Gains before now (text b)) k.0 w.0), w.1)
-Answered-written Usage limits input text bytes before now faults faults' k w = w
-Answered-written (Refused file rec why) limits input text bytes before now faults faults' k w = absurd w
-Answered-written (ReadFault file) limits input text bytes before now faults faults' k w = absurd w
-Answered-written WriteFault limits None text bytes before now faults faults' k w = (k, w.1)
-Answered-written WriteFault limits (Some all) text bytes before now faults faults' k w = ((k.1, (w.0.0, subst (λ b. Gains before now (take w.0.0 (text b))) k.0 w.0.1)), w.1)
-Answered-written NoMemory limits input text bytes before now faults faults' k w = w
+-- ---- shelves
+module _ {S : Type 0} (faults : S → ℕ) (last : S → Option (List ℕ)) (a b new : S) (from : SameFaults faults last a b) where
+  pub same_from : SameFaults faults last b new → SameFaults faults last a new
+  same_from s = record { count = s.count ∙ from.count; name_is = s.name_is ∙ from.name_is }
 
-module _ (o : Outcome) (limits : Limits) (input : Option (List ℕ)) (text : List ℕ → List ℕ) (before now : Option (List ℕ)) (faults faults' : ℕ) where
-  pub Answered-long : EndsWith o (Refused input_name 0 Bytes) (file_line input_name 0 Bytes) before now faults faults' → IfSome input (λ bytes. limits.bytes < length bytes)
-      → Answered o limits input text before now faults faults'
-  Answered-long e k =
-      ends_put o (Refused input_name 0 Bytes) (file_line input_name 0 Bytes) before now faults faults' (λ x. Answered x limits input text before now faults faults') e (λ same. same) (λ put. (k, refl, put))
+  pub rose_from : Rose (faults b) (faults new) → Rose (faults a) (faults new)
+  rose_from r = subst (λ (n : ℕ). Rose n (faults new)) from.count r
 
-  pub Answered-fault : EndsWith o (ReadFault input_name) (fault_line input_name) before now faults faults' → Answered o limits input text before now faults faults'
-  Answered-fault e =
-      ends_put o (ReadFault input_name) (fault_line input_name) before now faults faults' (λ x. Answered x limits input text before now faults faults') e (λ same. same) (λ put. (refl, put))
+  pub rose_at_from : (name : List ℕ) → RoseAt name faults last b new → RoseAt name faults last a new
+  rose_at_from name r = record { count = rose_from r.count; name_is = r.name_is }
 
--- ---- an end is this one, where no call failed
-module _ (limits : Limits) (files : Files) (bytes : List ℕ) (content : Option Files) (input : Option (List ℕ)) (told : content ≡ Some files) where
-  at_refusal : (request : Request) (r : Option (List ℕ × ℕ × Why)) → IsInput request input bytes → OnSources request content input (λ held all. refusal request limits held all ≡ r) → refusal request limits files bytes ≡ r
-  at_refusal (Profile options names) r i k = subst (λ c. IfSome c (λ held. refusal (Profile options names) limits held [] ≡ r)) told k
-  at_refusal (Session options file) r i k =
-      subst (λ l. IfSome l (λ all. refusal (Session options file) limits files all ≡ r)) i (subst (λ c. IfSome c (λ held. IfSome input (λ all. refusal (Session options file) limits held all ≡ r))) told k)
+-- ---- the same run, seen from before what was read, and of what is known then
+module _ {S : Type 0} (before now : Option (List ℕ)) (sink sink' : ℕ) (faults : S → ℕ) (last : S → Option (List ℕ)) (a b new : S) (from : SameFaults faults last a b) where
+  unwritten_from : (content content' : Option Files) → IsUnwritten content content' faults last b new → IsUnwritten content content' faults last a new
+  unwritten_from content content' u = record { files = u.files; shelf = same_from faults last a b new from u.shelf }
 
-  at_accepted : (request : Request) (Q : Files → List ℕ → Type 0) → IsInput request input bytes → OnSources request content input (λ held all. (refusal request limits held all ≡ None) × Q held all)
-      → refusal request limits files bytes ≡ None
-  at_accepted (Profile options names) Q i k = (subst (λ c. IfSome c (λ held. (refusal (Profile options names) limits held [] ≡ None) × Q held [])) told k).0
-  at_accepted (Session options file) Q i k =
-      (subst (λ l. IfSome l (λ all. (refusal (Session options file) limits files all ≡ None) × Q files all)) i
-      (subst (λ c. IfSome c (λ held. IfSome input (λ all. (refusal (Session options file) limits held all ≡ None) × Q held all))) told k)).0
+  stops_from : (w : Written) (content content' : Option Files)
+      → StopsAtFile w content content' before now sink sink' faults last b new ⊎ StopsAtSink w content content' before now sink sink' faults last b new
+      → StopsAtFile w content content' before now sink sink' faults last a new ⊎ StopsAtSink w content content' before now sink sink' faults last a new
+  stops_from w content content' (inl s) = inl (record {
+    file = record { place = s.file.place; within = s.file.within; shelf = rose_at_from faults last a b new from _ s.file.shelf; files_are = s.file.files_are };
+    text = s.text;
+    sink_count = s.sink_count;
+  })
+  stops_from w content content' (inr s) = inr (record { files = s.files; shelf = same_from faults last a b new from s.shelf; count = s.count; text = s.text; sink_count = s.sink_count })
 
-  module _ {S : Type 0} (request : Request) (before now : Option (List ℕ)) (faults faults' : ℕ) (count : S → ℕ) (last : S → Option (List ℕ)) (old new : S) (read read' : ℕ) (given : IsInput request input bytes) where
-    abbrev Faulted : Outcome → Type 0
-    Faulted o = IfReadFault o (λ file. IsFileFault limits content request file count last old new read read' ⊎ IsInputFault limits content request file count last old new read read')
+  rose_either : Rose sink sink' ⊎ Rose (faults b) (faults new) → Rose sink sink' ⊎ Rose (faults a) (faults new)
+  rose_either (inl r) = inl r
+  rose_either (inr r) = inr (rose_from faults last a b new from r)
 
-    pub complete : (o : Outcome) → Runs o request limits content input before now faults faults' → Faulted o → refusal request limits files bytes ≡ None
-        → ((file : List ℕ) → RoseAt file count last old new → ⊥) → (ReadsInput request → Rose read read' → ⊥) → (Rose faults faults' → ⊥) → IsDoneOrNoMemory o
-    complete Done r f none shelf from sink = tt
-    complete Usage r f none shelf from sink = absurd r
-    complete (Refused file rec why) r f none shelf from sink = absurd (none_is_some (file, rec, why) (sym none ∙ at_refusal request (Some (file, rec, why)) given r.0))
-    complete (ReadFault file) r (inl x) none shelf from sink = absurd (shelf file x.shelf)
-    complete (ReadFault file) r (inr x) none shelf from sink = absurd (from x.reads x.input)
-    complete WriteFault r f none shelf from sink = absurd (sink r.1)
-    complete NoMemory r f none shelf from sink = tt
+  pub Runs-from : (M N : Fact → Type 0) → ((P Q : Fact) → ((r : Refusal) (w : Written) → P r w → Q r w) → M P → N Q) → (content content' : Option Files) (o : Outcome)
+      → Runs M o content content' before now sink sink' faults last b new → Runs N o content content' before now sink sink' faults last a new
+  Runs-from M N f content content' Done r = (f _ _ (λ x w p. p) r.0, r.1, same_from faults last a b new from r.2)
+  Runs-from M N f content content' Usage r = r
+  Runs-from M N f content content' (Refused file rec why) r = (f _ _ (λ x w p. p) r.0, r.1, unwritten_from content content' r.2)
+  Runs-from M N f content content' (ReadFault file) r = (r.0, unwritten_from content content' r.1)
+  Runs-from M N f content content' WriteFault r = (f _ _ (λ x w p. (p.0, stops_from w content content' p.1)) r.0, rose_either r.1)
+  Runs-from M N f content content' NoMemory r = (r.0, r.1, unwritten_from content content' r.2)
 
-    pub not_accepted : (o : Outcome) (file : List ℕ) (rec : ℕ) (why : Why) → Runs o request limits content input before now faults faults' → Faulted o → refusal request limits files bytes ≡ Some (file, rec, why)
-        → ((name : List ℕ) → RoseAt name count last old new → ⊥) → (first_refusal limits files (files_of request) ≡ None → Rose read read' → ⊥) → IsRefusedOrNoMemory o
-    not_accepted Done file rec why r f some shelf from = absurd (none_is_some (file, rec, why) (sym (at_accepted request (λ held all. Gains before now (output_text request limits held all)) given r.0) ∙ some))
-    not_accepted Usage file rec why r f some shelf from = absurd r
-    not_accepted (Refused name n y) file rec why r f some shelf from = tt
-    not_accepted (ReadFault name) file rec why r (inl x) some shelf from = absurd (shelf name x.shelf)
-    not_accepted (ReadFault name) file rec why r (inr x) some shelf from =
-        absurd (from (subst (λ c. IfSome c (λ held. first_refusal limits held (files_of request) ≡ None)) told x.accepted) x.input)
-    not_accepted WriteFault file rec why r f some shelf from =
-        absurd (none_is_some (file, rec, why) (sym (at_accepted request (λ held all. (n : ℕ) × Gains before now (take n (output_text request limits held all))) given r.0) ∙ some))
-    not_accepted NoMemory file rec why r f some shelf from = tt
+-- ---- a run that ends with a line, as a run
+module _ {S : Type 0} (M : Fact → Type 0) (o : Outcome) (content content' : Option Files) (before now : Option (List ℕ)) (sink sink' : ℕ) (faults : S → ℕ) (last : S → Option (List ℕ)) (old new : S)
+    (unwritten : IsUnwritten content content' faults last old new) where
+  pub Runs-refused : (file : List ℕ) (rec : ℕ) (why : Why) → EndsWith o (Refused file rec why) (file_line file rec why) before now sink sink'
+      → M (λ r w. r ≡ Some (file, rec, why)) → Runs M o content content' before now sink sink' faults last old new
+  Runs-refused file rec why e known =
+      ends_put o (Refused file rec why) (file_line file rec why) before now sink sink' (λ x. Runs M x content content' before now sink sink' faults last old new) e
+      (λ nothing. (nothing.0, nothing.1, unwritten)) (λ put. (known, put, unwritten))
+
+  pub Runs-fault : (file : List ℕ) → EndsWith o (ReadFault file) (fault_line file) before now sink sink' → Runs M o content content' before now sink sink' faults last old new
+  Runs-fault file e =
+      ends_put o (ReadFault file) (fault_line file) before now sink sink' (λ x. Runs M x content content' before now sink sink' faults last old new) e
+      (λ nothing. (nothing.0, nothing.1, unwritten)) (λ put. (put, unwritten))
+
+-- ---- no files
+option_map-with_none : (content : Option Files) → option_map (with_files []) content ≡ content
+unfolding with_files
+option_map-with_none None = refl
+option_map-with_none (Some held) = refl
+
+module _ {S : Type 0} (content content' : Option Files) (before now : Option (List ℕ)) (sink sink' : ℕ) (faults : S → ℕ) (last : S → Option (List ℕ)) (old new : S) where
+  pub no_files : (w : Written) (o : Outcome) → w.files ≡ [] → Runs (OnMade w) o content content' before now sink sink' faults last old new → IsUnwritten content content' faults last old new
+  no_files w Done none r = record { files = r.0.1.files ∙ ap (λ files. option_map (with_files files) content) none ∙ option_map-with_none content; shelf = r.2 }
+  no_files w Usage none r = absurd r
+  no_files w (Refused file rec why) none r = r.2
+  no_files w (ReadFault file) none r = r.1
+  no_files w WriteFault none r = at r.0.1
+    where
+      at : StopsAtFile w content content' before now sink sink' faults last old new ⊎ StopsAtSink w content content' before now sink sink' faults last old new → IsUnwritten content content' faults last old new
+      at (inl s) = let within = s.file.within in let long : length w.files ≡ 0 = ap length none in absurd (omega arith)
+      at (inr s) = record { files = s.files ∙ ap (λ files. option_map (with_files files) content) none ∙ option_map-with_none content; shelf = s.shelf }
+  no_files w NoMemory none r = r.2
+
+-- ---- the output of a run
+output_of : (words : List Text) (request : Request) (limits : Limits) (held : Files) (input : List ℕ) → command words ≡ Some request
+    → output words limits held input ≡ judged (refusal (task_of request) limits held input) (written (task_of request) limits held input)
+unfolding output
+output_of words request limits held input e = ap (λ c. asked c limits held input) e
+
+pub accepted_output : (words : List Text) (request : Request) (limits : Limits) (held : Files) (input : List ℕ) → command words ≡ Some request → refusal (task_of request) limits held input ≡ None
+    → output words limits held input ≡ record { status = 0; written = written (task_of request) limits held input }
+accepted_output words request limits held input e none = output_of words request limits held input e ∙ ap (λ r. judged r (written (task_of request) limits held input)) none
+
+module _ (words : List Text) (request : Request) (limits : Limits) (content : Option Files) (input : Option (List ℕ)) (is : command words ≡ Some request) where
+  abbrev task : Task
+  task = task_of request
+
+  OnTold-map : (P : Written → Type 0) → OnTold task limits content input (λ r w. (r ≡ None) × P w)
+      → OnSources task content input (λ files bytes. ((output words limits files bytes).status ≡ 0) × P (output words limits files bytes).written)
+  OnTold-map P k = at content k
+    where
+      at : (c : Option Files) → IfSome c (λ held. OnInput task.reads_input input (λ bytes. (refusal task limits held bytes ≡ None) × P (written task limits held bytes)))
+          → IfSome c (λ held. OnInput task.reads_input input (λ bytes. ((output words limits held bytes).status ≡ 0) × P (output words limits held bytes).written))
+      at None k = tt
+      at (Some held) k =
+          OnInput-map task.reads_input input (λ bytes. (refusal task limits held bytes ≡ None) × P (written task limits held bytes))
+          (λ bytes. ((output words limits held bytes).status ≡ 0) × P (output words limits held bytes).written)
+          (λ bytes p.
+          subst (λ o. (o.status ≡ 0) × P o.written) (sym (accepted_output words request limits held bytes is p.0)) (refl, p.1)) k
+
+  module _ {S : Type 0} (content' : Option Files) (before now : Option (List ℕ)) (sink sink' : ℕ) (faults : S → ℕ) (last : S → Option (List ℕ)) (old new : S) where
+    abbrev Ran : Outcome → Type 0
+    Ran o = Runs (OnTold task limits content input) o content content' before now sink sink' faults last old new
+
+    pub done : (o : Outcome) → Ran o → OnDone o (OnSources task content input (λ files bytes. ((output words limits files bytes).status ≡ 0) × IsWhole (output words limits files bytes).written content content' before now))
+    done Done r = OnTold-map (λ w. IsWhole w content content' before now) r.0
+    done Usage r = tt
+    done (Refused file rec why) r = tt
+    done (ReadFault file) r = tt
+    done WriteFault r = tt
+    done NoMemory r = tt
+
+    pub write_fault : (o : Outcome) → Ran o → OnWriteFault o (OnSources task content input (λ files bytes. ((output words limits files bytes).status ≡ 0)
+        × (StopsAtFile (output words limits files bytes).written content content' before now sink sink' faults last old new ⊎ StopsAtSink (output words limits files bytes).written content content' before now sink sink' faults last old new)))
+    write_fault Done r = tt
+    write_fault Usage r = tt
+    write_fault (Refused file rec why) r = tt
+    write_fault (ReadFault file) r = tt
+    write_fault WriteFault r =
+        OnTold-map (λ w. StopsAtFile w content content' before now sink sink' faults last old new ⊎ StopsAtSink w content content' before now sink sink' faults last old new) r.0
+    write_fault NoMemory r = tt
+
+    pub sinks : (o : Outcome) → Ran o → OnDone o (sink' ≡ sink) × OnDone o (SameFaults faults last old new) × OnNoMemory o (now ≡ before) × OnNoMemory o (sink' ≡ sink)
+        × OnWriteFault o (Rose sink sink' ⊎ Rose (faults old) (faults new)) × UnlessWritten o (IsUnwritten content content' faults last old new)
+    sinks Done r = (r.1, r.2, tt, tt, tt, tt)
+    sinks Usage r = absurd r
+    sinks (Refused file rec why) r = (tt, tt, tt, tt, tt, r.2)
+    sinks (ReadFault file) r = (tt, tt, tt, tt, tt, r.1)
+    sinks WriteFault r = (tt, tt, tt, tt, r.1, tt)
+    sinks NoMemory r = (tt, tt, r.0, r.1, tt, r.2)
+
+    pub lines : (o : Outcome) → Ran o → IfRefused o (λ file rec why. OnTold task limits content input (λ r w. r ≡ Some (file, rec, why))) × IfRefused o (λ file rec why. IsPut (file_line file rec why) before now sink sink')
+        × IfReadFault o (λ file. IsPut (fault_line file) before now sink sink')
+    lines Done r = (tt, tt, tt)
+    lines Usage r = absurd r
+    lines (Refused file rec why) r = (r.0, r.1, tt)
+    lines (ReadFault file) r = (tt, tt, r.0)
+    lines WriteFault r = (tt, tt, tt)
+    lines NoMemory r = (tt, tt, tt)
+
+    pub no_usage : (o : Outcome) (P : Type 0) → Ran o → OnUsage o P
+    no_usage Done P r = tt
+    no_usage Usage P r = absurd r
+    no_usage (Refused file rec why) P r = tt
+    no_usage (ReadFault file) P r = tt
+    no_usage WriteFault P r = tt
+    no_usage NoMemory P r = tt
+
+    -- ---- nothing failed
+    module _ {I : Type 0} (files : Files) (bytes : List ℕ) (told : content ≡ Some files) (given : IsInput task.reads_input input bytes) (read_faults : S → ℕ) (read_last : S → Option (List ℕ))
+        (from from' : I) (left left' : Option (List ℕ)) (count count' : ℕ) where
+      abbrev Faulted : Outcome → Type 0
+      Faulted o = IfReadFault o (λ file. IsFileFault limits content task file read_faults read_last old new from from'
+          ⊎ (AreAccepted limits content task.reads read_faults read_last old new × IsInputFault limits task.reads_input file left left' count count'))
+
+      abbrev NoFileFault : Type 0
+      NoFileFault = (place : ℕ) → place < length task.reads → RoseAt (get_or task.reads place []) read_faults read_last old new → ⊥
+
+      at_told : (P : Files → List ℕ → Type 0) → OnSources task content input P → P files bytes
+      at_told P k = at task.reads_input given (subst (λ c. IfSome c (λ held. OnInput task.reads_input input (P held))) told k)
+        where
+          at : (reads : Bool) → IsInput reads input bytes → OnInput reads input (P files) → P files bytes
+          at true g k = subst (λ i. IfSome i (P files)) g k
+          at false g k = subst (P files) (sym g) k
+
+      no_file : (file : List ℕ) → NoFileFault → IsFileFault limits content task file read_faults read_last old new from from' → ⊥
+      no_file file shelf x = shelf x.reached.place x.reached.within (record { count = x.shelf.count; name_is = x.shelf.name_is ∙ ap (λ (name : List ℕ). Some name) (sym x.reached.name) })
+
+      pub complete : (o : Outcome) → Ran o → Faulted o → refusal task limits files bytes ≡ None → NoFileFault → (task.reads_input ≡ true → Rose count count' → ⊥)
+          → ((place : ℕ) → place < length (output words limits files bytes).written.files → RoseAt (file_at (output words limits files bytes).written.files place).0 faults last old new → ⊥)
+          → (Rose sink sink' → ⊥) → IsDoneOrNoMemory o
+      complete Done r f none shelf input_fault writes sink_fault = tt
+      complete Usage r f none shelf input_fault writes sink_fault = absurd r
+      complete (Refused file rec why) r f none shelf input_fault writes sink_fault = absurd (none_is_some (file, rec, why) (sym none ∙ at_told (λ held all. refusal task limits held all ≡ Some (file, rec, why)) r.0))
+      complete (ReadFault file) r (inl x) none shelf input_fault writes sink_fault = absurd (no_file file shelf x)
+      complete (ReadFault file) r (inr x) none shelf input_fault writes sink_fault = absurd (input_fault x.1.reads_input x.1.rose)
+      complete WriteFault r f none shelf input_fault writes sink_fault = absurd (at (at_told Stopped r.0).1)
+        where
+          Stopped : Files → List ℕ → Type 0
+          Stopped held all = (refusal task limits held all ≡ None)
+              × (StopsAtFile (written task limits held all) content content' before now sink sink' faults last old new ⊎ StopsAtSink (written task limits held all) content content' before now sink sink' faults last old new)
+
+          made : Written
+          made = written task limits files bytes
+
+          at : StopsAtFile made content content' before now sink sink' faults last old new ⊎ StopsAtSink made content content' before now sink sink' faults last old new → ⊥
+          at (inl s) =
+              let o = accepted_output words request limits files bytes is none in
+              writes s.file.place (subst (λ (w : Written). s.file.place < length w.files) (ap (λ x. x.written) (sym o)) s.file.within)
+              (subst (λ (w : Written). RoseAt (file_at w.files s.file.place).0 faults last old new) (ap (λ x. x.written) (sym o)) s.file.shelf)
+          at (inr s) = sink_fault s.sink_count
+      complete NoMemory r f none shelf input_fault writes sink_fault = tt
+
+      pub not_accepted : (o : Outcome) (file : List ℕ) (rec : ℕ) (why : Why) → Ran o → Faulted o → refusal task limits files bytes ≡ Some (file, rec, why) → NoFileFault
+          → (first_refusal limits files task.reads ≡ None → Rose count count' → ⊥) → IsRefusedOrNoMemory o
+      not_accepted Done file rec why r f some shelf input_fault =
+          absurd (none_is_some (file, rec, why) (sym (at_told (λ held all. (refusal task limits held all ≡ None) × IsWhole (written task limits held all) content content' before now) r.0).0 ∙ some))
+      not_accepted Usage file rec why r f some shelf input_fault = absurd r
+      not_accepted (Refused name n y) file rec why r f some shelf input_fault = tt
+      not_accepted (ReadFault name) file rec why r (inl x) some shelf input_fault = absurd (no_file name shelf x)
+      not_accepted (ReadFault name) file rec why r (inr x) some shelf input_fault =
+          absurd (input_fault (subst (λ c. IfSome c (λ held. first_refusal limits held task.reads ≡ None)) told x.0.accepted) x.1.rose)
+      not_accepted WriteFault file rec why r f some shelf input_fault =
+          absurd (none_is_some (file, rec, why) (sym (at_told (λ held all. (refusal task limits held all ≡ None)
+          × (StopsAtFile (written task limits held all) content content' before now sink sink' faults last old new ⊎ StopsAtSink (written task limits held all) content content' before now sink sink' faults last old new)) r.0).0 ∙ some))
+      not_accepted NoMemory file rec why r f some shelf input_fault = tt

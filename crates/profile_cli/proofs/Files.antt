@@ -9,7 +9,7 @@ use Rattle.rel_base.specs.Relation.{Content}
 use Rattle.ports.specs.Files.{Files, bytes_of}
 use Rattle.csv_load.specs.Records.{records_of}
 use Rattle.csv_load.specs.Refusal.{refused_records, refused_file}
-use Rattle.profile_cli.specs.Output.{content_of, file_content, or_else, named, first_refusal}
+use Rattle.profile_cli.specs.Contents.{content_of, file_content, or_else, named, first_refusal}
 
 -- ---- one file
 accepted : (limits : Limits) (bytes : List ℕ) → length bytes ≤ limits.bytes → refused_file limits bytes ≡ refused_records limits (records_of bytes)

@@ -14,7 +14,7 @@ use Rattle.clap.proofs.WalkLemmas.{first_value-rows, one_text-rows, raw_values-r
 use Rattle.clap.specs.ValueTests.{is_unsigned_in}
 use Rattle.clap.specs.declared.builder.value_parser.ValueParser.TheVariants as vp
 use Rattle.clap.proofs.ValueTestLemmas.{Accepts-accepts, accepts-Accepts}
-use Rattle.profile_cli.specs.Command.{file_of, files_of, nulls_of, number_or, workers_of}
+use Rattle.profile_cli.specs.Command.{file_of, files_of, nulls_of, number_or, prefix_of, seed_of, seed_or_zero, workers_of}
 
 -- the text of a reference, or another
 text_or : (o : Option (Bor Text)) (d : Bor Text) → (unwrap_or o d).now ≡ unwrap_or (option_map (λ s. s.now) o) d.now
@@ -64,3 +64,37 @@ workers_of-number {E} G f r parses none value = go (one_text f (codes "workers")
     go : (o : Option Text) → one_text f (codes "workers") ≡ o → unwrap_or r 4 ≡ option_map_or (number_or 4) (one_text f (codes "workers")) 4
     go None e = ap (λ (x : Option ℕ). unwrap_or x 4) (none e) ∙ sym (ap (λ (o : Option Text). option_map_or (number_or 4) o 4) e)
     go (Some t) e = read t r (value t e) ∙ sym (ap (λ (o : Option Text). option_map_or (number_or 4) o 4) e)
+
+pub prefix_of-word : (f : Found) (o : Option (Bor Text)) (word d : Bor Text) → option_map (λ s. s.now) o ≡ first_value f (codes "out") → word ≡ unwrap_or o d → d.now ≡ []
+    → word.now ≡ prefix_of (rows_of f)
+prefix_of-word f o word d found same default_word =
+    ap (λ (s : Bor Text). s.now) same ∙ text_or o d ∙ (λ i. unwrap_or ((found ∙ first_value-rows f (codes "out")) i) (default_word i))
+
+-- a seed that was parsed, or 0
+parsed_seed : {E : Type 0} (text : Text) (r : Result ℕ E) → ParsesUnsigned 32 10 text r → result_unwrap_or r 0 ≡ seed_or_zero text
+parsed_seed text (Ok n) h =
+    let numeral = h.0.0 in
+    let small : digits_value 10 (without_leading_plus text) < 4294967296 = h.0.1 in
+    let passes : is_unsigned_in 0 4294967295 text ≡ true = Accepts-accepts false (vp.Unsigned 0 4294967295) text (numeral, omega arith, omega arith, omega arith) in
+    rw passes h.1
+parsed_seed {E} text (Err e) h = go (is_unsigned_in 0 4294967295 text) refl
+  where
+    go : (b : Bool) → is_unsigned_in 0 4294967295 text ≡ b → 0 ≡ cond (is_unsigned_in 0 4294967295 text) (digits_value 10 (without_leading_plus text)) 0
+    go true e =
+        let passes = accepts-Accepts false (vp.Unsigned 0 4294967295) text e in
+        let most = passes.3 in
+        absurd (h (passes.0, omega arith))
+    go false e = rw e refl
+
+pub seed_of-number : {E : Type 0} (G : List ℕ → Result ℕ E → Type 0) (f : Found) (r : Option ℕ) → ((t : Text) (x : Result ℕ E) → G t x → ParsesUnsigned 32 10 t x)
+    → (one_text f (codes "seed") ≡ None → r ≡ None) → ((t : Text) → one_text f (codes "seed") ≡ Some t → ReadsOne G t r) → unwrap_or r 0 ≡ seed_of (rows_of f)
+seed_of-number {E} G f r parses none value = go (one_text f (codes "seed")) refl
+    ∙ ap (λ (o : Option Text). option_map_or seed_or_zero o 0) (one_text-rows f (codes "seed"))
+  where
+    read : (t : Text) (o : Option ℕ) → ReadsOne G t o → unwrap_or o 0 ≡ seed_or_zero t
+    read t (Some n) h = parsed_seed {E = E} t (Ok n) (parses t (Ok n) h)
+    read t None h = parsed_seed {E = E} t (Err h.0) (parses t (Err h.0) h.1)
+
+    go : (o : Option Text) → one_text f (codes "seed") ≡ o → unwrap_or r 0 ≡ option_map_or seed_or_zero (one_text f (codes "seed")) 0
+    go None e = ap (λ (x : Option ℕ). unwrap_or x 0) (none e) ∙ sym (ap (λ (o : Option Text). option_map_or seed_or_zero o 0) e)
+    go (Some t) e = read t r (value t e) ∙ sym (ap (λ (o : Option Text). option_map_or seed_or_zero o 0) e)

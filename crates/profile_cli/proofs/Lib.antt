@@ -2,9 +2,15 @@ pub mod Files
 pub mod Inclusions
 pub mod Texts
 pub mod Ends
-pub mod Answering
+pub mod SessionAnswers
 pub mod Workers
 pub mod Found
 pub mod Parse
 pub mod Bare
 pub mod TheApp
+pub mod Tasks
+pub mod Storing
+pub mod RowParts
+pub mod Witnessed
+pub mod Tables
+pub mod Drawn

@@ -18,7 +18,7 @@ use Rattle.clap.specs.declared.error.kind.ErrorKind.TheVariants.{OutOfMemory}
 use Rattle.std.proofs.lemmas.Slice.Eq.{bytes_eq-Decides}
 use Rattle.profile_cli.specs.declared.request.Request.{Request}
 use Rattle.profile_cli.specs.Words.{IsTheApp, app_with, behind, the_app}
-use Rattle.profile_cli.specs.Command.{command, profile_request, request_of, session_request}
+use Rattle.profile_cli.specs.Command.{command, demo_request, normalize_request, profile_request, request_of, session_request}
 use Rattle.profile_cli.proofs.Bare.{bare_words, entered-bare, entered_fault-bare}
 
 -- ---- the command, wherever the words of its options stand
@@ -87,21 +87,21 @@ module _ {Z : Type 0} where
       ap (λ (n : Text). request_of (n, rows_of (found_of (out-SubCommand (box_value b)).matches))) is
       ∙ by (rows_of (found_of (out-SubCommand (box_value b)).matches)) ∙ ap (λ (rs : List Row). Some (make rs)) same
 
-  request_elsewhere : (x : Option (Box SubCommand Z)) → (name_in x ≡ Some (codes "profile") → ⊥) → (name_in x ≡ Some (codes "session") → ⊥) → option_and_then request_of (subcommand_rows x) ≡ None
-  request_elsewhere None profile session = refl
-  request_elsewhere (Some b) profile session = go (bytes_eq n (codes "profile")) (bytes_eq n (codes "session")) refl refl
+  request_elsewhere : (x : Option (Box SubCommand Z)) → (name_in x ≡ Some (codes "profile") → ⊥) → (name_in x ≡ Some (codes "session") → ⊥) → (name_in x ≡ Some (codes "normalize") → ⊥)
+      → (name_in x ≡ Some (codes "demo") → ⊥) → option_and_then request_of (subcommand_rows x) ≡ None
+  request_elsewhere None profile session normalize demo = refl
+  request_elsewhere (Some b) profile session normalize demo =
+      rw (other (codes "profile") profile, other (codes "session") session, other (codes "normalize") normalize, other (codes "demo") demo) refl
     where
       n : Text
       n = (out-SubCommand (box_value b)).name.now
 
-      rows : List Row
-      rows = rows_of (found_of (out-SubCommand (box_value b)).matches)
-
-      go : (t u : Bool) → bytes_eq n (codes "profile") ≡ t → bytes_eq n (codes "session") ≡ u
-          → cond (bytes_eq n (codes "profile")) (Some (profile_request rows)) (cond (bytes_eq n (codes "session")) (Some (session_request rows)) None) ≡ None
-      go true u e f = absurd (profile (ap (λ (m : Text). Some m) ((bytes_eq-Decides n (codes "profile")).0 e)))
-      go false true e f = absurd (session (ap (λ (m : Text). Some m) ((bytes_eq-Decides n (codes "session")).0 f)))
-      go false false e f = rw (e, f) refl
+      other : (name : Text) → (Some n ≡ Some name → ⊥) → bytes_eq n name ≡ false
+      other name differs = go (bytes_eq n name) refl
+        where
+          go : (t : Bool) → bytes_eq n name ≡ t → bytes_eq n name ≡ false
+          go true e = absurd (differs (ap (λ (m : Text). Some m) ((bytes_eq-Decides n name).0 e)))
+          go false e = e
 
 -- a parse that entered one of the subcommands
 module _ (a : App) (words : List Text) (m : ArgMatches) (is : IsTheApp a) (none : fault_of a words ≡ []) (met : subcommand_rows_of m ≡ subcommand_of a words) where
@@ -119,11 +119,20 @@ module _ (a : App) (words : List Text) (m : ArgMatches) (is : IsTheApp a) (none 
       → Some (session_request rows) ≡ command words
   command-session rows named found = command-named session_request (codes "session") (λ rs. refl) rows named found
 
-  -- a parse that entered neither
-  pub command-other : (subcommand_name_of m ≡ Some (codes "profile") → ⊥) → (subcommand_name_of m ≡ Some (codes "session") → ⊥) → None ≡ command words
-  command-other profile session =
+  pub command-normalize : (rows : List Row) → subcommand_name_of m ≡ Some (codes "normalize") → option_map (λ p. p.1) (subcommand_rows (out-ArgMatches m).subcommand) ≡ Some rows
+      → Some (normalize_request rows) ≡ command words
+  command-normalize rows named found = command-named normalize_request (codes "normalize") (λ rs. refl) rows named found
+
+  pub command-demo : (rows : List Row) → subcommand_name_of m ≡ Some (codes "demo") → option_map (λ p. p.1) (subcommand_rows (out-ArgMatches m).subcommand) ≡ Some rows
+      → Some (demo_request rows) ≡ command words
+  command-demo rows named found = command-named demo_request (codes "demo") (λ rs. refl) rows named found
+
+  -- a parse that entered none of them
+  pub command-other : (subcommand_name_of m ≡ Some (codes "profile") → ⊥) → (subcommand_name_of m ≡ Some (codes "session") → ⊥) → (subcommand_name_of m ≡ Some (codes "normalize") → ⊥)
+      → (subcommand_name_of m ≡ Some (codes "demo") → ⊥) → None ≡ command words
+  command-other profile session normalize demo =
       sym (command-found words (subcommand_rows_of m) None (sym (fault_of-app a words is) ∙ none) (sym (subcommand_of-app a words is) ∙ sym met)
-      (request_elsewhere (out-ArgMatches m).subcommand profile session))
+      (request_elsewhere (out-ArgMatches m).subcommand profile session normalize demo))
 
 -- a parse that failed, and not for memory
 pub command-none : (a : App) (words : List Text) (k : ErrorKind) → IsTheApp a → (k ≡ OutOfMemory) ⊎ IsAmong k (fault_of a words) → (k ≡ OutOfMemory → ⊥) → None ≡ command words

@@ -1,21 +1,16 @@
 -- The text of several reports, and what a run of `profile` comes to.
-use Rattle.std.proofs.Common.{◌≡◌, ℕ, zero, suc, ◌+◌, ◌<◌, refl, sym, ap, ap₂, ◌∙◌, ◌≤◌, subst, arith, List, [], ◌∷◌, ◌++◌, length, get_or, take, map, append-nil, Option, Some, None, Result, Ok, Err, false, cond}
+use Rattle.std.proofs.Common.{◌≡◌, ℕ, zero, suc, ◌+◌, ◌<◌, refl, sym, ap, ap₂, ◌∙◌, ◌≤◌, subst, arith, List, [], ◌∷◌, ◌++◌, length, get_or, take, append-nil, Option, Some, None, Result, Ok, Err, false, cond}
 use Rattle.std.specs.Prelude.{OnOk, IfOk, IfSome, is_ok, is_err}
 use Rattle.std.proofs.lemmas.Bool.{false≢true}
 use Rattle.std.specs.List.{flat_map, zip}
 use Rattle.std.proofs.lemmas.List.{take_more}
 use Rattle.std.proofs.lemmas.List.Concat.{flat_map-append}
-use Rattle.rel_base.specs.declared.nulls.Nulls.{Nulls}
-use Rattle.rel_base.specs.declared.limits.Limits.{Limits}
 use Rattle.rel_base.specs.Cells.{Cell, Row}
-use Rattle.rel_base.specs.Relation.{Content}
-use Rattle.rel_base.specs.RowState.{RowState, opened}
+use Rattle.rel_base.specs.RowState.{RowState}
 use Rattle.rel_base.specs.Covers.{CoverLists, covers}
 use Rattle.report_text.specs.Report.{report_text}
 use Rattle.ports.specs.Faults.{SameFaults}
-use Rattle.ports.specs.Files.{Files, bytes_of}
 use Rattle.profile_cli.specs.Columns.{AreColumnsOf}
-use Rattle.profile_cli.specs.Output.{file_content, file_state}
 use Rattle.profile_cli.specs.Reports.{report_of, inclusion_lines, reports}
 use Rattle.profile_cli.proofs.Files.{take_whole}
 
@@ -82,17 +77,6 @@ pub reports-whole : (names : List (List ℕ)) (states : List RowState) (text who
     → whole ≡ reports names states
 unfolding reports
 reports-whole names states text whole is more = more ∙ ap (λ (t : List ℕ). t ++ inclusion_lines states) is
-
--- ---- relations that were read of files
-map-map : {X Y Z : Type 0} (f : Y → Z) (g : X → Y) (xs : List X) → map f (map g xs) ≡ map (λ x. f (g x)) xs
-map-map f g [] = refl
-map-map f g (x ∷ xs) = ap (λ rest. f (g x) ∷ rest) (map-map f g xs)
-
-pub reports_read : (nulls : Nulls) (limits : Limits) (held : Files) (names : List (List ℕ)) (relations : List Content) → relations ≡ map (λ name. file_content (bytes_of held name)) names
-    → reports names (map (opened nulls limits.rows) relations) ≡ reports names (map (file_state nulls limits held) names)
-reports_read nulls limits held names relations is =
-    ap (λ (rs : List Content). reports names (map (opened nulls limits.rows) rs)) is
-    ∙ ap (reports names) (map-map (opened nulls limits.rows) (λ name. file_content (bytes_of held name)) names)
 
 -- ---- facts of options and results
 module _ {T : Type 0} where

@@ -28,9 +28,9 @@ use Rattle.clap.specs.declared.error.kind.ErrorKind.TheVariants as kind
 use Rattle.clap.proofs.CallerReads.{signed_reads}
 use Rattle.clap.proofs.ValueTestLemmas.{accepts-Accepts}
 use Rattle.profile_cli.specs.declared.request.Request.{Request}
-use Rattle.profile_cli.specs.Request.{options_of}
+use Rattle.profile_cli.specs.Task.{task_of}
 use Rattle.profile_cli.specs.Words.{the_app}
-use Rattle.profile_cli.specs.Command.{command, number_or, profile_request, request_of, session_request, workers_of}
+use Rattle.profile_cli.specs.Command.{command, demo_request, normalize_request, number_or, profile_request, request_of, session_request, workers_of}
 
 -- ---- values from 1 to 16
 abbrev the_parser : ValueParser
@@ -402,7 +402,13 @@ fit_subs = (
   ((λ e. (refl, refl)), ((λ e. absurd (other_name (codes "nulls") (omega arith) e)), ((λ e. absurd (other_name (codes "files") (omega arith) e)), ((λ e. absurd (other_name (codes "help") (omega arith) e)), tt)))),
   (
     ((λ e. (refl, refl)), ((λ e. absurd (other_name (codes "nulls") (omega arith) e)), ((λ e. absurd (other_name (codes "file") (omega arith) e)), ((λ e. absurd (other_name (codes "help") (omega arith) e)), tt)))),
-    (((λ e. absurd (other_name (codes "subcommand") (omega arith) e)), tt), tt),
+    (
+      ((λ e. (refl, refl)), ((λ e. absurd (other_name (codes "out") (omega arith) e)), ((λ e. absurd (other_name (codes "file") (omega arith) e)), ((λ e. absurd (other_name (codes "help") (omega arith) e)), tt)))),
+      (
+        ((λ e. (refl, refl)), ((λ e. absurd (other_name (codes "seed") (omega arith) e)), ((λ e. absurd (other_name (codes "help") (omega arith) e)), tt))),
+        (((λ e. absurd (other_name (codes "subcommand") (omega arith) e)), tt), tt),
+      ),
+    ),
   ),
 )
 
@@ -415,25 +421,32 @@ below_good words q none is =
     entered_good b stop q fit_subs is m.0
 
 -- what a command asks for is 1 to 16 workers
-pub workers-range : (words : List Text) (request : Request) → command words ≡ Some request → (1 ≤ (options_of request).workers) × ((options_of request).workers ≤ 16)
-unfolding command
+pub workers-range : (words : List Text) (request : Request) → command words ≡ Some request → (1 ≤ (task_of request).workers) × ((task_of request).workers ≤ 16)
+unfolding command task_of
 workers-range words request is = kinds (fault_of the_app words) refl is
   where
     InRange : Request → Type 0
-    InRange r = (1 ≤ (options_of r).workers) × ((options_of r).workers ≤ 16)
+    InRange r = (1 ≤ (task_of r).workers) × ((task_of r).workers ≤ 16)
 
-    named : (q : Text × List Row) (b c : Bool) → Good q.1 → cond b (Some (profile_request q.1)) (cond c (Some (session_request q.1)) None) ≡ Some request → InRange request
-    named q true c good e =
+    named : (q : Text × List Row) (b c d e : Bool) → Good q.1
+        → cond b (Some (profile_request q.1)) (cond c (Some (session_request q.1)) (cond d (Some (normalize_request q.1)) (cond e (Some (demo_request q.1)) None))) ≡ Some request → InRange request
+    named q true c d e good is =
         let same : profile_request q.1 ≡ request = cc in
         subst InRange same (found_in_range q.1 good)
-    named q false true good e =
+    named q false true d e good is =
         let same : session_request q.1 ≡ request = cc in
         subst InRange same (found_in_range q.1 good)
-    named q false false good e = absurd (some≢none request e)
+    named q false false true e good is =
+        let same : normalize_request q.1 ≡ request = cc in
+        subst InRange same (found_in_range q.1 good)
+    named q false false false true good is =
+        let same : demo_request q.1 ≡ request = cc in
+        subst InRange same (found_in_range q.1 good)
+    named q false false false false good is = absurd (some≢none request is)
 
     met : (o : Option (Text × List Row)) → fault_of the_app words ≡ [] → subcommand_of the_app words ≡ o → option_and_then request_of o ≡ Some request → InRange request
     met None none same e = absurd (some≢none request e)
-    met (Some q) none same e = named q (bytes_eq q.0 (codes "profile")) (bytes_eq q.0 (codes "session")) (below_good words q none same) e
+    met (Some q) none same e = named q (bytes_eq q.0 (codes "profile")) (bytes_eq q.0 (codes "session")) (bytes_eq q.0 (codes "normalize")) (bytes_eq q.0 (codes "demo")) (below_good words q none same) e
 
     kinds : (ks : Kinds) → fault_of the_app words ≡ ks → cond (is_empty ks) (option_and_then request_of (subcommand_of the_app words)) None ≡ Some request → InRange request
     kinds [] none e = met (subcommand_of the_app words) none refl e

@@ -12,7 +12,7 @@ use Rattle.clap.specs.ValueTests.{is_unsigned_in}
 use Rattle.clap.specs.Faults.{fault_of}
 use Rattle.profile_cli.specs.declared.request.Options.{Options}
 use Rattle.profile_cli.specs.declared.request.Request.{Request}
-use Rattle.profile_cli.specs.declared.request.Request.TheVariants.{Profile, Session}
+use Rattle.profile_cli.specs.declared.request.Request.TheVariants.{Profile, Session, Normalize, Demo}
 use Rattle.profile_cli.specs.Words.{the_app}
 
 -- the bytes of each word
@@ -27,6 +27,14 @@ number_or other text = if is_unsigned_in 0 255 text then digits_value 10 (withou
 abbrev pub workers_of : List Row → ℕ
 workers_of rows = option_map_or (number_or 4) (one_of (codes "workers") rows) 4
 
+-- the number below 2^32 that a text says, or 0 where it says none
+abbrev pub seed_or_zero : Text → ℕ
+seed_or_zero text = if is_unsigned_in 0 4294967295 text then digits_value 10 (without_leading_plus text) else 0
+
+-- the seed
+abbrev pub seed_of : List Row → ℕ
+seed_of rows = option_map_or seed_or_zero (one_of (codes "seed") rows) 0
+
 -- how NULL is read
 abbrev pub nulls_of : List Row → Nulls
 nulls_of rows = if bytes_eq (unwrap_or (first_of (codes "nulls") rows) (codes "equal")) (codes "distinct") then Distinct else Equal
@@ -39,6 +47,10 @@ files_of rows = unwrap_or (all_of (codes "files") rows) []
 abbrev pub file_of : List Row → Text
 file_of rows = unwrap_or (first_of (codes "file") rows) []
 
+-- what the names of files begin with
+abbrev pub prefix_of : List Row → Text
+prefix_of rows = unwrap_or (first_of (codes "out") rows) []
+
 abbrev pub options_of : List Row → Options
 options_of rows = record { workers = workers_of rows; nulls = nulls_of rows }
 
@@ -50,11 +62,21 @@ profile_request rows = Profile (options_of rows) (files_of rows)
 abbrev pub session_request : List Row → Request
 session_request rows = Session (options_of rows) (file_of rows)
 
+-- what was found for the arguments of `normalize`, as a request
+abbrev pub normalize_request : List Row → Request
+normalize_request rows = Normalize (workers_of rows) (prefix_of rows) (file_of rows)
+
+-- what was found for the arguments of `demo`, as a request
+abbrev pub demo_request : List Row → Request
+demo_request rows = Demo (workers_of rows) (seed_of rows)
+
 -- the request of a subcommand, by its name
 abbrev pub request_of : Text × List Row → Option Request
 request_of p =
     if bytes_eq p.0 (codes "profile") then Some (profile_request p.1)
     else if bytes_eq p.0 (codes "session") then Some (session_request p.1)
+    else if bytes_eq p.0 (codes "normalize") then Some (normalize_request p.1)
+    else if bytes_eq p.0 (codes "demo") then Some (demo_request p.1)
     else None
 
 -- what the words ask for, where nothing is wrong with them

@@ -1,5 +1,5 @@
 -- What reading files comes to.
-use Rattle.std.specs.Prelude.{◌≡◌, ◌<◌, ℕ, Bool, true, false, List, [], length, map, take, slice_index_or, Some, None, ⊤}
+use Rattle.std.specs.Prelude.{◌≡◌, ◌<◌, ℕ, Bool, true, false, List, [], length, take, slice_index_or, Some, None, ⊤}
 use Rattle.rel_base.specs.declared.limits.Limits.{Limits}
 use Rattle.ports.specs.Files.{Files, bytes_of}
 use Rattle.csv_load.specs.Refusal.{refused_file}
@@ -7,7 +7,7 @@ use Rattle.profile_cli.specs.declared.reading.FileRead.{FileRead}
 use Rattle.profile_cli.specs.declared.reading.FileRead.TheVariants.{Read, Refused, Fault, NoMemory}
 use Rattle.profile_cli.specs.declared.reading.FilesRead.{FilesRead}
 use Rattle.profile_cli.specs.declared.reading.FilesRead.TheVariants as files
-use Rattle.profile_cli.specs.Output.{file_content, first_refusal}
+use Rattle.profile_cli.specs.Contents.{contents_of, file_content, first_refusal}
 
 -- whether a call on the file failed
 abbrev pub faulted : FileRead → Bool
@@ -45,7 +45,9 @@ IsOfFiles files.NoMemory names = ⊤
 
 -- what is known of the files
 abbrev pub UnderstandsAll : FilesRead → Limits → List (List ℕ) → Files → Type 0
-UnderstandsAll (files.Read relations) limits names held = (first_refusal limits held names ≡ None) × (relations.items ≡ map (λ name. file_content (bytes_of held name)) names)
-UnderstandsAll (files.Refused place rec why) limits names held = first_refusal limits held names ≡ Some (slice_index_or names place [], rec, why)
+UnderstandsAll (files.Read relations) limits names held = (first_refusal limits held names ≡ None) × (relations.items ≡ contents_of held names)
+UnderstandsAll (files.Refused place rec why) limits names held =
+    (first_refusal limits held (take place names) ≡ None) × (refused_file limits (bytes_of held (slice_index_or names place [])) ≡ Some (rec, why))
+    × (first_refusal limits held names ≡ Some (slice_index_or names place [], rec, why))
 UnderstandsAll (files.Fault place) limits names held = first_refusal limits held (take place names) ≡ None
 UnderstandsAll files.NoMemory limits names held = ⊤

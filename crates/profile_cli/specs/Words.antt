@@ -41,10 +41,27 @@ profile_app names = with_rule (with_rule (with_rule (new_app (codes "profile")) 
 abbrev pub session_app : Bor (List (Bor Text)) → App
 session_app names = with_rule (with_rule (with_rule (new_app (codes "session")) workers_rule) (nulls_rule names)) file_rule
 
+-- `--out PREFIX`
+abbrev pub out_rule : Rule
+out_rule = record (new_rule (codes "out")) { long = Some (codes "out"); required = true }
+
+-- a seed, from 0 to 2147483647
+abbrev pub seed_rule : Rule
+seed_rule = record (new_rule (codes "seed")) { required = true; parser = Some (parser.Signed (pos 0) (pos 2147483647)) }
+
+-- `normalize [--workers N] --out PREFIX FILE`
+abbrev pub normalize_app : App
+normalize_app = with_rule (with_rule (with_rule (new_app (codes "normalize")) workers_rule) out_rule) file_rule
+
+-- `demo [--workers N] SEED`
+abbrev pub demo_app : App
+demo_app = with_rule (with_rule (new_app (codes "demo")) workers_rule) seed_rule
+
 -- The program with its subcommands, of which one is required. The words of each one's `--nulls` may stand in another place.
 abbrev pub app_with : Bor (List (Bor Text)) → Bor (List (Bor Text)) → App
 app_with profile_names session_names =
-    let a = with_subcommand (with_subcommand (new_app (codes "depprof")) (profile_app profile_names).top) (session_app session_names).top in
+    let named = with_subcommand (with_subcommand (new_app (codes "depprof")) (profile_app profile_names).top) (session_app session_names).top in
+    let a = with_subcommand (with_subcommand named normalize_app.top) demo_app.top in
     record a { top = record a.top { subcommand_required = true } }
 
 -- the words of `--nulls`

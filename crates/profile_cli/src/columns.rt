@@ -1,5 +1,6 @@
 // The columns of relations, as they are kept to find the inclusions among them.
-ghost use Rattle.std.specs.Prelude.{◌≡◌, ◌++◌, ◌∷◌, ℕ, List, [], map, OnOk};
+ghost use Rattle.std.specs.Prelude.{◌≡◌, ◌++◌, ◌∷◌, ℕ, List, [], length, map, IfOk, OnOk};
+ghost use Rattle.rel_base.specs.Inclusion.{all_columns, inclusions};
 ghost use Rattle.rel_base.specs.Cells.{Cell};
 ghost use Rattle.rel_base.specs.RowState.{RowState};
 ghost use Rattle.profile_cli.specs.Columns.{AreColumnsOf};
@@ -43,6 +44,18 @@ impl Columns {
         }
         self.widths.push(width)?;
         Ok(())
+    }
+
+    /// How many inclusions there are among these columns.
+    pub(crate) fn count_inclusions<R: Threads + Sync>(
+        &self,
+        rt: &R,
+        alloc: Global,
+    ) -> Result<u64, AllocError>
+        ensures { IfOk result (λ count. (states : List RowState) → AreColumnsOf states self.now.widths.items self.now.cells.items
+            → count ≡ length (inclusions (all_columns states))) }
+    {
+        Ok(included(rt, alloc, &self.cells)?.len() as u64)
     }
 
     /// Adds the lines of all inclusions among these columns. Relations are numbered from 1, in the order in which they were added.

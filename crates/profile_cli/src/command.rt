@@ -3,7 +3,7 @@ ghost use Rattle.std.specs.Prelude.{◌≡◌, map, IfOk, IfSome};
 ghost use Rattle.clap.specs.Words.{found_of, rows_of};
 ghost use Rattle.profile_cli.specs.Command as words_of;
 ghost use Rattle.profile_cli.specs.Command.{texts};
-ghost use Rattle.profile_cli.specs.Request as asked;
+ghost use Rattle.profile_cli.specs.Task.{HasWorkers, task_of};
 
 use crate::request::{Names, Options, Request};
 use crate::words::depprof_words;
@@ -85,17 +85,57 @@ fn session_of(alloc: Global, found: &ArgMatches) -> Result<Request, AllocError>
     })
 }
 
+fn prefix_of(alloc: Global, found: &ArgMatches) -> Result<Name, AllocError>
+    ensures { IfOk result (λ prefix. prefix ≡ words_of.prefix_of (rows_of (found_of found.now))) }
+{
+    let word = found.get_str("out").unwrap_or("");
+    Ok(Name::of(String::from_str(alloc, word)?))
+}
+
+fn seed_of(found: &ArgMatches) -> u32
+    ensures { result ≡ words_of.seed_of (rows_of (found_of found.now)) }
+{
+    found.get_one::<u32>("seed").unwrap_or(0)
+}
+
+// What was found for the arguments of `normalize`.
+fn normalize_of(alloc: Global, found: &ArgMatches) -> Result<Request, AllocError>
+    ensures { IfOk result (λ request. request ≡ words_of.normalize_request (rows_of (found_of found.now))) }
+{
+    Ok(Request::Normalize {
+        workers: workers_of(found),
+        prefix: prefix_of(alloc, found)?,
+        file: file_of(alloc, found)?,
+    })
+}
+
+// What was found for the arguments of `demo`.
+fn demo_of(found: &ArgMatches) -> Request
+    ensures { result ≡ words_of.demo_request (rows_of (found_of found.now)) }
+{
+    Request::Demo {
+        workers: workers_of(found),
+        seed: seed_of(found),
+    }
+}
+
 /// The request that the words are, if they are one. The first word is the program's own name.
 pub(crate) fn request_of(alloc: Global, words: &[String]) -> Result<Option<Request>, AllocError>
     ensures command { IfOk result (λ found. found ≡ words_of.command (texts words.now)) }
-    ensures workers { IfOk result (λ found. IfSome found (λ request. asked.HasWorkers (asked.options_of request))) }
+    ensures workers { IfOk result (λ found. IfSome found (λ request. HasWorkers (task_of request))) }
 {
     match depprof_words(alloc)?.try_get_matches_from(words) {
         Ok(matches) => match matches.subcommand_matches("profile") {
             Some(found) => Ok(Some(profile_of(alloc, found)?)),
             None => match matches.subcommand_matches("session") {
                 Some(found) => Ok(Some(session_of(alloc, found)?)),
-                None => Ok(None),
+                None => match matches.subcommand_matches("normalize") {
+                    Some(found) => Ok(Some(normalize_of(alloc, found)?)),
+                    None => match matches.subcommand_matches("demo") {
+                        Some(found) => Ok(Some(demo_of(found))),
+                        None => Ok(None),
+                    },
+                },
             },
         },
         Err(error) => match error.kind() {

@@ -1,30 +1,16 @@
-// How a run ends: a text or a line on the sink, and the outcome that it goes with.
-ghost use Rattle.std.specs.Prelude.{◌≡◌, ℕ, List, IfOk};
+// How a run ends that has nothing else to write: a line on the sink, and the outcome that it goes with.
+ghost use Rattle.std.specs.Prelude.{◌≡◌, IfOk};
 ghost use Rattle.rel_base.specs.declared.why.Why.TheVariants.{Bytes};
 ghost use Rattle.report_text.specs.Outcome.{file_line, fault_line};
-ghost use Rattle.profile_cli.specs.Request as asked;
-ghost use Rattle.profile_cli.specs.Outcomes.{EndsWith, WritesText};
+ghost use Rattle.profile_cli.specs.Output as asked;
+ghost use Rattle.profile_cli.specs.Ends.{EndsWith};
 ghost use Rattle.profile_cli.specs.declared.outcome.Outcome.TheVariants.{Refused, ReadFault};
 
 use crate::Outcome;
-use ports::{Putting, Sink, put_all};
+use ports::{Sink, put_all};
 use rel_base::{Name, Why};
 use report_text::{fault_line, file_line};
 use std::alloc::{AllocError, Global};
-
-/// Writes the whole text of a run, which was made before its first byte is written.
-pub(crate) fn write_text<O: Sink>(made: Result<Vec<u8>, AllocError>, out: &mut O) -> Outcome
-    ensures written { (text : List ℕ) → IfOk made (λ bytes. bytes.items ≡ text) → WritesText result text (O.held out.old) (O.held out.new) (O.faults out.old) (O.faults out.new) }
-    ensures room { O.room out.new ≡ O.room out.old }
-{
-    match made {
-        Ok(text) => match put_all(out, text.as_slice()) {
-            Putting::Put => Outcome::Done,
-            Putting::Failed => Outcome::WriteFault,
-        },
-        Err(_) => Outcome::NoMemory,
-    }
-}
 
 /// Names the file that is refused. What the sink answers does not change the outcome.
 pub(crate) fn refuse<O: Sink>(alloc: Global, file: Name, rec: u64, why: Why, out: &mut O) -> Outcome

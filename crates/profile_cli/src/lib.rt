@@ -1,23 +1,28 @@
 //! The top call: words, files and input to the text that a run writes.
 #![tactic(auto)]
 
+mod answering;
 mod columns;
 mod command;
+mod demo;
 mod ending;
 pub mod laws;
+mod made;
+mod normalizing;
 mod outcome;
-mod profile_run;
+mod projecting;
 mod reading;
 mod reports;
 mod request;
 mod session;
-mod session_run;
 #[cfg(test)]
 mod tests;
 mod top_call;
 mod usage;
 mod words;
+mod writing;
 
+pub use demo::demo_relation;
 pub use outcome::Outcome;
 pub use top_call::run;
 pub use usage::usage_line;

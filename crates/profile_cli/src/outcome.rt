@@ -4,7 +4,7 @@ ghost use Rattle.std.specs.Prelude.{◌≡◌};
 use rel_base::{Name, Why};
 
 /// How a run ends.
-#[derive(Drop)]
+#[derive(Drop, PartialEq, Eq)]
 pub enum Outcome {
     /// The whole text was written.
     Done,

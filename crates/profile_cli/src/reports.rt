@@ -1,27 +1,32 @@
 // The text of a run.
 ghost use Rattle.std.specs.Prelude.{◌≡◌, ◌++◌, length, map, IfOk, OnOk};
-ghost use Rattle.rel_base.specs.RowState.{opened};
+ghost use Rattle.negative_cover.specs.Witnesses.{sets_of};
+ghost use Rattle.rel_base.specs.Covers.{covers, least_covers};
+ghost use Rattle.rel_base.specs.RowState.{opened, width};
 ghost use Rattle.profile_cli.specs.Reports.{report_of, reports};
 
 use crate::columns::Columns;
 use cover_core::Book;
-use rel_base::{Limits, Name, Nulls, Relation};
+use rel_base::{Covers, Limits, Name, Nulls, Relation};
 use report_text::Lines;
 use std::alloc::{AllocError, Global};
 use std::thread::Threads;
 
-/// Adds the report of a book's rows, whose covers it finds.
+/// Adds the report of a book's rows, and gives the covers that it found for it. The agree sets of the witnesses leave them, too.
 pub(crate) fn push_report_of(
     lines: &mut Lines,
     name: &Name,
     book: &mut Book,
-) -> Result<(), AllocError>
+) -> Result<Covers, AllocError>
     ensures text { OnOk result (lines.new ≡ lines.old ++ report_of name.now book.old.rows) }
+    ensures covers { IfOk result (λ found. found ≡ covers book.old.rows) }
+    ensures evidence { OnOk result (covers book.old.rows ≡ least_covers (width book.old.rows) (sets_of book.new.witnesses)) }
     ensures rows { book.new.rows ≡ book.old.rows }
 {
     let found = book.finish()?;
     let rows = book.rows();
-    lines.push_report(name, rows.names(), u64::from(rows.live_len()), &found)
+    lines.push_report(name, rows.names(), u64::from(rows.live_len()), &found)?;
+    Ok(found)
 }
 
 /// The reports of these relations, under these names, and then the inclusions among all their columns.

@@ -3,6 +3,7 @@ ghost use Rattle.std.specs.Prelude.{◌≡◌, ◌<◌, [], length, slice_index_
 
 use rel_base::{Name, Nulls};
 use std::marker::Model;
+use std::slice;
 
 /// What the options of a command say.
 #[derive(Clone, Copy)]
@@ -56,7 +57,62 @@ impl Names {
 #[derive(Drop)]
 pub(crate) enum Request {
     /// The reports of these files, in this order, and the inclusions among all their columns.
-    Profile { options: Options, files: Names },
+    Profile {
+        options: Options,
+        files: Names,
+    },
     /// The answers to the change text that the input is, for the relation of this file.
-    Session { options: Options, file: Name },
+    Session {
+        options: Options,
+        file: Name,
+    },
+    /// The report of this file, its tables, and a file for each table, whose name begins with the prefix.
+    Normalize {
+        workers: u8,
+        prefix: Name,
+        file: Name,
+    },
+    /// The counts of the lines that `normalize` would write for the relation that is made of this seed.
+    Demo {
+        workers: u8,
+        seed: u32,
+    },
+}
+
+// What a request has read, as the definition of its command says.
+#[tactic(auto, unfolding(crate::specs::Task::task_of))]
+impl Request {
+    ghost use Rattle.profile_cli.specs.Task.{task_of};
+
+    /// The files that it has read, in this order.
+    pub(crate) fn files(&self) -> &[Name]
+        ensures { result.now ≡ (task_of self.now).reads }
+    {
+        match self {
+            Request::Profile { files, .. } => files.as_slice(),
+            Request::Session { file, .. } => slice::from_ref(file),
+            Request::Normalize { file, .. } => slice::from_ref(file),
+            Request::Demo { .. } => &[],
+        }
+    }
+
+    /// Whether it has the input read.
+    pub(crate) fn reads_input(&self) -> bool
+        ensures { result ≡ (task_of self.now).reads_input }
+    {
+        matches!(self, Request::Session { .. })
+    }
+
+    /// The name of the file at this place among them, which takes no memory.
+    pub(crate) fn into_file(self, place: usize) -> Name
+        requires { place < length (task_of self).reads }
+        ensures { result ≡ slice_index_or (task_of self).reads place [] }
+    {
+        match self {
+            Request::Profile { files, .. } => files.into_name(place),
+            Request::Session { file, .. } => file,
+            Request::Normalize { file, .. } => file,
+            Request::Demo { .. } => unreachable!(),
+        }
+    }
 }

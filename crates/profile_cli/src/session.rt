@@ -1,6 +1,8 @@
 // The answers of a session.
 ghost use Rattle.std.specs.Prelude.{◌≡◌, ◌++◌, ◌∷◌, [], ◌<◌, ◌+◌, ◌^◌, length, IfOk, OnOk};
 ghost use Rattle.std.specs.List.{All};
+ghost use Rattle.negative_cover.specs.Witnesses.{sets_of};
+ghost use Rattle.rel_base.specs.Covers.{covers, least_covers};
 ghost use Rattle.rel_base.specs.RowState.{opened, width};
 ghost use Rattle.rel_base.specs.Batches.{after, kept_or_after};
 ghost use Rattle.rel_base.specs.Batches.{IsAsWide};
@@ -12,7 +14,7 @@ use crate::columns::Columns;
 use crate::reports::push_report_of;
 use batch_update::{Item, read_changes};
 use cover_core::{Applying, Book};
-use rel_base::{Batch, Limits, Name, Nulls, Relation};
+use rel_base::{Batch, Covers, Limits, Name, Nulls, Relation};
 use report_text::Lines;
 use std::alloc::{AllocError, Global};
 use std::thread::Threads;
@@ -72,7 +74,7 @@ fn push_answer<R: Threads + Sync>(
     match item {
         Item::Batch { no, first, batch } => push_batch(lines, book, *no as u32, *first, batch),
         Item::Bad { no, rec, why } => lines.push_refused_line(*no as u32, *rec, *why),
-        Item::Report => push_whole_report(rt, alloc, lines, name, book),
+        Item::Report => push_report_now(rt, alloc, lines, name, book),
     }
 }
 
@@ -99,7 +101,7 @@ fn push_batch(
 }
 
 // Adds the report of the rows as they are now, and the inclusions among their columns.
-fn push_whole_report<R: Threads + Sync>(
+fn push_report_now<R: Threads + Sync>(
     rt: &R,
     alloc: Global,
     lines: &mut Lines,
@@ -109,8 +111,27 @@ fn push_whole_report<R: Threads + Sync>(
     ensures text { OnOk result (lines.new ≡ lines.old ++ reports (name.now ∷ []) (book.old.rows ∷ [])) }
     ensures rows { book.new.rows ≡ book.old.rows }
 {
-    push_report_of(lines, name, book)?;
+    push_whole_report(rt, alloc, lines, name, book)?;
+    Ok(())
+}
+
+/// Does the same, and gives the covers of the rows. The agree sets of the
+/// witnesses leave them, too.
+pub(crate) fn push_whole_report<R: Threads + Sync>(
+    rt: &R,
+    alloc: Global,
+    lines: &mut Lines,
+    name: &Name,
+    book: &mut Book,
+) -> Result<Covers, AllocError>
+    ensures text { OnOk result (lines.new ≡ lines.old ++ reports (name.now ∷ []) (book.old.rows ∷ [])) }
+    ensures covers { IfOk result (λ found. found ≡ covers book.old.rows) }
+    ensures evidence { OnOk result (covers book.old.rows ≡ least_covers (width book.old.rows) (sets_of book.new.witnesses)) }
+    ensures rows { book.new.rows ≡ book.old.rows }
+{
+    let found = push_report_of(lines, name, book)?;
     let mut columns = Columns::new(alloc);
     columns.push(alloc, book.rows())?;
-    columns.push_inclusions(rt, alloc, lines)
+    columns.push_inclusions(rt, alloc, lines)?;
+    Ok(found)
 }

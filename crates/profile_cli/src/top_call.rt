@@ -1,22 +1,25 @@
 // The top call.
-ghost use Rattle.std.specs.Prelude.{◌≡◌, ◌⊎◌, ℕ, List, None, take, IsSomeAnd, Contains};
-ghost use Rattle.ports.specs.Bytes.{Gains};
+ghost use Rattle.std.specs.Prelude.{◌≡◌, ◌⊎◌, ◌<◌, ℕ, List, Some, None, true, false, [], length, slice_index_or, IsSomeAnd, IfSome};
 ghost use Rattle.ports.specs.Faults.{SameFaults, Rose, RoseAt};
 ghost use Rattle.ports.specs.Files.{Nothing, Files};
+ghost use Rattle.ports.specs.Lists.{file_at};
 ghost use Rattle.rel_base.specs.declared.why.Why.{Why};
 ghost use Rattle.report_text.specs.Outcome.{file_line, fault_line};
 ghost use Rattle.profile_cli.specs.Command as words_of;
 ghost use Rattle.profile_cli.specs.Command.{texts};
-ghost use Rattle.profile_cli.specs.Request.{ReadsInput, files_of, sources_of};
-ghost use Rattle.profile_cli.specs.Outcomes.{OnDone, OnUsage, IfRefused, IfReadFault, OnWriteFault, OnNoMemory, OnSources, IsInput, IsReadThrough, LeavesInput, IsFileFault, IsInputFault, ReadsCounted, InputCounted, Runs, IsDoneOrNoMemory, IsUsageOrNoMemory, IsRefusedOrNoMemory};
-ghost use Rattle.profile_cli.specs.Output.{IsPut, first_refusal, output_text, refusal};
+ghost use Rattle.profile_cli.specs.Contents.{first_refusal};
+ghost use Rattle.profile_cli.specs.Ends.{IsFileFault, IsFileRefusal, IsInput, IsInputFault, IsInputRefusal, AreAccepted, IsPut, IsReadThrough, IsUnwritten, IsWhole, OnSources, OnTold, Runs, StopsAtFile, StopsAtSink};
+ghost use Rattle.profile_cli.specs.Outcomes.{OnDone, OnUsage, IfRefused, IfReadFault, OnWriteFault, OnNoMemory, UnlessFaulted, UnlessWritten, IsDoneOrNoMemory, IsUsageOrNoMemory, IsRefusedOrNoMemory};
+ghost use Rattle.profile_cli.specs.Output.{output, refusal};
+ghost use Rattle.profile_cli.specs.Task.{task_of};
 ghost use Rattle.profile_cli.specs.Usage.{usage_text};
 ghost use Rattle.profile_cli.specs.declared.request.Request.{Request};
 
+use crate::answering::answer;
 use crate::command::request_of;
-use crate::profile_run::profile;
+use crate::ending::{end_at_fault, refuse};
+use crate::reading::{FilesRead, read_files};
 use crate::request::Request;
-use crate::session_run::session;
 use crate::{Outcome, usage_line};
 use ports::{Gate, Shelf, Sink, Source, put_all};
 use rel_base::Limits;
@@ -30,6 +33,8 @@ use std::thread::Threads;
 /// these the inclusions among the columns of all of them.
 ///
 /// `session FILE` reads the file and then a change text, the input, to its end, and answers its batches and requests for a report in their order.
+///
+/// What a command reads and writes is said by `task_of`, and what a run writes by `output`.
 pub fn run<R: Threads + Wait + Sync, H: Shelf, I: Source, O: Sink, G: Gate + Sync>(
     rt: &R,
     alloc: Global,
@@ -42,16 +47,21 @@ pub fn run<R: Threads + Wait + Sync, H: Shelf, I: Source, O: Sink, G: Gate + Syn
 ) -> Outcome
     requires { H.opened shelf.old ≡ Nothing }
 
-    // The whole text was written, the input was read to its end if it is read at all, and no call failed.
-    ensures done { OnDone result (IsSomeAnd (words_of.command (texts words.items)) (λ request. OnSources request (H.content shelf.old) (I.left input.old) (λ files bytes.
-        (refusal request limits files bytes ≡ None) × Gains (O.held out.old) (O.held out.new) (output_text request limits files bytes)))) }
-    ensures done_input { OnDone result (IsSomeAnd (words_of.command (texts words.items)) (λ request. IsReadThrough request (I.left input.new))) }
+    // The words are a command of which nothing is refused, the whole output was written, the input was read to its end if it is read at all, and no call failed.
+    ensures done { OnDone result (IsSomeAnd (words_of.command (texts words.items)) (λ request. OnSources (task_of request) (H.content shelf.old) (I.left input.old) (λ files bytes.
+        ((output (texts words.items) limits files bytes).status ≡ 0)
+        × IsWhole (output (texts words.items) limits files bytes).written (H.content shelf.old) (H.content shelf.new) (O.held out.old) (O.held out.new)))) }
+    ensures done_input { OnDone result (IsSomeAnd (words_of.command (texts words.items)) (λ request. IsReadThrough (task_of request).reads_input (I.left input.new))) }
     ensures done_faults { OnDone result (O.faults out.new ≡ O.faults out.old) }
+    ensures done_writes { OnDone result (SameFaults H.write_faults H.write_last shelf.old shelf.new) }
 
-    // Where the words are a command, no file and no input is refused, and no call failed, the run is done, unless memory ran out.
+    // Where the words are a command, nothing is refused, and no call failed on a file that it reads or writes, on the input, if it is read, or on the sink, the run is done, unless memory ran out.
     ensures complete { (request : Request) (files : Files) (bytes : List ℕ) → words_of.command (texts words.items) ≡ Some request → H.content shelf.old ≡ Some files
-        → IsInput request (I.left input.old) bytes → refusal request limits files bytes ≡ None
-        → ((file : List ℕ) → RoseAt file H.read_faults H.read_last shelf.old shelf.new → ⊥) → (ReadsInput request → Rose (I.faults input.old) (I.faults input.new) → ⊥)
+        → IsInput (task_of request).reads_input (I.left input.old) bytes → refusal (task_of request) limits files bytes ≡ None
+        → ((place : ℕ) → place < length (task_of request).reads → RoseAt (slice_index_or (task_of request).reads place []) H.read_faults H.read_last shelf.old shelf.new → ⊥)
+        → ((task_of request).reads_input ≡ true → Rose (I.faults input.old) (I.faults input.new) → ⊥)
+        → ((place : ℕ) → place < length (output (texts words.items) limits files bytes).written.files
+        → RoseAt (file_at (output (texts words.items) limits files bytes).written.files place).0 H.write_faults H.write_last shelf.old shelf.new → ⊥)
         → (Rose (O.faults out.old) (O.faults out.new) → ⊥)
         → IsDoneOrNoMemory result }
 
@@ -61,43 +71,50 @@ pub fn run<R: Threads + Wait + Sync, H: Shelf, I: Source, O: Sink, G: Gate + Syn
 
     ensures no_command { words_of.command (texts words.items) ≡ None → IsUsageOrNoMemory result }
 
-    // This file, or the input, is the first that the rules refuse, and where one is refused and no call that reads failed, nothing else is answered, unless memory ran out.
-    ensures refused { IfRefused result (λ file rec why. IsSomeAnd (words_of.command (texts words.items)) (λ request. OnSources request (H.content shelf.old) (I.left input.old) (λ files bytes.
-        refusal request limits files bytes ≡ Some (file, rec, why)))) }
+    // This file, or the input, is the first that the rules refuse, and nothing behind it was read; where one is refused and no call that reads failed, nothing else is answered, unless memory ran out.
+    ensures refused { IfRefused result (λ file rec why. IsSomeAnd (words_of.command (texts words.items)) (λ request. OnSources (task_of request) (H.content shelf.old) (I.left input.old) (λ files bytes.
+        refusal (task_of request) limits files bytes ≡ Some (file, rec, why)))) }
     ensures refused_line { IfRefused result (λ file rec why. IsPut (file_line file rec why) (O.held out.old) (O.held out.new) (O.faults out.old) (O.faults out.new)) }
-
-    ensures refused_file { IfRefused result (λ file rec why. IsSomeAnd (words_of.command (texts words.items)) (λ request. Contains (sources_of request) file)) }
+    ensures refused_at { IfRefused result (λ file rec why. IsSomeAnd (words_of.command (texts words.items)) (λ request.
+        IsFileRefusal limits (H.content shelf.old) (task_of request) file rec why input.old input.new
+        ⊎ (AreAccepted limits (H.content shelf.old) (task_of request).reads H.read_faults H.read_last shelf.old shelf.new
+        × IsInputRefusal limits (task_of request).reads_input file rec why (I.left input.old) (I.left input.new)))) }
     ensures not_accepted { (request : Request) (files : Files) (bytes file : List ℕ) (rec : ℕ) (why : Why) → words_of.command (texts words.items) ≡ Some request → H.content shelf.old ≡ Some files
-        → IsInput request (I.left input.old) bytes → refusal request limits files bytes ≡ Some (file, rec, why)
-        → ((name : List ℕ) → RoseAt name H.read_faults H.read_last shelf.old shelf.new → ⊥)
-        → (first_refusal limits files (files_of request) ≡ None → Rose (I.faults input.old) (I.faults input.new) → ⊥)
+        → IsInput (task_of request).reads_input (I.left input.old) bytes → refusal (task_of request) limits files bytes ≡ Some (file, rec, why)
+        → ((place : ℕ) → place < length (task_of request).reads → RoseAt (slice_index_or (task_of request).reads place []) H.read_faults H.read_last shelf.old shelf.new → ⊥)
+        → (first_refusal limits files (task_of request).reads ≡ None → Rose (I.faults input.old) (I.faults input.new) → ⊥)
         → IsRefusedOrNoMemory result }
 
-    // A call on this file failed, and no file before it is refused, or a call on the input failed, and no file is refused.
+    // A call on this file failed, and no file before it is refused, or a call on the input failed, and no file is refused. Nothing behind it was read.
     ensures read_fault { IfReadFault result (λ file. IsSomeAnd (words_of.command (texts words.items)) (λ request.
-        IsFileFault limits (H.content shelf.old) request file H.read_faults H.read_last shelf.old shelf.new (I.faults input.old) (I.faults input.new)
-        ⊎ IsInputFault limits (H.content shelf.old) request file H.read_faults H.read_last shelf.old shelf.new (I.faults input.old) (I.faults input.new))) }
+        IsFileFault limits (H.content shelf.old) (task_of request) file H.read_faults H.read_last shelf.old shelf.new input.old input.new
+        ⊎ (AreAccepted limits (H.content shelf.old) (task_of request).reads H.read_faults H.read_last shelf.old shelf.new
+        × IsInputFault limits (task_of request).reads_input file (I.left input.old) (I.left input.new) (I.faults input.old) (I.faults input.new)))) }
     ensures fault_line { IfReadFault result (λ file. IsPut (fault_line file) (O.held out.old) (O.held out.new) (O.faults out.old) (O.faults out.new)) }
 
-    // The sink failed, and some first bytes of the text were written.
-    ensures write_fault { OnWriteFault result (IsSomeAnd (words_of.command (texts words.items)) (λ request. OnSources request (H.content shelf.old) (I.left input.old) (λ files bytes.
-        (refusal request limits files bytes ≡ None) × ((count : ℕ) × Gains (O.held out.old) (O.held out.new) (take count (output_text request limits files bytes)))))) }
-    ensures write_count { OnWriteFault result (Rose (O.faults out.old) (O.faults out.new)) }
+    // Nothing is refused, and a call failed on a file of the output, or on the sink: at a file those before it are whole, it is as it was or holds some first bytes, and the
+    // others and the sink are as they were; at the sink all files are whole, and some first bytes of the text were put.
+    ensures write_fault { OnWriteFault result (IsSomeAnd (words_of.command (texts words.items)) (λ request. OnSources (task_of request) (H.content shelf.old) (I.left input.old) (λ files bytes.
+        ((output (texts words.items) limits files bytes).status ≡ 0)
+        × (StopsAtFile (output (texts words.items) limits files bytes).written (H.content shelf.old) (H.content shelf.new) (O.held out.old) (O.held out.new) (O.faults out.old) (O.faults out.new) H.write_faults H.write_last shelf.old shelf.new
+        ⊎ StopsAtSink (output (texts words.items) limits files bytes).written (H.content shelf.old) (H.content shelf.new) (O.held out.old) (O.held out.new) (O.faults out.old) (O.faults out.new) H.write_faults H.write_last shelf.old shelf.new)))) }
+    ensures write_count { OnWriteFault result (Rose (O.faults out.old) (O.faults out.new) ⊎ Rose (H.write_faults shelf.old) (H.write_faults shelf.new)) }
 
     // Nothing was written.
     ensures no_memory { OnNoMemory result (O.held out.new ≡ O.held out.old) }
     ensures no_memory_faults { OnNoMemory result (O.faults out.new ≡ O.faults out.old) }
 
     // No call that reads failed where the run went on to write something else than a read fault.
-    ensures reads { ReadsCounted result H.read_faults H.read_last shelf.old shelf.new }
-    ensures input_reads { InputCounted result (I.faults input.old) (I.faults input.new) }
+    ensures reads { UnlessFaulted result (SameFaults H.read_faults H.read_last shelf.old shelf.new) }
+    ensures input_reads { UnlessFaulted result (I.faults input.new ≡ I.faults input.old) }
 
-    // The sink keeps its room, the files stay as they were, nothing is open, and the input is unread unless the words are a command that reads it.
+    // The sink keeps its room, nothing is open, the files stay as they were where the whole output wasn't to be written or has none, and the input is unread unless the words are a command that reads it.
     ensures room { O.room out.new ≡ O.room out.old }
-    ensures content { H.content shelf.new ≡ H.content shelf.old }
+    ensures unwritten { UnlessWritten result (IsUnwritten (H.content shelf.old) (H.content shelf.new) H.write_faults H.write_last shelf.old shelf.new) }
+    ensures no_files { IfSome (words_of.command (texts words.items)) (λ request. (task_of request).writes_files ≡ false → IsUnwritten (H.content shelf.old) (H.content shelf.new) H.write_faults H.write_last shelf.old shelf.new) }
     ensures closed { H.opened shelf.new ≡ Nothing }
-    ensures writes { SameFaults H.write_faults H.write_last shelf.old shelf.new }
-    ensures input { LeavesInput (words_of.command (texts words.items)) → input.new ≡ input.old }
+    ensures input { IfSome (words_of.command (texts words.items)) (λ request. (task_of request).reads_input ≡ false → input.new ≡ input.old) }
+    ensures no_input { words_of.command (texts words.items) ≡ None → input.new ≡ input.old }
 {
     match request_of(alloc, words.as_slice()) {
         Ok(Some(request)) => perform(rt, alloc, request, shelf, input, out, &limits),
@@ -120,25 +137,32 @@ fn perform<R: Threads + Sync, H: Shelf, I: Source, O: Sink>(
     limits: &Limits,
 ) -> Outcome
     requires { H.opened shelf.old ≡ Nothing }
-    ensures runs { Runs result request limits.now (H.content shelf.old) (I.left input.old) (O.held out.old) (O.held out.new) (O.faults out.old) (O.faults out.new) }
+    ensures runs { Runs (OnTold (task_of request) limits.now (H.content shelf.old) (I.left input.old)) result
+        (H.content shelf.old) (H.content shelf.new) (O.held out.old) (O.held out.new) (O.faults out.old) (O.faults out.new) H.write_faults H.write_last shelf.old shelf.new }
+    ensures refused { IfRefused result (λ file rec why.
+        IsFileRefusal limits.now (H.content shelf.old) (task_of request) file rec why input.old input.new
+        ⊎ (AreAccepted limits.now (H.content shelf.old) (task_of request).reads H.read_faults H.read_last shelf.old shelf.new
+        × IsInputRefusal limits.now (task_of request).reads_input file rec why (I.left input.old) (I.left input.new))) }
     ensures read_fault { IfReadFault result (λ file.
-        IsFileFault limits.now (H.content shelf.old) request file H.read_faults H.read_last shelf.old shelf.new (I.faults input.old) (I.faults input.new)
-        ⊎ IsInputFault limits.now (H.content shelf.old) request file H.read_faults H.read_last shelf.old shelf.new (I.faults input.old) (I.faults input.new)) }
-    ensures reads { ReadsCounted result H.read_faults H.read_last shelf.old shelf.new }
-    ensures input_reads { InputCounted result (I.faults input.old) (I.faults input.new) }
-    ensures through { OnDone result (IsReadThrough request (I.left input.new)) }
+        IsFileFault limits.now (H.content shelf.old) (task_of request) file H.read_faults H.read_last shelf.old shelf.new input.old input.new
+        ⊎ (AreAccepted limits.now (H.content shelf.old) (task_of request).reads H.read_faults H.read_last shelf.old shelf.new
+        × IsInputFault limits.now (task_of request).reads_input file (I.left input.old) (I.left input.new) (I.faults input.old) (I.faults input.new))) }
+    ensures reads { UnlessFaulted result (SameFaults H.read_faults H.read_last shelf.old shelf.new) }
+    ensures input_reads { UnlessFaulted result (I.faults input.new ≡ I.faults input.old) }
+    ensures through { OnDone result (IsReadThrough (task_of request).reads_input (I.left input.new)) }
+    ensures unread { (task_of request).reads_input ≡ false → input.new ≡ input.old }
+    ensures no_files { (task_of request).writes_files ≡ false → IsUnwritten (H.content shelf.old) (H.content shelf.new) H.write_faults H.write_last shelf.old shelf.new }
     ensures room { O.room out.new ≡ O.room out.old }
-    ensures content { H.content shelf.new ≡ H.content shelf.old }
     ensures closed { H.opened shelf.new ≡ Nothing }
-    ensures writes { SameFaults H.write_faults H.write_last shelf.old shelf.new }
-    ensures input { LeavesInput (Some request) → input.new ≡ input.old }
 {
-    match request {
-        Request::Profile { options, files } => {
-            profile(rt, alloc, options, files, shelf, out, limits)
+    match read_files(alloc, shelf, request.files(), limits) {
+        FilesRead::Read(relations) => {
+            answer(rt, alloc, &request, relations, shelf, input, out, limits)
         }
-        Request::Session { options, file } => {
-            session(rt, alloc, options, file, shelf, input, out, limits)
+        FilesRead::Refused { place, rec, why } => {
+            refuse(alloc, request.into_file(place), rec, why, out)
         }
+        FilesRead::Fault { place } => end_at_fault(alloc, request.into_file(place), out),
+        FilesRead::NoMemory => Outcome::NoMemory,
     }
 }

@@ -1,7 +1,7 @@
 // The words that the program takes.
 ghost use Rattle.std.specs.Prelude.{◌≡◌, IfOk};
 ghost use Rattle.clap.specs.Words.{app_of, rule_of};
-ghost use Rattle.profile_cli.specs.Words.{AreNullWords, IsTheApp, file_rule, files_rule, nulls_rule, profile_app, session_app, workers_rule};
+ghost use Rattle.profile_cli.specs.Words.{AreNullWords, IsTheApp, demo_app, file_rule, files_rule, normalize_app, nulls_rule, out_rule, profile_app, seed_rule, session_app, workers_rule};
 
 use clap::{Arg, Command, value_parser};
 use std::alloc::{AllocError, Global};
@@ -56,12 +56,45 @@ fn session_words<'a>(alloc: Global) -> Result<Command<'a>, AllocError>
         .arg(file_word(alloc))
 }
 
+fn out_option<'a>(alloc: Global) -> Arg<'a>
+    ensures { rule_of result ≡ out_rule }
+{
+    Arg::new(alloc, "out").long("out").required(true)
+}
+
+fn seed_word<'a>(alloc: Global) -> Arg<'a>
+    ensures { rule_of result ≡ seed_rule }
+{
+    Arg::new(alloc, "seed")
+        .required(true)
+        .value_parser(value_parser!(u32).range(0..=2_147_483_647))
+}
+
+fn normalize_words<'a>(alloc: Global) -> Result<Command<'a>, AllocError>
+    ensures { IfOk result (λ c. app_of c ≡ normalize_app) }
+{
+    Command::new(alloc, "normalize")
+        .arg(workers_option(alloc))?
+        .arg(out_option(alloc))?
+        .arg(file_word(alloc))
+}
+
+fn demo_words<'a>(alloc: Global) -> Result<Command<'a>, AllocError>
+    ensures { IfOk result (λ c. app_of c ≡ demo_app) }
+{
+    Command::new(alloc, "demo")
+        .arg(workers_option(alloc))?
+        .arg(seed_word(alloc))
+}
+
 /// The words that the program takes, as the crate `clap` describes a command.
 pub(crate) fn depprof_words<'a>(alloc: Global) -> Result<Command<'a>, AllocError>
     ensures { IfOk result (λ c. IsTheApp (app_of c)) }
 {
     let command = Command::new(alloc, "depprof")
         .subcommand(profile_words(alloc)?)?
-        .subcommand(session_words(alloc)?)?;
+        .subcommand(session_words(alloc)?)?
+        .subcommand(normalize_words(alloc)?)?
+        .subcommand(demo_words(alloc)?)?;
     Ok(command.subcommand_required(true))
 }

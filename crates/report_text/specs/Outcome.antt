@@ -23,3 +23,8 @@ fault_line name = line (codes "fault" ∷ codes "read" ∷ name ∷ [])
 -- a batch was applied, with this many operations of each kind and this many live rows after it
 abbrev pub applied_line : ℕ → ℕ → ℕ → ℕ → List ℕ
 applied_line batch inserted deleted live = line (codes "applied" ∷ decimal batch ∷ decimal inserted ∷ decimal deleted ∷ decimal live ∷ [])
+
+-- how many lines of each kind a normalisation of the relation of a seed writes: keys, dependencies, inclusions and tables. The relation has 12 columns and 5,000 rows.
+abbrev pub demo_line : ℕ → ℕ → ℕ → ℕ → ℕ → List ℕ
+demo_line seed keys fds inclusions tables =
+    line (codes "demo" ∷ decimal seed ∷ codes "12" ∷ codes "5000" ∷ decimal keys ∷ decimal fds ∷ decimal inclusions ∷ decimal tables ∷ [])

@@ -12,7 +12,7 @@ mod table_lines;
 
 pub use inclusion_lines::inclusions;
 pub use lines::Lines;
-pub use outcome_lines::{applied_line, fault_line, file_line, refused_line};
+pub use outcome_lines::{applied_line, demo_line, fault_line, file_line, refused_line};
 pub use report_lines::report;
 pub use table_lines::{table_file, tables};
 

@@ -1,6 +1,6 @@
 // What became of files and of batches.
 ghost use Rattle.std.specs.Prelude.{◌≡◌, ◌++◌, [], IfOk, OnOk, OnErr};
-ghost use Rattle.report_text.specs.Outcome.{file_line, fault_line, applied_line, refused_line, refusal_line};
+ghost use Rattle.report_text.specs.Outcome.{file_line, fault_line, applied_line, demo_line, refused_line, refusal_line};
 
 use crate::Lines;
 use crate::field::Field;
@@ -48,6 +48,32 @@ pub fn refused_line(alloc: Global, batch: u32, rec: u64, why: Why) -> Result<Vec
 {
     let mut lines = Lines::new(alloc);
     lines.push_refused_line(batch, rec, why)?;
+    lines.into_text()
+}
+
+/// How many lines of each kind a normalisation of the relation of a seed writes: keys, dependencies, inclusions and tables. The
+/// relation has 12 columns and 5,000 rows.
+pub fn demo_line(
+    alloc: Global,
+    seed: u32,
+    keys: u64,
+    fds: u64,
+    inclusions: u64,
+    tables: u64,
+) -> Result<Vec<u8>, AllocError>
+    ensures { IfOk result (λ text. text.items ≡ demo_line seed keys fds inclusions tables) }
+{
+    let mut lines = Lines::new(alloc);
+    lines.push(&[
+        Field::Bytes(b"demo"),
+        Field::Number(u64::from(seed)),
+        Field::Bytes(b"12"),
+        Field::Bytes(b"5000"),
+        Field::Number(keys),
+        Field::Number(fds),
+        Field::Number(inclusions),
+        Field::Number(tables),
+    ])?;
     lines.into_text()
 }
 

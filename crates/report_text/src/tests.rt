@@ -1,8 +1,8 @@
 // That each call gives its text, that the texts are the ones that a reader expects, and that fields are quoted as csv does.
 // A case that is refused memory is tried once more, so that each allocation can be made to fail.
 use crate::{
-    Lines, applied_line, fault_line, file_line, inclusions, refused_line, report, table_file,
-    tables,
+    Lines, applied_line, demo_line, fault_line, file_line, inclusions, refused_line, report,
+    table_file, tables,
 };
 use rel_base::{ColSet, Covers, Fd, Name, Row, Table, Why};
 use std::alloc::{AllocError, Global};
@@ -98,6 +98,8 @@ fn check_outcomes(rt: &impl Abort, alloc: Global) -> Result<(), AllocError> {
     expect_text(rt, &applied, "applied,2,1,0,4\n");
     let batch = refused_line(alloc, 1, 2, Why::Missing)?;
     expect_text(rt, &batch, "refused,1,2,9\n");
+    let demo = demo_line(alloc, 7, 2, 30, 4, 5)?;
+    expect_text(rt, &demo, "demo,7,12,5000,2,30,4,5\n");
     Ok(())
 }
 

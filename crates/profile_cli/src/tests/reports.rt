@@ -16,6 +16,7 @@ static ONE_FILE: [Case; 10] = [
         files: &[("r.csv", R)],
         input: "",
         text: &[R_REPORT],
+        tables: &[],
         status: 0,
     },
     Case {
@@ -25,6 +26,7 @@ static ONE_FILE: [Case; 10] = [
         text: &[
             "relation,bare.csv,2,0\ncolumn,1,a\ncolumn,2,b\nkey,\nfd,,1\nfd,,2\nind,1.1,1.2\nind,1.2,1.1\n",
         ],
+        tables: &[],
         status: 0,
     },
     Case {
@@ -32,6 +34,7 @@ static ONE_FILE: [Case; 10] = [
         files: &[("one.csv", "a,b\n1,x\n")],
         input: "",
         text: &["relation,one.csv,2,1\ncolumn,1,a\ncolumn,2,b\nkey,\nfd,,1\nfd,,2\n"],
+        tables: &[],
         status: 0,
     },
     Case {
@@ -39,6 +42,7 @@ static ONE_FILE: [Case; 10] = [
         files: &[("twice.csv", "a,b\n1,x\n1,x\n")],
         input: "",
         text: &["relation,twice.csv,2,2\ncolumn,1,a\ncolumn,2,b\nfd,,1\nfd,,2\n"],
+        tables: &[],
         status: 0,
     },
     Case {
@@ -49,6 +53,7 @@ static ONE_FILE: [Case; 10] = [
             "relation,parity.csv,3,4\ncolumn,1,a\ncolumn,2,b\ncolumn,3,c\nkey,1 2\nkey,1 3\nkey,2 3\n",
             "fd,2 3,1\nfd,1 3,2\nfd,1 2,3\nind,1.1,1.2\nind,1.1,1.3\nind,1.2,1.1\nind,1.2,1.3\nind,1.3,1.1\nind,1.3,1.2\n",
         ],
+        tables: &[],
         status: 0,
     },
     Case {
@@ -58,6 +63,7 @@ static ONE_FILE: [Case; 10] = [
         text: &[
             "relation,w.csv,3,2\ncolumn,1,c\ncolumn,2,c\ncolumn,3,c\nkey,3\nfd,,1\nfd,,2\nind,1.1,1.2\nind,1.2,1.1\n",
         ],
+        tables: &[],
         status: 0,
     },
     Case {
@@ -65,6 +71,7 @@ static ONE_FILE: [Case; 10] = [
         files: &[("marks.csv", "\u{feff}\u{feff}a,b\r\n\r\n1,\"x,y\"")],
         input: "",
         text: &["relation,marks.csv,2,1\ncolumn,1,a\ncolumn,2,b\nkey,\nfd,,1\nfd,,2\n"],
+        tables: &[],
         status: 0,
     },
     Case {
@@ -72,6 +79,7 @@ static ONE_FILE: [Case; 10] = [
         files: &[("open.csv", "a,b\n1,\"x,\n")],
         input: "",
         text: &["relation,open.csv,2,1\ncolumn,1,a\ncolumn,2,b\nkey,\nfd,,1\nfd,,2\n"],
+        tables: &[],
         status: 0,
     },
     Case {
@@ -79,6 +87,7 @@ static ONE_FILE: [Case; 10] = [
         files: &[("n.csv", "a,b\n,1\n,2\n")],
         input: "",
         text: &["relation,n.csv,2,2\ncolumn,1,a\ncolumn,2,b\nkey,2\nfd,,1\nind,1.1,1.2\n"],
+        tables: &[],
         status: 0,
     },
     Case {
@@ -88,6 +97,7 @@ static ONE_FILE: [Case; 10] = [
         text: &[
             "relation,n.csv,2,2\ncolumn,1,a\ncolumn,2,b\nkey,1\nkey,2\nfd,2,1\nfd,1,2\nind,1.1,1.2\n",
         ],
+        tables: &[],
         status: 0,
     },
 ];
@@ -104,6 +114,7 @@ static FILES_IN_ORDER: [Case; 8] = [
         files: FILES,
         input: "",
         text: &[ONE, DASH],
+        tables: &[],
         status: 0,
     },
     Case {
@@ -111,6 +122,7 @@ static FILES_IN_ORDER: [Case; 8] = [
         files: FILES,
         input: "",
         text: &[DASH, ONE],
+        tables: &[],
         status: 0,
     },
     Case {
@@ -118,6 +130,7 @@ static FILES_IN_ORDER: [Case; 8] = [
         files: FILES,
         input: "",
         text: &[ONE, ONE, "ind,1.1,2.1\nind,2.1,1.1\n"],
+        tables: &[],
         status: 0,
     },
     Case {
@@ -130,6 +143,7 @@ static FILES_IN_ORDER: [Case; 8] = [
             BARE,
             "ind,1.1,2.1\nind,1.1,3.1\nind,3.1,1.1\nind,3.1,2.1\n",
         ],
+        tables: &[],
         status: 0,
     },
     Case {
@@ -148,6 +162,7 @@ static FILES_IN_ORDER: [Case; 8] = [
         files: FILES,
         input: "",
         text: &[ONE, DASH, BARE, "ind,3.1,1.1\nind,3.1,2.1\n"],
+        tables: &[],
         status: 0,
     },
     Case {
@@ -161,6 +176,7 @@ static FILES_IN_ORDER: [Case; 8] = [
             DASH,
             "ind,1.1,2.1\nind,1.1,4.1\nind,2.1,1.1\nind,2.1,4.1\nind,4.1,1.1\nind,4.1,2.1\n",
         ],
+        tables: &[],
         status: 0,
     },
     Case {
@@ -170,6 +186,7 @@ static FILES_IN_ORDER: [Case; 8] = [
         text: &[
             "relation,p,1,2\ncolumn,1,a\nkey,1\nrelation,q,1,3\ncolumn,1,b\nkey,1\nind,1.1,2.1\n",
         ],
+        tables: &[],
         status: 0,
     },
     // NULL of the dependent column needs no partner.
@@ -180,6 +197,7 @@ static FILES_IN_ORDER: [Case; 8] = [
         text: &[
             "relation,p,1,2\ncolumn,1,a\nkey,1\nrelation,q,1,1\ncolumn,1,b\nkey,\nfd,,1\nind,1.1,2.1\nind,2.1,1.1\n",
         ],
+        tables: &[],
         status: 0,
     },
 ];

@@ -1,16 +1,8 @@
 // What a session answers to a change text.
-ghost use Rattle.std.specs.Prelude.{◌≡◌};
-
-use super::{Case, expect_all, shelf_of, status_of};
-use ports::{MemSource, SureSink};
-use rel_base::Limits;
-use std::alloc::{AllocError, Global};
-use std::process::Abort;
-use std::sync::Wait;
+use super::{Case, expect_all};
 use std::test::Fail;
-use std::thread::Threads;
 
-const K: &[(&str, &str)] = &[("k.csv", "k,v\n1,x\n1,y\n2,z\n")];
+pub const K: &[(&str, &str)] = &[("k.csv", "k,v\n1,x\n1,y\n2,z\n")];
 
 const K_HEAD: &str = "column,1,k\ncolumn,2,v\n";
 
@@ -22,6 +14,7 @@ static BATCHES: [Case; 8] = [
         files: K,
         input: "",
         text: &[],
+        tables: &[],
         status: 0,
     },
     Case {
@@ -29,6 +22,7 @@ static BATCHES: [Case; 8] = [
         files: K,
         input: "+,3,w\n-,9\n!\n+,4,u\n!\n-,4\n!\n",
         text: &["refused,1,2,9\napplied,2,1,0,4\napplied,3,0,1,3\n"],
+        tables: &[],
         status: 0,
     },
     Case {
@@ -36,6 +30,7 @@ static BATCHES: [Case; 8] = [
         files: K,
         input: "+,9,q\n-,4\n!\n!\n",
         text: &["applied,1,1,1,3\napplied,2,0,0,3\n"],
+        tables: &[],
         status: 0,
     },
     Case {
@@ -43,6 +38,7 @@ static BATCHES: [Case; 8] = [
         files: K,
         input: "+,3,w\n",
         text: &["refused,1,1,10\n"],
+        tables: &[],
         status: 0,
     },
     Case {
@@ -50,6 +46,7 @@ static BATCHES: [Case; 8] = [
         files: K,
         input: "+,3,w\n?\n!\n",
         text: &["refused,1,2,7\n"],
+        tables: &[],
         status: 0,
     },
     Case {
@@ -59,6 +56,7 @@ static BATCHES: [Case; 8] = [
         text: &[
             "refused,1,1,8\nrefused,2,3,8\nrefused,3,5,7\nrefused,4,7,3\nrefused,5,9,3\nrefused,6,12,9\n",
         ],
+        tables: &[],
         status: 0,
     },
     Case {
@@ -66,6 +64,7 @@ static BATCHES: [Case; 8] = [
         files: K,
         input: "=,9,1,x\n!\n=,0,1\n!\n=,0,1,x\n!\n",
         text: &["refused,1,1,9\nrefused,2,3,3\nrefused,3,5,8\n"],
+        tables: &[],
         status: 0,
     },
     Case {
@@ -73,6 +72,7 @@ static BATCHES: [Case; 8] = [
         files: K,
         input: "-,4294967295\n!\n-,4294967296\n!\n",
         text: &["refused,1,1,9\nrefused,2,3,8\n"],
+        tables: &[],
         status: 0,
     },
 ];
@@ -95,6 +95,7 @@ static REPORTS: [Case; 4] = [
             K_HEAD,
             "key,1\nkey,2\nfd,2,1\nfd,1,2\n",
         ],
+        tables: &[],
         status: 0,
     },
     Case {
@@ -106,6 +107,7 @@ static REPORTS: [Case; 4] = [
             K_HEAD,
             "fd,2,1\nfd,1,2\n",
         ],
+        tables: &[],
         status: 0,
     },
     Case {
@@ -119,6 +121,7 @@ static REPORTS: [Case; 4] = [
             K_HEAD,
             "key,1\nfd,,2\nind,1.2,1.1\n",
         ],
+        tables: &[],
         status: 0,
     },
     Case {
@@ -130,6 +133,7 @@ static REPORTS: [Case; 4] = [
             K_HEAD,
             "key,1\nkey,2\nfd,2,1\nfd,1,2\nind,1.1,1.2\n",
         ],
+        tables: &[],
         status: 0,
     },
 ];
@@ -137,29 +141,5 @@ static REPORTS: [Case; 4] = [
 #[test]
 fn reports_show_the_rows_at_that_point(rt: HostRuntime) -> Result<(), Fail> {
     expect_all(&rt, rt.alloc(), &REPORTS)?;
-    Ok(())
-}
-
-// What a session writes where this read of its input fails, and its status.
-fn stopped<H: Threads + Wait + Sync + Abort>(
-    rt: &H,
-    alloc: Global,
-    number: u64,
-) -> Result<(Vec<u8>, u8), AllocError> {
-    let mut shelf = shelf_of(alloc, K)?;
-    let bytes = Vec::from_slice(alloc, b"?\n")?;
-    let mut input = MemSource::of(bytes, vec![in alloc; number]?, 1);
-    let mut out = SureSink::with_room(alloc, 100)?;
-    let limits = Limits::standard();
-    let status = status_of(rt, alloc, WORDS, &mut shelf, &mut input, &mut out, limits)?;
-    Ok((Vec::from_slice(alloc, out.bytes())?, status))
-}
-
-#[test]
-fn a_failing_read_of_the_input_is_named(rt: HostRuntime) -> Result<(), Fail> {
-    for number in [1u64, 3] {
-        let (text, status) = stopped(&rt, rt.alloc(), number)?;
-        assert!(rt; text.as_slice() == b"fault,read,-\n".as_slice() && status == 4);
-    }
     Ok(())
 }

@@ -1,6 +1,7 @@
 // Inputs at the limits and beyond them.
-use super::{Case, R, R_REPORT, expect, file_of, ran};
-use ports::SureShelf;
+use super::{Case, R, R_REPORT, expect, file_of, words_of};
+use crate::run;
+use ports::{OpenGate, SureShelf, SureSink, SureSource};
 use rel_base::{Limits, MOST_BYTES, MOST_CELL_BYTES, MOST_COLUMNS, MOST_ROWS};
 use std::alloc::{AllocError, Global};
 use std::process::Abort;
@@ -35,6 +36,7 @@ static PROFILES: [Limited; 9] = [
             files: &[("e.csv", "")],
             input: "",
             text: &["refused,e.csv,0,1\n"],
+            tables: &[],
             status: 3,
         },
     },
@@ -45,6 +47,7 @@ static PROFILES: [Limited; 9] = [
             files: &[("s.csv", "a,b\n1,x\n2\n")],
             input: "",
             text: &["refused,s.csv,3,3\n"],
+            tables: &[],
             status: 3,
         },
     },
@@ -55,6 +58,7 @@ static PROFILES: [Limited; 9] = [
             files: &[("r.csv", R)],
             input: "",
             text: &["refused,r.csv,0,6\n"],
+            tables: &[],
             status: 3,
         },
     },
@@ -65,6 +69,7 @@ static PROFILES: [Limited; 9] = [
             files: &[("r.csv", R)],
             input: "",
             text: &[R_REPORT],
+            tables: &[],
             status: 0,
         },
     },
@@ -75,6 +80,7 @@ static PROFILES: [Limited; 9] = [
             files: &[("r.csv", R)],
             input: "",
             text: &["refused,r.csv,2,4\n"],
+            tables: &[],
             status: 3,
         },
     },
@@ -85,6 +91,7 @@ static PROFILES: [Limited; 9] = [
             files: &[("r.csv", R)],
             input: "",
             text: &["refused,r.csv,4,5\n"],
+            tables: &[],
             status: 3,
         },
     },
@@ -95,6 +102,7 @@ static PROFILES: [Limited; 9] = [
             files: &[("x.csv", "a,b,c\n1\n")],
             input: "",
             text: &["refused,x.csv,1,2\n"],
+            tables: &[],
             status: 3,
         },
     },
@@ -105,6 +113,7 @@ static PROFILES: [Limited; 9] = [
             files: &[("x.csv", "a,b\n11\n")],
             input: "",
             text: &["refused,x.csv,2,3\n"],
+            tables: &[],
             status: 3,
         },
     },
@@ -115,6 +124,7 @@ static PROFILES: [Limited; 9] = [
             files: &[("x.csv", "a\n1\n22\n")],
             input: "",
             text: &["refused,x.csv,3,4\n"],
+            tables: &[],
             status: 3,
         },
     },
@@ -132,6 +142,7 @@ static SESSIONS: [Limited; 5] = [
             files: K,
             input: "+,3,w\n!\n-,1\n+,3,w\n!\n",
             text: &["refused,1,1,5\nrefused,2,4,5\n"],
+            tables: &[],
             status: 0,
         },
     },
@@ -142,6 +153,7 @@ static SESSIONS: [Limited; 5] = [
             files: K,
             input: "=,9,1,x\n!\n=,1,1,x\n!\n",
             text: &["refused,1,1,9\nrefused,2,3,5\n"],
+            tables: &[],
             status: 0,
         },
     },
@@ -152,6 +164,7 @@ static SESSIONS: [Limited; 5] = [
             files: K,
             input: "+,3,ww\n!\n",
             text: &["refused,1,1,4\n"],
+            tables: &[],
             status: 0,
         },
     },
@@ -162,6 +175,7 @@ static SESSIONS: [Limited; 5] = [
             files: K,
             input: "+,3,w\n!\n+,3,w\n!\n",
             text: &["applied,1,1,0,4\napplied,2,1,0,5\n"],
+            tables: &[],
             status: 0,
         },
     },
@@ -172,6 +186,7 @@ static SESSIONS: [Limited; 5] = [
             files: K,
             input: "+,3,w\n!\n+,3,w\n!\n\n",
             text: &["refused,-,0,6\n"],
+            tables: &[],
             status: 3,
         },
     },
@@ -214,8 +229,14 @@ fn profiled<H: Threads + Wait + Sync>(
 ) -> Result<(Vec<u8>, u8), AllocError> {
     let file = file_of(alloc, "w.csv", bytes)?;
     let mut shelf = SureShelf::of(vec![in alloc; file]?);
-    let words = ["depprof", "profile", "w.csv"];
-    ran(rt, alloc, &words, &mut shelf, "", Limits::standard())
+    let mut input = SureSource::of(Vec::new(alloc));
+    let mut out = SureSink::with_room(alloc, 1_000_000)?;
+    let words = words_of(alloc, &["depprof", "profile", "w.csv"])?;
+    let limits = Limits::standard();
+    let outcome = run(
+        rt, alloc, words, &mut shelf, &mut input, &mut out, &OpenGate, limits,
+    );
+    Ok((Vec::from_slice(alloc, out.bytes())?, outcome.status()))
 }
 
 // Columns and rows, how many lines the report has, and the status.

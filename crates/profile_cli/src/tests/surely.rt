@@ -1,13 +1,14 @@
 // Runs over a source and a shelf that never fail, and a sink with more room than the text.
-ghost use Rattle.std.specs.Prelude.{◌≡◌, ◌<◌, ℕ, List, [], Some, None, length};
+ghost use Rattle.std.specs.Prelude.{◌≡◌, ◌<◌, ℕ, List, [], Some, None, false, length};
 ghost use Rattle.ports.specs.Files.{Nothing};
 ghost use Rattle.ports.specs.Lists.{look_up};
 ghost use Rattle.profile_cli.specs.Command as words_of;
 ghost use Rattle.profile_cli.specs.Command.{texts};
-ghost use Rattle.profile_cli.specs.Output.{output_text, refusal};
+ghost use Rattle.profile_cli.specs.Ends.{IsInput};
+ghost use Rattle.profile_cli.specs.Output.{output, refusal};
 ghost use Rattle.profile_cli.specs.Outcomes.{IsDoneOrNoMemory, OnDone};
-ghost use Rattle.profile_cli.specs.declared.request.Options.{Options};
-ghost use Rattle.profile_cli.specs.declared.request.Request.TheVariants.{Profile, Session};
+ghost use Rattle.profile_cli.specs.Task.{task_of};
+ghost use Rattle.profile_cli.specs.declared.request.Request.{Request};
 
 use crate::{Outcome, run};
 use ports::{OpenGate, SureShelf, SureSink, SureSource, Text};
@@ -18,8 +19,8 @@ use std::sync::Wait;
 use std::test::Fail;
 use std::thread::Threads;
 
-// Where the words are a command, no file and no input is refused, and an empty sink has more room than the text, the whole text is written, unless memory
-// ran out.
+// Where the words are a command that writes no files, nothing is refused, and an empty sink has more room than the text, the whole text is written, unless
+// memory ran out.
 fn run_surely<R: Threads + Wait + Sync>(
     rt: &R,
     alloc: Global,
@@ -32,18 +33,13 @@ fn run_surely<R: Threads + Wait + Sync>(
     requires closed { shelf.old.opened ≡ Nothing }
     requires empty { out.old.store.held ≡ [] }
     requires no_fault { out.old.faults ≡ 0 }
-    ensures complete_profile { (options : Options) (files : List (List ℕ)) → words_of.command (texts words.items) ≡ Some (Profile options files)
-        → refusal (Profile options files) limits (look_up shelf.old.files) input.old ≡ None
-        → length (output_text (Profile options files) limits (look_up shelf.old.files) input.old) < out.old.store.room
+    ensures complete { (request : Request) (bytes : List ℕ) → words_of.command (texts words.items) ≡ Some request → (task_of request).writes_files ≡ false
+        → IsInput (task_of request).reads_input (Some input.old) bytes → refusal (task_of request) limits (look_up shelf.old.files) bytes ≡ None
+        → length (output (texts words.items) limits (look_up shelf.old.files) bytes).written.text < out.old.store.room
         → IsDoneOrNoMemory result }
-    ensures written_profile { (options : Options) (files : List (List ℕ)) → words_of.command (texts words.items) ≡ Some (Profile options files)
-        → OnDone result (out.new.store.held ≡ output_text (Profile options files) limits (look_up shelf.old.files) input.old) }
-    ensures complete_session { (options : Options) (file : List ℕ) → words_of.command (texts words.items) ≡ Some (Session options file)
-        → refusal (Session options file) limits (look_up shelf.old.files) input.old ≡ None
-        → length (output_text (Session options file) limits (look_up shelf.old.files) input.old) < out.old.store.room
-        → IsDoneOrNoMemory result }
-    ensures written_session { (options : Options) (file : List ℕ) → words_of.command (texts words.items) ≡ Some (Session options file)
-        → OnDone result (out.new.store.held ≡ output_text (Session options file) limits (look_up shelf.old.files) input.old) }
+    ensures written { (request : Request) (bytes : List ℕ) → words_of.command (texts words.items) ≡ Some request
+        → IsInput (task_of request).reads_input (Some input.old) bytes
+        → OnDone result (out.new.store.held ≡ (output (texts words.items) limits (look_up shelf.old.files) bytes).written.text) }
 {
     let outcome = run(rt, alloc, words, shelf, input, out, &OpenGate, limits);
     let _held = out.bytes();

@@ -1,5 +1,5 @@
 // Words that are a command, in each of their forms, and words that are none.
-use super::{R, R_REPORT, ran, shelf_of};
+use super::{Case, R, R_REPORT, expect};
 use crate::usage_line;
 use rel_base::Limits;
 use std::alloc::{AllocError, Global};
@@ -8,31 +8,54 @@ use std::sync::Wait;
 use std::test::Fail;
 use std::thread::Threads;
 
+const USAGE: &str =
+    "usage: depprof profile [--workers N] [--nulls equal|distinct] FILE.. | normalize [--workers N] --out PREFIX FILE | session [--workers N] [--nulls equal|distinct] FILE | demo [--workers N] SEED\n";
+
 static FILES: [(&str, &str); 1] = [("r.csv", R)];
 
 // Asserts what each of these words write and end with.
 fn expect_each<H: Threads + Wait + Sync + Abort>(
     rt: &H,
     alloc: Global,
-    cases: &[&[&str]],
-    text: &[u8],
-    wanted: u8,
+    words: &[&'static [&'static str]],
+    text: &'static [&'static str],
+    status: u8,
 ) -> Result<(), AllocError> {
-    for words in cases {
-        let mut shelf = shelf_of(alloc, &FILES)?;
-        let (written, status) = ran(rt, alloc, words, &mut shelf, "", Limits::standard())?;
-        assert!(rt; written.as_slice() == text && status == wanted, "{words:?}");
+    for words in words {
+        let case = Case {
+            words,
+            files: &FILES,
+            input: "",
+            text,
+            tables: &[],
+            status,
+        };
+        expect(rt, alloc, &case, Limits::standard())?;
     }
     Ok(())
 }
 
-static NO_COMMAND: [&[&str]; 25] = [
+static NO_COMMAND: [&[&str]; 31] = [
     &[],
     &["depprof"],
     &["depprof", "profile"],
     &["depprof", "profile", "--"],
     &["depprof", "r.csv"],
     &["depprof", "demo", "x"],
+    &["depprof", "demo"],
+    &["depprof", "demo", "2147483648"],
+    &["depprof", "normalize", "r.csv"],
+    &["depprof", "normalize", "--out", "t"],
+    &["depprof", "normalize", "--out", "t", "r.csv", "r.csv"],
+    &[
+        "depprof",
+        "normalize",
+        "--nulls",
+        "distinct",
+        "--out",
+        "t",
+        "r.csv",
+    ],
     &["depprof", "-h"],
     &["depprof", "--help"],
     &["depprof", "help"],
@@ -64,12 +87,8 @@ static NO_COMMAND: [&[&str]; 25] = [
 
 #[test]
 fn other_words_are_answered_by_the_usage_line(rt: HostRuntime) -> Result<(), Fail> {
-    expect_each(&rt, rt.alloc(), &NO_COMMAND, usage_line(), 2)?;
-    assert!(rt;
-        usage_line().starts_with(
-            b"usage: depprof profile [--workers N] [--nulls equal|distinct] FILE.. | ".as_slice()
-        )
-    );
+    expect_each(&rt, rt.alloc(), &NO_COMMAND, &[USAGE], 2)?;
+    assert!(rt; usage_line() == USAGE.as_bytes());
     Ok(())
 }
 
@@ -93,6 +112,6 @@ static OPTIONS: [&[&str]; 8] = [
 
 #[test]
 fn options_are_read_in_each_of_their_forms(rt: HostRuntime) -> Result<(), Fail> {
-    expect_each(&rt, rt.alloc(), &OPTIONS, R_REPORT.as_bytes(), 0)?;
+    expect_each(&rt, rt.alloc(), &OPTIONS, &[R_REPORT], 0)?;
     Ok(())
 }

@@ -5,7 +5,7 @@ use Rattle.clap.specs.Matches.{found_of}
 use Rattle.clap.specs.Simple.{app_of}
 use Rattle.profile_cli.specs.Command.{texts}
 use Rattle.profile_cli.specs.declared.request.Request.{Request}
-use Rattle.profile_cli.proofs.Parse.{command-none, command-other, command-profile, command-session, is_free-app, is_simple-app}
+use Rattle.profile_cli.proofs.Parse.{command-demo, command-none, command-normalize, command-other, command-profile, command-session, is_free-app, is_simple-app}
 use Rattle.profile_cli.proofs.Workers.{workers-range}
 use Rattle.profile_cli.proofs.command.request_of.Goals as goal
 
@@ -41,9 +41,36 @@ returns-in-Ok-clause-command c =
     let is = c.in_ok-depprof_words.ensures in
     command-other a (texts c.args.words.now) c.in-Ok.matches is (c.in-Ok.ensures.kinds (is_free-app a is)) (c.in-Ok.ensures.matches (is_simple-app a is)).1
     (λ e. false≢true (c.in-None.ensures.found.1 e)) (λ e. false≢true (c.in-None-subcommand_matches.ensures.found.1 e))
+    (λ e. false≢true (c.in-None-subcommand_matches-2.ensures.found.1 e)) (λ e. false≢true (c.in-None-subcommand_matches-3.ensures.found.1 e))
 
 pub returns-clause-command : goal.returns-clause-command
 returns-clause-command c =
     let a = app_of c.in_ok-depprof_words.field-0 in
     let is = c.in_ok-depprof_words.ensures in
     command-none a (texts c.args.words.now) c.in-Err.error.kind is (c.in-Err.ensures.kinds (is_free-app a is)) (λ e. c.in_default.not-OutOfMemory (c.kind.ensures ∙ e))
+
+pub returns-in-Some-subcommand_matches-2-clause-command : goal.returns-in-Some-subcommand_matches-2-clause-command
+returns-in-Some-subcommand_matches-2-clause-command c =
+    let a = app_of c.in_ok-depprof_words.field-0 in
+    let is = c.in_ok-depprof_words.ensures in
+    ap (λ (r : Request). Some r) c.in_ok-normalize_of-in-Some-subcommand_matches-2.ensures
+    ∙ command-normalize a (texts c.args.words.now) c.in-Ok.matches is (c.in-Ok.ensures.kinds (is_free-app a is)) (c.in-Ok.ensures.matches (is_simple-app a is)).1
+    (rows_of (found_of c.in-Some-subcommand_matches-2.found.now)) (c.in-Some-subcommand_matches-2.ensures.found.0 refl) c.in-Some-subcommand_matches-2.ensures.rows
+
+pub returns-in-Some-subcommand_matches-2-clause-workers : goal.returns-in-Some-subcommand_matches-2-clause-workers
+returns-in-Some-subcommand_matches-2-clause-workers c =
+    let range = workers-range (texts c.args.words.now) _ (sym (returns-in-Some-subcommand_matches-2-clause-command c)) in
+    record { some = range.0; few = range.1 }
+
+pub returns-in-Some-subcommand_matches-3-clause-command : goal.returns-in-Some-subcommand_matches-3-clause-command
+returns-in-Some-subcommand_matches-3-clause-command c =
+    let a = app_of c.in_ok-depprof_words.field-0 in
+    let is = c.in_ok-depprof_words.ensures in
+    ap (λ (r : Request). Some r) c.demo_of.ensures
+    ∙ command-demo a (texts c.args.words.now) c.in-Ok.matches is (c.in-Ok.ensures.kinds (is_free-app a is)) (c.in-Ok.ensures.matches (is_simple-app a is)).1
+    (rows_of (found_of c.in-Some-subcommand_matches-3.found.now)) (c.in-Some-subcommand_matches-3.ensures.found.0 refl) c.in-Some-subcommand_matches-3.ensures.rows
+
+pub returns-in-Some-subcommand_matches-3-clause-workers : goal.returns-in-Some-subcommand_matches-3-clause-workers
+returns-in-Some-subcommand_matches-3-clause-workers c =
+    let range = workers-range (texts c.args.words.now) _ (sym (returns-in-Some-subcommand_matches-3-clause-command c)) in
+    record { some = range.0; few = range.1 }

@@ -3,7 +3,7 @@ use Rattle.std.specs.Prelude.{IfSome}
 use Rattle.std.proofs.lemmas.List.{length-append}
 use Rattle.ports.specs.Files.{Files, bytes_of}
 use Rattle.csv_load.specs.Refusal.{refused_file}
-use Rattle.profile_cli.specs.Output.{file_content}
+use Rattle.profile_cli.specs.Contents.{file_content}
 use Rattle.profile_cli.proofs.Files.{first_refusal-none, first_refusal-hit, first_refusal-pass, contents_more, name_at}
 use Rattle.profile_cli.proofs.Texts.{IfSome-always, IfSome-both, pushed, SameFaults-refl, SameFaults-trans}
 use Rattle.profile_cli.proofs.reading.read_files.Goals as goal
@@ -25,8 +25,9 @@ returns-in-Refused-clause-files g c =
     let H = g.H.Shelf in
     let is : c.index-names-place.result ≡ get_or c.args.names.now c.loop-place.place [] = name_at c.args.names.now c.loop-place.place c.index-names-place.result c.loop-place-test.true c.index-names-place.is in
     IfSome-both (H.content c.args.shelf.now)
-    (λ held known refused. first_refusal-hit c.args.limits.now held c.args.names.now c.loop-place.place c.in-Refused.rec c.in-Refused.why c.loop-place-test.true known.0
-    (ap (λ (name : List ℕ). refused_file c.args.limits.now (bytes_of held name)) (sym is) ∙ refused))
+    (λ held known refused.
+    let here = ap (λ (name : List ℕ). refused_file c.args.limits.now (bytes_of held name)) (sym is) ∙ refused in
+    (known.0, here, first_refusal-hit c.args.limits.now held c.args.names.now c.loop-place.place c.in-Refused.rec c.in-Refused.why c.loop-place-test.true known.0 here))
     c.loop-place.invariant.known
     (subst (λ (content : Option Files). IfSome content (λ held. refused_file c.args.limits.now (bytes_of held c.index-names-place.result) ≡ Some (c.in-Refused.rec, c.in-Refused.why))) c.loop-place.invariant.content c.in-Refused.ensures.bytes)
 

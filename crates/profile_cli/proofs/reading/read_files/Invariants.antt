@@ -2,7 +2,7 @@ use Rattle.std.proofs.Common.{◌≡◌, length, take, map, None}
 use Rattle.std.specs.Prelude.{IfSome}
 use Rattle.ports.specs.Faults.{SameFaults}
 use Rattle.ports.specs.Files.{Nothing, bytes_of}
-use Rattle.profile_cli.specs.Output.{file_content, first_refusal}
+use Rattle.profile_cli.specs.Contents.{file_content, first_refusal}
 use Rattle.profile_cli.proofs.reading.read_files.Given as goal
 
 abbrev pub invariant-loop-place : goal.invariant-loop-place

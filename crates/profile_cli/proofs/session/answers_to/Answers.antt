@@ -2,7 +2,7 @@ use Rattle.std.proofs.Common.{◌∙◌, ℕ, ap, subst, sym}
 use Rattle.rel_base.specs.RowState.{width}
 use Rattle.profile_cli.specs.Items.{IsAnswerable}
 use Rattle.profile_cli.specs.Session.{answers}
-use Rattle.profile_cli.proofs.Answering.{answers-more, answers-whole, item-width}
+use Rattle.profile_cli.proofs.SessionAnswers.{answers-more, answers-whole, item-width}
 use Rattle.profile_cli.proofs.Texts.{IfOk-map}
 use Rattle.profile_cli.proofs.session.answers_to.Goals as goal
 

@@ -1,4 +1,4 @@
-use Rattle.std.proofs.Common.{◌∙◌, ◌++◌, ◌<◌, ◌^◌, ◌+◌, length, sym, ap, arith, subst}
+use Rattle.std.proofs.Common.{◌∙◌, ◌++◌, sym, ap, arith, subst}
 use Rattle.rel_base.specs.RowState.{width}
 use Rattle.batch_update.specs.declared.item.Item.{Item}
 use Rattle.batch_update.specs.declared.item.Item.TheVariants.{Batch, Bad}
@@ -45,8 +45,8 @@ returns-in-Bad-clause-rows g c = OnOk-always c.push_refused_line.result (ap (ite
 
 pub returns-in-Report-clause-text : goal.returns-in-Report-clause-text
 returns-in-Report-clause-text g c =
-    OnOk-map c.push_whole_report.result (λ e. e ∙ ap (λ (x : Item). c.args.lines.now ++ item_text c.args.name.now c.args.book.now.rows x) (sym c.in-Report.is)) c.push_whole_report.ensures.text
+    OnOk-map c.push_report_now.result (λ e. e ∙ ap (λ (x : Item). c.args.lines.now ++ item_text c.args.name.now c.args.book.now.rows x) (sym c.in-Report.is)) c.push_report_now.ensures.text
 
 pub returns-in-Report-clause-rows : goal.returns-in-Report-clause-rows
 returns-in-Report-clause-rows g c =
-    OnOk-always c.push_whole_report.result (c.push_whole_report.ensures.rows ∙ ap (item_rows c.args.book.now.rows) (sym c.in-Report.is))
+    OnOk-always c.push_report_now.result (c.push_report_now.ensures.rows ∙ ap (item_rows c.args.book.now.rows) (sym c.in-Report.is))

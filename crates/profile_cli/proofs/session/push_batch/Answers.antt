@@ -1,9 +1,9 @@
-use Rattle.std.proofs.Common.{◌≡◌, ◌∙◌, ◌++◌, ◌+◌, ◌≤◌, length, sym, ap, arith}
+use Rattle.std.proofs.Common.{◌≡◌, ◌∙◌, ◌++◌, length, sym, ap, arith}
 use Rattle.rel_base.specs.RowState.{RowState}
 use Rattle.report_text.specs.Outcome.{applied_line}
 use Rattle.cover_steps.specs.Core.{Core}
 use Rattle.profile_cli.specs.Session.{batch_line}
-use Rattle.profile_cli.proofs.Answering.{fails_within}
+use Rattle.profile_cli.proofs.SessionAnswers.{fails_within}
 use Rattle.profile_cli.proofs.Texts.{OnOk-map}
 use Rattle.profile_cli.proofs.session.push_batch.Goals as goal
 

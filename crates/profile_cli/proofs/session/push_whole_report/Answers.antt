@@ -1,8 +1,7 @@
 use Rattle.std.proofs.Common.{◌≡◌, ◌∙◌, ◌++◌, ◌∷◌, [], subst}
 use Rattle.rel_base.specs.RowState.{RowState}
 use Rattle.profile_cli.specs.Reports.{inclusion_lines}
-use Rattle.profile_cli.proofs.Answering.{reports-one}
-use Rattle.profile_cli.proofs.Texts.{OnOk-map}
+use Rattle.profile_cli.proofs.SessionAnswers.{reports-one}
 use Rattle.profile_cli.proofs.session.push_whole_report.Goals as goal
 
 pub push_inclusions-requires-after_bounds : goal.push_inclusions-requires-after_bounds
@@ -10,8 +9,6 @@ push_inclusions-requires-after_bounds g c κs within = (c.rows.result.now ∷ []
 
 pub returns-clause-text : goal.returns-clause-text
 returns-clause-text g c =
-    let rows : c.rows.result.now ≡ c.args.book.now.rows = c.rows.ensures.rows ∙ c.in_ok-push_report_of.ensures.rows in
-    OnOk-map c.push_inclusions.result
-    (λ e. reports-one c.args.name.now c.args.book.now.rows c.args.lines.now c.push_report_of.new.lines c.push_inclusions.new.lines c.in_ok-push_report_of.ensures.text
-    (subst (λ (r : RowState). c.push_inclusions.new.lines ≡ c.push_report_of.new.lines ++ inclusion_lines (r ∷ [])) rows (e (c.rows.result.now ∷ []) (c.in_ok-push.ensures [] c.new-columns.ensures))))
-    c.push_inclusions.ensures
+    let rows : c.rows.result.now ≡ c.args.book.now.rows = c.rows.ensures.rows ∙ c.in_ok-found.ensures.rows in
+    reports-one c.args.name.now c.args.book.now.rows c.args.lines.now c.push_report_of.new.lines c.push_inclusions.new.lines c.in_ok-found.ensures.text
+    (subst (λ (r : RowState). c.push_inclusions.new.lines ≡ c.push_report_of.new.lines ++ inclusion_lines (r ∷ [])) rows (c.in_ok-push_inclusions.ensures (c.rows.result.now ∷ []) (c.in_ok-push.ensures [] c.new-columns.ensures)))

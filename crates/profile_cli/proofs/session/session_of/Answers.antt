@@ -6,7 +6,7 @@ use Rattle.batch_update.specs.declared.item.Item.{Item}
 use Rattle.cover_steps.specs.Core.{Core}
 use Rattle.profile_cli.specs.Items.{IsAnswerable}
 use Rattle.profile_cli.specs.Session.{answers}
-use Rattle.profile_cli.proofs.Answering.{all_answerable}
+use Rattle.profile_cli.proofs.SessionAnswers.{all_answerable}
 use Rattle.profile_cli.proofs.Texts.{IfOk-map}
 use Rattle.profile_cli.proofs.session.session_of.Goals as goal
 

@@ -1,7 +1,7 @@
 use Rattle.std.proofs.Common.{◌≡◌, ◌∙◌, refl, ap, ap₂, true}
 use Rattle.std.specs.Prelude.{codes}
 use Rattle.clap.specs.Simple.{App, app_of, app_of_fields, new_app, with_subcommand}
-use Rattle.profile_cli.specs.Words.{profile_app, session_app}
+use Rattle.profile_cli.specs.Words.{demo_app, normalize_app, profile_app, session_app}
 use Rattle.profile_cli.proofs.TheApp.{local_command}
 use Rattle.profile_cli.proofs.words.depprof_words.Goals as goal
 
@@ -9,12 +9,23 @@ pub returns : goal.returns
 returns c =
     let p = c.in_ok-profile_words.ensures in
     let s = c.in_ok-session_words.ensures in
-    let first : app_of c.in_ok-subcommand.field-0 ≡ with_subcommand (new_app (codes "depprof")) (profile_app p.0).top =
+    let n = c.in_ok-normalize_words.ensures in
+    let d = c.in_ok-demo_words.ensures in
+    let one : App = with_subcommand (new_app (codes "depprof")) (profile_app p.0).top in
+    let two : App = with_subcommand one (session_app s.0).top in
+    let three : App = with_subcommand two normalize_app.top in
+    let first : app_of c.in_ok-subcommand.field-0 ≡ one =
     c.in_ok-subcommand.ensures.shape (local_command c.in_ok-profile_words.field-0 (profile_app p.0) p.2 refl)
     ∙ ap₂ with_subcommand c.new.ensures.app (ap (λ (a : App). a.top) p.2) in
-    let made : app_of c.in_ok-command.command ≡ with_subcommand (with_subcommand (new_app (codes "depprof")) (profile_app p.0).top) (session_app s.0).top =
-    c.in_ok-command.ensures.shape (local_command c.in_ok-session_words.field-0 (session_app s.0) s.2 refl)
+    let second : app_of c.in_ok-subcommand-2.field-0 ≡ two =
+    c.in_ok-subcommand-2.ensures.shape (local_command c.in_ok-session_words.field-0 (session_app s.0) s.2 refl)
     ∙ ap₂ with_subcommand first (ap (λ (a : App). a.top) s.2) in
+    let third : app_of c.in_ok-subcommand-3.field-0 ≡ three =
+    c.in_ok-subcommand-3.ensures.shape (local_command c.in_ok-normalize_words.field-0 normalize_app n refl)
+    ∙ ap₂ with_subcommand second (ap (λ (a : App). a.top) n) in
+    let made : app_of c.in_ok-command.command ≡ with_subcommand three demo_app.top =
+    c.in_ok-command.ensures.shape (local_command c.in_ok-demo_words.field-0 demo_app d refl)
+    ∙ ap₂ with_subcommand third (ap (λ (a : App). a.top) d) in
     record {
       profile_names = p.0;
       session_names = s.0;
