@@ -2,7 +2,7 @@ use Rattle.std.proofs.Common.{◌∙◌, sym, ap, subst}
 use Rattle.std.proofs.lemmas.Bool.{eqb-true, eqb-false}
 use Rattle.col_set.specs.declared.col_set.TheConstants.{MOST_COLUMNS}
 use Rattle.set_tree.specs.Pairs.{value_at, IsInOrder}
-use Rattle.set_tree.specs.Walks.{values, read, listed}
+use Rattle.set_tree.specs.Walks.{values, read}
 use Rattle.set_tree.proofs.Spots.{tree_reads}
 use Rattle.set_tree.proofs.Listing.{value_listed, listed_rise}
 use Rattle.set_tree.proofs.Whole.{values_here, values_path, values_narrow}
