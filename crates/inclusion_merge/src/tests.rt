@@ -12,12 +12,14 @@ fn compare<R: Threads + Sync + Abort>(
     alloc: Global,
     columns: &[Row],
 ) -> Result<(), AllocError> {
-    let found = included(rt, alloc, columns)?;
     let wanted = inclusions(alloc, columns)?;
-    assert!(rt;
-        found.as_slice() == wanted.as_slice(),
-        "found {found:?}, and not {wanted:?}"
-    );
+    for workers in [1u8, 2, 16] {
+        let found = included(rt, alloc, columns, workers)?;
+        assert!(rt;
+            found.as_slice() == wanted.as_slice(),
+            "found {found:?}, and not {wanted:?}"
+        );
+    }
     Ok(())
 }
 
@@ -53,7 +55,7 @@ fn long_cells(rt: HostRuntime) -> Result<(), Fail> {
     for cells in columns {
         copied.push(Row::copied(rt.alloc(), cells)?)?;
     }
-    let found = included(&rt, rt.alloc(), &copied)?;
+    let found = included(&rt, rt.alloc(), &copied, 1)?;
     assert!(rt; found.as_slice() == [(0, 3), (1, 0), (1, 3), (2, 3), (4, 5)].as_slice());
     Ok(())
 }

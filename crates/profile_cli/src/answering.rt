@@ -35,26 +35,24 @@ fn made_of<R: Threads + Sync>(
 {
     match request {
         Request::Profile { options, files } => {
-            let text = reports_of(
-                rt,
-                alloc,
-                options.nulls,
-                limits,
-                files.as_slice(),
-                relations,
-            )?;
+            let text = reports_of(rt, alloc, *options, limits, files.as_slice(), relations)?;
             Ok(Made::text_alone(alloc, text))
         }
         Request::Session { options, file } => {
             let relation = relations.swap_remove(0);
-            let text = session_of(rt, alloc, options.nulls, limits, file, relation, input)?;
+            let text = session_of(rt, alloc, *options, limits, file, relation, input)?;
             Ok(Made::text_alone(alloc, text))
         }
-        Request::Normalize { prefix, file, .. } => {
-            normalized_of(rt, alloc, limits, prefix, file, relations.swap_remove(0))
+        Request::Normalize {
+            workers,
+            prefix,
+            file,
+        } => {
+            let relation = relations.swap_remove(0);
+            normalized_of(rt, alloc, *workers, limits, prefix, file, relation)
         }
-        Request::Demo { seed, .. } => {
-            let text = demo_text_of(rt, alloc, limits, *seed)?;
+        Request::Demo { workers, seed } => {
+            let text = demo_text_of(rt, alloc, *workers, limits, *seed)?;
             Ok(Made::text_alone(alloc, text))
         }
     }

@@ -46,30 +46,32 @@ impl Columns {
         Ok(())
     }
 
-    /// How many inclusions there are among these columns.
+    /// How many inclusions there are among these columns, found by so many workers at most.
     pub(crate) fn count_inclusions<R: Threads + Sync>(
         &self,
         rt: &R,
         alloc: Global,
+        workers: u8,
     ) -> Result<u64, AllocError>
         ensures { IfOk result (λ count. (states : List RowState) → AreColumnsOf states self.now.widths.items self.now.cells.items
             → count ≡ length (inclusions (all_columns states))) }
     {
-        Ok(included(rt, alloc, &self.cells)?.len() as u64)
+        Ok(included(rt, alloc, &self.cells, workers)?.len() as u64)
     }
 
-    /// Adds the lines of all inclusions among these columns. Relations are numbered from 1, in the order in which they were added.
+    /// Adds the lines of all inclusions among these columns, found by so many workers at most. Relations are numbered from 1, in the order in which they were added.
     pub(crate) fn push_inclusions<R: Threads + Sync>(
         &self,
         rt: &R,
         alloc: Global,
+        workers: u8,
         lines: &mut Lines,
     ) -> Result<(), AllocError>
         requires { (states : List RowState) × AreColumnsOf states self.now.widths.items self.now.cells.items }
         ensures { OnOk result ((states : List RowState) → AreColumnsOf states self.now.widths.items self.now.cells.items
             → lines.new ≡ lines.old ++ inclusion_lines states) }
     {
-        let pairs = included(rt, alloc, &self.cells)?;
+        let pairs = included(rt, alloc, &self.cells, workers)?;
         lines.push_inclusions(&self.widths, &pairs)
     }
 }

@@ -132,26 +132,28 @@ pub fn demo_relation(alloc: Global, seed: u32) -> Result<Relation, AllocError>
 fn count_inclusions<R: Threads + Sync>(
     rt: &R,
     alloc: Global,
+    workers: u8,
     rows: &RowLog,
 ) -> Result<u64, AllocError>
     ensures { IfOk result (λ count. count ≡ length (inclusions (all_columns (rows.now ∷ [])))) }
 {
     let mut columns = Columns::new(alloc);
     columns.push(alloc, rows)?;
-    columns.count_inclusions(rt, alloc)
+    columns.count_inclusions(rt, alloc, workers)
 }
 
 // The line of the counts of what `normalize` would write for a book's rows.
 fn counted<R: Threads + Sync>(
     rt: &R,
     alloc: Global,
+    workers: u8,
     seed: u32,
     book: &mut Book,
 ) -> Result<Vec<u8>, AllocError>
     ensures { IfOk result (λ text. text.items ≡ words.demo_text seed book.old.rows) }
 {
     let found = book.finish()?;
-    let inclusions = count_inclusions(rt, alloc, book.rows())?;
+    let inclusions = count_inclusions(rt, alloc, workers, book.rows())?;
     let tables = tables_of(alloc, book.rows(), &found)?;
     demo_line(
         alloc,
@@ -167,11 +169,12 @@ fn counted<R: Threads + Sync>(
 pub(crate) fn demo_text_of<R: Threads + Sync>(
     rt: &R,
     alloc: Global,
+    workers: u8,
     limits: Limits,
     seed: u32,
 ) -> Result<Vec<u8>, AllocError>
     ensures { IfOk result (λ text. text.items ≡ words.demo_text seed (opened Equal limits.rows (words.demo_content seed))) }
 {
     let mut book = Book::open(alloc, demo_relation(alloc, seed)?, limits)?;
-    counted(rt, alloc, seed, &mut book)
+    counted(rt, alloc, workers, seed, &mut book)
 }

@@ -163,6 +163,7 @@ fn alternates_of(
 fn push_normalized<R: Threads + Sync>(
     rt: &R,
     alloc: Global,
+    workers: u8,
     prefix: &Name,
     file: &Name,
     lines: &mut Lines,
@@ -173,7 +174,7 @@ fn push_normalized<R: Threads + Sync>(
     ensures text { OnOk result (lines.new ≡ lines.old ++ (words.normalized prefix.now file.now book.old.rows).text) }
     ensures files { IfOk result (λ files. files.items ≡ (words.normalized prefix.now file.now book.old.rows).files) }
 {
-    let found = push_whole_report(rt, alloc, lines, file, book)?;
+    let found = push_whole_report(rt, alloc, workers, lines, file, book)?;
     let tables = tables_of(alloc, book.rows(), &found)?;
     let alternates = alternates_of(alloc, book, &tables)?;
     lines.push_tables(&tables, &alternates)?;
@@ -187,6 +188,7 @@ fn push_normalized<R: Threads + Sync>(
 pub(crate) fn normalized_of<R: Threads + Sync>(
     rt: &R,
     alloc: Global,
+    workers: u8,
     limits: Limits,
     prefix: &Name,
     file: &Name,
@@ -196,6 +198,6 @@ pub(crate) fn normalized_of<R: Threads + Sync>(
 {
     let mut book = Book::open(alloc, relation, limits)?;
     let mut lines = Lines::new(alloc);
-    let files = push_normalized(rt, alloc, prefix, file, &mut lines, &mut book)?;
+    let files = push_normalized(rt, alloc, workers, prefix, file, &mut lines, &mut book)?;
     Ok(Made::of(files, lines.into_text()?))
 }

@@ -6,8 +6,9 @@ ghost use Rattle.rel_base.specs.RowState.{opened, width};
 ghost use Rattle.profile_cli.specs.Reports.{report_of, reports};
 
 use crate::columns::Columns;
+use crate::request::Options;
 use cover_core::Book;
-use rel_base::{Covers, Limits, Name, Nulls, Relation};
+use rel_base::{Covers, Limits, Name, Relation};
 use report_text::Lines;
 use std::alloc::{AllocError, Global};
 use std::thread::Threads;
@@ -35,21 +36,21 @@ pub(crate) fn push_report_of(
 pub(crate) fn reports_of<R: Threads + Sync>(
     rt: &R,
     alloc: Global,
-    nulls: Nulls,
+    options: Options,
     limits: Limits,
     names: &[Name],
     relations: Vec<Relation>,
 ) -> Result<Vec<u8>, AllocError>
     requires { length relations.items ≡ length names.now }
-    ensures { IfOk result (λ text. text.items ≡ reports names.now (map (opened nulls limits.rows) relations.items)) }
+    ensures { IfOk result (λ text. text.items ≡ reports names.now (map (opened options.nulls limits.rows) relations.items)) }
 {
     let mut lines = Lines::new(alloc);
     let mut columns = Columns::new(alloc);
     for (place, relation) in relations.into_iter().enumerate() {
-        let mut book = Book::open_with(alloc, relation, limits, nulls)?;
+        let mut book = Book::open_with(alloc, relation, limits, options.nulls)?;
         push_report_of(&mut lines, &names[place], &mut book)?;
         columns.push(alloc, book.rows())?;
     }
-    columns.push_inclusions(rt, alloc, &mut lines)?;
+    columns.push_inclusions(rt, alloc, options.workers, &mut lines)?;
     lines.into_text()
 }

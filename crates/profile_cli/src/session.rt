@@ -12,9 +12,10 @@ ghost use Rattle.profile_cli.specs.Session as spec;
 
 use crate::columns::Columns;
 use crate::reports::push_report_of;
+use crate::request::Options;
 use batch_update::{Item, read_changes};
 use cover_core::{Applying, Book};
-use rel_base::{Batch, Covers, Limits, Name, Nulls, Relation};
+use rel_base::{Batch, Covers, Limits, Name, Relation};
 use report_text::Lines;
 use std::alloc::{AllocError, Global};
 use std::thread::Threads;
@@ -25,25 +26,26 @@ use std::thread::Threads;
 pub(crate) fn session_of<R: Threads + Sync>(
     rt: &R,
     alloc: Global,
-    nulls: Nulls,
+    options: Options,
     limits: Limits,
     name: &Name,
     relation: Relation,
     bytes: &[u8],
 ) -> Result<Vec<u8>, AllocError>
     requires { length bytes.now < 2 ^ 32 }
-    ensures { IfOk result (λ text. text.items ≡ spec.session_text name.now (opened nulls limits.rows relation) limits bytes.now) }
+    ensures { IfOk result (λ text. text.items ≡ spec.session_text name.now (opened options.nulls limits.rows relation) limits bytes.now) }
 {
-    let mut book = Book::open_with(alloc, relation, limits, nulls)?;
+    let mut book = Book::open_with(alloc, relation, limits, options.nulls)?;
     let columns = book.rows().names().len() as u8;
     let items = read_changes(alloc, bytes, columns, &limits)?;
-    answers_to(rt, alloc, name, &mut book, &items)
+    answers_to(rt, alloc, options.workers, name, &mut book, &items)
 }
 
 // The answers to these items, one after another.
 fn answers_to<R: Threads + Sync>(
     rt: &R,
     alloc: Global,
+    workers: u8,
     name: &Name,
     book: &mut Book,
     items: &[Item],
@@ -53,7 +55,7 @@ fn answers_to<R: Threads + Sync>(
 {
     let mut lines = Lines::new(alloc);
     for item in items {
-        push_answer(rt, alloc, &mut lines, name, book, item)?;
+        push_answer(rt, alloc, workers, &mut lines, name, book, item)?;
     }
     lines.into_text()
 }
@@ -62,6 +64,7 @@ fn answers_to<R: Threads + Sync>(
 fn push_answer<R: Threads + Sync>(
     rt: &R,
     alloc: Global,
+    workers: u8,
     lines: &mut Lines,
     name: &Name,
     book: &mut Book,
@@ -74,7 +77,7 @@ fn push_answer<R: Threads + Sync>(
     match item {
         Item::Batch { no, first, batch } => push_batch(lines, book, *no as u32, *first, batch),
         Item::Bad { no, rec, why } => lines.push_refused_line(*no as u32, *rec, *why),
-        Item::Report => push_report_now(rt, alloc, lines, name, book),
+        Item::Report => push_report_now(rt, alloc, workers, lines, name, book),
     }
 }
 
@@ -104,6 +107,7 @@ fn push_batch(
 fn push_report_now<R: Threads + Sync>(
     rt: &R,
     alloc: Global,
+    workers: u8,
     lines: &mut Lines,
     name: &Name,
     book: &mut Book,
@@ -111,7 +115,7 @@ fn push_report_now<R: Threads + Sync>(
     ensures text { OnOk result (lines.new ≡ lines.old ++ reports (name.now ∷ []) (book.old.rows ∷ [])) }
     ensures rows { book.new.rows ≡ book.old.rows }
 {
-    push_whole_report(rt, alloc, lines, name, book)?;
+    push_whole_report(rt, alloc, workers, lines, name, book)?;
     Ok(())
 }
 
@@ -120,6 +124,7 @@ fn push_report_now<R: Threads + Sync>(
 pub(crate) fn push_whole_report<R: Threads + Sync>(
     rt: &R,
     alloc: Global,
+    workers: u8,
     lines: &mut Lines,
     name: &Name,
     book: &mut Book,
@@ -132,6 +137,6 @@ pub(crate) fn push_whole_report<R: Threads + Sync>(
     let found = push_report_of(lines, name, book)?;
     let mut columns = Columns::new(alloc);
     columns.push(alloc, book.rows())?;
-    columns.push_inclusions(rt, alloc, lines)?;
+    columns.push_inclusions(rt, alloc, workers, lines)?;
     Ok(found)
 }

@@ -13,13 +13,13 @@ use Rattle.profile_cli.proofs.Texts.{AreReports, AreReports-more, AreReports-non
 use Rattle.profile_cli.proofs.reports.reports_of.Goals as goal
 
 pub loop-place-init : goal.loop-place-init
-loop-place-init g c = AreReports-none c.args.names.now (map (opened c.args.nulls c.args.limits.rows) c.args.relations.items) _ _ _ c.new-lines.ensures c.new-columns.ensures
+loop-place-init g c = AreReports-none c.args.names.now (map (opened c.args.options.nulls c.args.limits.rows) c.args.relations.items) _ _ _ c.new-lines.ensures c.new-columns.ensures
 
 pub loop-place-preserved : goal.loop-place-preserved
 loop-place-preserved g c =
     let names = c.args.names.now in
     let rs = c.args.relations.items in
-    let f : Content → RowState = opened c.args.nulls c.args.limits.rows in
+    let f : Content → RowState = opened c.args.options.nulls c.args.limits.rows in
     let n : ℕ = length c.loop-place.yielded in
     let place = c.in-Some.place in
     let relation = c.in-Some.relation in
@@ -52,7 +52,7 @@ pub loop-place-preserved-in_ok-push : goal.loop-place-preserved-in_ok-push
 loop-place-preserved-in_ok-push g c =
     let names = c.args.names.now in
     let rs = c.args.relations.items in
-    let f : Content → RowState = opened c.args.nulls c.args.limits.rows in
+    let f : Content → RowState = opened c.args.options.nulls c.args.limits.rows in
     let n : ℕ = length c.loop-place.yielded in
     let place = c.in-Some.place in
     let relation = c.in-Some.relation in
@@ -84,25 +84,25 @@ loop-place-preserved-in_ok-push g c =
 pub push_inclusions-requires-after_bounds : goal.push_inclusions-requires-after_bounds
 push_inclusions-requires-after_bounds g c κs lives =
     let rs = c.args.relations.items in
-    let states : List RowState = map (opened c.args.nulls c.args.limits.rows) rs in
+    let states : List RowState = map (opened c.args.options.nulls c.args.limits.rows) rs in
     let end = YieldsList-end (YieldsList-at c.into_iter-place-iterator.ensures.into_iter_gives
     (YieldsList-from_enumerate (YieldsList-at c.enumerate-place-items.ensures.source (YieldsList-from_vec rs c.into_iter.ensures.rest (c.into_iter.ensures.len ∙ c.args.relations.ok.0))) c.enumerate-place-items.ensures.count))
     c.loop-place.yielded c.loop-place.place-iterator c.loop-place.yielded_by c.next.result c.next.new.self c.in-None.is c.next.ensures.steps in
     let all : length c.loop-place.yielded ≡ length rs = end.1 ∙ length-enumerate_from 0 rs in
     let as_many : length rs ≡ length c.args.names.now = c.requires in
-    let counted : length states ≡ length rs = length-map rs (opened c.args.nulls c.args.limits.rows) in
+    let counted : length states ≡ length rs = length-map rs (opened c.args.options.nulls c.args.limits.rows) in
     (states, (AreReports-whole c.args.names.now states (length c.loop-place.yielded) c.loop-place.lines c.loop-place.columns.widths.items c.loop-place.columns.cells.items (omega arith) (omega arith) c.loop-place.invariant).1)
 
 pub returns : goal.returns
 returns g c =
     let rs = c.args.relations.items in
-    let states : List RowState = map (opened c.args.nulls c.args.limits.rows) rs in
+    let states : List RowState = map (opened c.args.options.nulls c.args.limits.rows) rs in
     let end = YieldsList-end (YieldsList-at c.into_iter-place-iterator.ensures.into_iter_gives
     (YieldsList-from_enumerate (YieldsList-at c.enumerate-place-items.ensures.source (YieldsList-from_vec rs c.into_iter.ensures.rest (c.into_iter.ensures.len ∙ c.args.relations.ok.0))) c.enumerate-place-items.ensures.count))
     c.loop-place.yielded c.loop-place.place-iterator c.loop-place.yielded_by c.next.result c.next.new.self c.in-None.is c.next.ensures.steps in
     let all : length c.loop-place.yielded ≡ length rs = end.1 ∙ length-enumerate_from 0 rs in
     let as_many : length rs ≡ length c.args.names.now = c.requires in
-    let counted : length states ≡ length rs = length-map rs (opened c.args.nulls c.args.limits.rows) in
+    let counted : length states ≡ length rs = length-map rs (opened c.args.options.nulls c.args.limits.rows) in
     let whole = AreReports-whole c.args.names.now states (length c.loop-place.yielded) c.loop-place.lines c.loop-place.columns.widths.items c.loop-place.columns.cells.items (omega arith) (omega arith) c.loop-place.invariant in
     IfOk-map c.into_text.result
     (λ text e. e ∙ reports-whole c.args.names.now states c.loop-place.lines c.push_inclusions.new.lines whole.0 (c.in_ok-push_inclusions.ensures states whole.1))

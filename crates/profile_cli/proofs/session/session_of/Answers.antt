@@ -20,7 +20,7 @@ answers_to-requires-after_bounds g c κs within =
 pub returns : goal.returns
 returns g c =
     let wide : c.len-columns.result ≡ width c.in_ok-book.book.rows = c.len-columns.ensures ∙ ap length c.names.ensures.value ∙ ap width c.rows.ensures.rows in
-    let rows : c.in_ok-book.book.rows ≡ opened c.args.nulls c.args.limits.rows c.args.relation = ap (λ (b : Core). b.rows) c.in_ok-book.ensures in
+    let rows : c.in_ok-book.book.rows ≡ opened c.args.options.nulls c.args.limits.rows c.args.relation = ap (λ (b : Core). b.rows) c.in_ok-book.ensures in
     IfOk-map c.answers_to.result
     (λ text e. e ∙ ap₂ (λ (r : RowState) (items : List Item). answers c.args.name.now r items) rows
     (c.deref.ensures.value ∙ c.in_ok-items.ensures.items ∙ ap (λ (n : ℕ). changes c.args.bytes.now n c.args.limits) (wide ∙ ap width rows)))
