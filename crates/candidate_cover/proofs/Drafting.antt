@@ -1,8 +1,8 @@
 -- Agree sets that come into a draft.
-use Rattle.std.proofs.Common.{◌≡◌, ℕ, ◌+◌, ◌^◌, ◌<◌, ◌≤◌, Bool, true, false, not, ◌&&◌, ◌||◌, refl, sym, ap, ◌∙◌, subst, List, [], ◌∷◌, ◌++◌, length, get_or, take}
+use Rattle.std.proofs.Common.{◌≡◌, ℕ, ◌+◌, ◌^◌, ◌<◌, ◌≤◌, Bool, true, false, cond, not, ◌&&◌, ◌||◌, refl, sym, ap, ◌∙◌, subst, List, [], ◌∷◌, ◌++◌, length, get_or, take, drop}
 use Rattle.std.specs.List.{list_any}
-use Rattle.std.proofs.lemmas.Bool.{true≢false, and_parts, and_from, or_right, not_from_false, not-true, lt-ltb, ltb-true}
-use Rattle.std.proofs.lemmas.List.{take_all}
+use Rattle.std.proofs.lemmas.Bool.{true≢false, and_parts, and_from, or_right, not_from_false, not-true, lt-ltb, ltb-true, false_from_ne_true, true_from_ne_false}
+use Rattle.std.proofs.lemmas.List.{take_all, take-append-drop}
 use Rattle.col_set.specs.declared.target.Target.{Target}
 use Rattle.col_set.specs.declared.target.Target.TheVariants.{Col, RowId}
 use Rattle.col_set.specs.ColSet.{IsSubset, has, all, minus, union, subset, upto}
@@ -11,9 +11,10 @@ use Rattle.col_set.specs.Evidence.{refuted}
 use Rattle.col_set.specs.Members.{has-empty, has-all, has-minus, has-union}
 use Rattle.col_set.specs.Subsets.{IsSubset-refl, subset-true, same_test, subset_below}
 use Rattle.col_set.specs.AllSets.{Listed-upto, Listed-upto_within}
-use Rattle.col_set.specs.Lists.{list_any_at, list_any_which}
+use Rattle.col_set.specs.Lists.{Listed-append_left, list_any_at, list_any_which}
 use Rattle.col_set.proofs.Least.{refuted_inside}
 use Rattle.candidate_cover.specs.Growth.{ListsLeast}
+use Rattle.candidate_cover.specs.declared.draft.Known.{Known}
 use Rattle.candidate_cover.specs.Drafts.{Drafted, is_news}
 use Rattle.candidate_cover.proofs.Evidence.{refuted-push, choice_parts}
 use Rattle.candidate_cover.proofs.Growing.{outside_of, not_inside}
@@ -47,6 +48,46 @@ module _ (n z : ℕ) (ws : List ℕ) (i w : ℕ) (l : i < length ws) (is : w ≡
 
       same : (t : Target) → refuted (take i ws) t z ≡ refuted (take (i + 1) ws) t z
       same t = sym (refuted_more ws t z i w l is ∙ ap (λ b. refuted (take i ws) t z || (b && not (has_target w t))) e ∙ sym (or_false (refuted (take i ws) t z)))
+
+-- whichever of both it was
+pub known_next : (n z : ℕ) (ws : List ℕ) (i w : ℕ) → i < length ws → w ≡ get_or ws i w → (old new : Known) → new ≡ cond (subset z w) (record { rows = true; columns = union old.columns (minus (all n) w) }) old → KnownSoFar n (take i ws) z old.rows old.columns
+    → KnownSoFar n (take (i + 1) ws) z new.rows new.columns
+known_next n z ws i w l is old new e k = by (subset z w) refl e
+  where
+    by : (b : Bool) → subset z w ≡ b → new ≡ cond b (record { rows = true; columns = union old.columns (minus (all n) w) }) old → KnownSoFar n (take (i + 1) ws) z new.rows new.columns
+    by true s f = subst (λ (m : Known). KnownSoFar n (take (i + 1) ws) z m.rows m.columns) (sym f) (known_more n z ws i w l is old.rows old.columns k s (union old.columns (minus (all n) w)) refl)
+    by false s f = subst (λ (m : Known). KnownSoFar n (take (i + 1) ws) z m.rows m.columns) (sym f) (known_same n z ws i w l is old.rows old.columns k s)
+
+-- an agree set of some is one of all
+refuted_front : (ws vs : List ℕ) (t : Target) (z : ℕ) → refuted ws t z ≡ true → refuted (ws ++ vs) t z ≡ true
+unfolding refuted
+refuted_front ws vs t z e = let w = list_any_which (λ w. subset z w && not (has_target w t)) ws e in list_any_at (λ w. subset z w && not (has_target w t)) w.0 (ws ++ vs) (Listed-append_left w.0 ws vs w.1) w.2
+
+-- none that contains z lacks a column of z
+refuted_own : (ws : List ℕ) (z a : ℕ) → has z a ≡ true → refuted ws (Col a) z ≡ false
+unfolding refuted has_target
+refuted_own ws z a h = false_from_ne_true _ (λ e.
+    let w = list_any_which (λ w. subset z w && not (has w a)) ws e in
+    let p = and_parts _ _ w.2 in
+    true≢false (sym ((subset-true p.0).each a h) ∙ not-true _ p.1))
+
+-- what is known for all that z lacks stays so
+pub known_enough : (n z : ℕ) (ws : List ℕ) (i : ℕ) (rows : Bool) (lacking : ℕ) → (rows && subset (minus (all n) z) lacking) ≡ true → KnownSoFar n (take i ws) z rows lacking → KnownSoFar n ws z rows lacking
+known_enough n z ws i rows lacking e k = record {
+  of_rows = p.0 ∙ sym (whole RowId (sym k.of_rows ∙ p.0));
+  of_columns = λ a l. by a l (has lacking a) refl;
+}
+  where
+    p : (rows ≡ true) × (subset (minus (all n) z) lacking ≡ true)
+    p = and_parts rows _ e
+
+    whole : (t : Target) → refuted (take i ws) t z ≡ true → refuted ws t z ≡ true
+    whole t f = subst (λ (vs : List ℕ). refuted vs t z ≡ true) (take-append-drop i ws) (refuted_front (take i ws) (drop i ws) t z f)
+
+    by : (a : ℕ) → a < n → (b : Bool) → has lacking a ≡ b → has lacking a ≡ refuted ws (Col a) z
+    by a l true h = h ∙ sym (whole (Col a) (sym (k.of_columns a l) ∙ h))
+    by a l false h = h ∙ sym (refuted_own ws z a (true_from_ne_false (has z a) (λ f.
+        true≢false (sym ((subset-true p.1).each a (has-minus (all n) z a ∙ and_from _ _ (has-all n a ∙ lt-ltb a n l) (not_from_false _ f))) ∙ h))))
 
 pub known_all : (n z : ℕ) (ws : List ℕ) (i : ℕ) (rows : Bool) (lacking : ℕ) → length ws ≤ i → KnownSoFar n (take i ws) z rows lacking → KnownSoFar n ws z rows lacking
 known_all n z ws i rows lacking l k = subst (λ vs. KnownSoFar n vs z rows lacking) (take_all i ws l) k

@@ -1,12 +1,14 @@
 -- Three flat lists as one list of pairs.
-use Rattle.std.proofs.Common.{◌≡◌, ℕ, zero, suc, ◌+◌, ◌-◌, ◌<◌, ◌≤◌, Bool, true, false, cond, refl, sym, ap, ap₂, ◌∙◌, subst, arith, List, [], ◌∷◌, ◌++◌, length, get_or, take, drop, set, map, Some, None, drop-cons, add-one}
-use Rattle.std.proofs.lemmas.List.{length-append, length-drop, length-set, length-map, get_or-map, map-append, take_more, take_all, drop_all, drop-map}
+use Rattle.std.proofs.Common.{◌≡◌, ℕ, zero, suc, ◌+◌, ◌-◌, ◌<◌, ◌≤◌, max, Bool, true, false, cond, refl, sym, ap, ap₂, ◌∙◌, subst, arith, List, [], ◌∷◌, ◌++◌, length, get_or, take, drop, set, map, Some, None, drop-cons, add-one}
+use Rattle.std.proofs.lemmas.List.Elements.{filter-append}
+use Rattle.std.proofs.lemmas.List.{append-nil, length-append, length-drop, length-set, length-map, get_or-map, map-append, take_more, take_all, drop_all, drop-map}
 use Rattle.candidate_cover.specs.declared.cand.Mark.{Mark}
-use Rattle.std.specs.List.{find}
+use Rattle.std.specs.List.{find, filter}
 use Rattle.col_set.specs.ColSet.{report_cmp}
 use Rattle.col_set.specs.Lists.{Rises}
 use Rattle.candidate_cover.specs.declared.cand.Cand.{Cand}
 use Rattle.candidate_cover.specs.Cands.{all_free, kept_or_fresh}
+use Rattle.candidate_cover.specs.AllMarked.{all_marked}
 use Rattle.candidate_cover.specs.Marks.{cand, cands}
 use Rattle.candidate_cover.specs.Pairs.{pairs_of, AreEven, keys, IsInOrder, value_at, with_value}
 use Rattle.candidate_cover.specs.Place.{Stands, Lacks}
@@ -130,6 +132,19 @@ pairs-free xs us hs gs e = ap (λ (fs : List Bool). cands (pairs_of xs us fs)) e
 pub even-free : (xs us : List ℕ) (hs gs : List Bool) → gs ≡ map (λ h. false) hs → AreEven xs us hs → AreEven xs us gs
 even-free xs us hs gs e even = record { uptos = even.uptos; helds = ap length e ∙ length-map hs (λ h. false) ∙ even.helds }
 
+-- all are known to hold up to there, and nobody holds any
+pub pairs-marked : (xs us vs : List ℕ) (hs gs : List Bool) (to : ℕ) → gs ≡ map (λ h. false) hs → vs ≡ map (λ u. max u to) us → cands (pairs_of xs vs gs) ≡ all_marked to (cands (pairs_of xs us hs))
+pairs-marked xs us vs hs gs to e f = (λ i. cands (pairs_of xs (f i) (e i))) ∙ by xs us hs
+  where
+    by : (xs us : List ℕ) (hs : List Bool) → cands (pairs_of xs (map (λ u. max u to) us) (map (λ h. false) hs)) ≡ all_marked to (cands (pairs_of xs us hs))
+    by [] us hs = refl
+    by (x ∷ xs) [] hs = refl
+    by (x ∷ xs) (u ∷ us) [] = refl
+    by (x ∷ xs) (u ∷ us) (h ∷ hs) = ap (λ (cs : List Cand). record { left = x; upto = max u to; held = false } ∷ cs) (by xs us hs)
+
+pub even-marked : (xs us vs : List ℕ) (hs gs : List Bool) (to : ℕ) → gs ≡ map (λ h. false) hs → vs ≡ map (λ u. max u to) us → AreEven xs us hs → AreEven xs vs gs
+even-marked xs us vs hs gs to e f even = record { uptos = ap length f ∙ length-map us (λ u. max u to) ∙ even.uptos; helds = ap length e ∙ length-map hs (λ h. false) ∙ even.helds }
+
 -- the order is that of the left sides
 pub flat_order : (xs us : List ℕ) (hs : List Bool) → AreEven xs us hs → Rises report_cmp xs → IsInOrder (pairs_of xs us hs)
 flat_order xs us hs even r = keys_order (pairs_of xs us hs) (subst (Rises report_cmp) (sym (keys-pairs xs us hs even)) r)
@@ -215,6 +230,24 @@ same_flat xs us xs' us' hs hs' e f g = λ i. pairs_of (e i) (f i) (g i)
 -- one more candidate is listed
 pub listed_more : (cs ds : List Cand) (i : ℕ) (c : Cand) → i < length cs → ((d : Cand) → get_or cs i d ≡ c) → ds ≡ take i cs → ds ++ c ∷ [] ≡ take (i + 1) cs
 listed_more cs ds i c l e f = ap₂ (λ (as' : List Cand) (d : Cand). as' ++ d ∷ []) f (sym (e c)) ∙ sym (take_more cs i c l)
+
+-- a candidate stands at each place, with the left side that is there
+pub flat_cand : (xs us : List ℕ) (hs : List Bool) (i x : ℕ) → AreEven xs us hs → i < length xs → x ≡ get_or xs i x → (c : Cand) × ((d : Cand) → get_or (cands (pairs_of xs us hs)) i d ≡ c) × (c.left ≡ x)
+flat_cand xs us hs i x even l e = (
+  cand (get_or xs i x, record { upto = get_or us i 0; held = get_or hs i false }),
+  (λ d. get_or-map cand (pairs_of xs us hs) i (x, record { upto = 0; held = false }) d (subst (λ (n : ℕ). i < n) (sym (length-pairs xs us hs even)) l)
+      ∙ ap cand (pairs-get xs us hs i x 0 false (x, record { upto = 0; held = false }) even l)),
+  sym e,
+)
+
+-- the candidates that pass a test, with one more
+pub passed_more : (p : Cand → Bool) (cs ds : List Cand) (i : ℕ) (c : Cand) → i < length cs → ((d : Cand) → get_or cs i d ≡ c) → ds ≡ filter p (take i cs) → p c ≡ true → ds ++ c ∷ [] ≡ filter p (take (i + 1) cs)
+passed_more p cs ds i c l e f h =
+    ap₂ (λ (as' : List Cand) (b : Bool). as' ++ cond b (c ∷ []) []) f (sym h) ∙ sym (filter-append p (take i cs) (c ∷ [])) ∙ ap (filter p) (ap (λ (d : Cand). take i cs ++ d ∷ []) (sym (e c)) ∙ sym (take_more cs i c l))
+
+pub passed_same : (p : Cand → Bool) (cs ds : List Cand) (i : ℕ) (c : Cand) → i < length cs → ((d : Cand) → get_or cs i d ≡ c) → ds ≡ filter p (take i cs) → p c ≡ false → ds ≡ filter p (take (i + 1) cs)
+passed_same p cs ds i c l e f h =
+    f ∙ sym (append-nil (filter p (take i cs))) ∙ ap (λ (b : Bool). filter p (take i cs) ++ cond b (c ∷ []) []) (sym h) ∙ sym (filter-append p (take i cs) (c ∷ [])) ∙ ap (filter p) (ap (λ (d : Cand). take i cs ++ d ∷ []) (sym (e c)) ∙ sym (take_more cs i c l))
 
 -- all of the lists behind none
 pub copied_whole : (xs us : List ℕ) (hs : List Bool) (ys vs : List ℕ) (gs : List Bool) (count : ℕ) → AreEven xs us hs → length xs ≤ count → pairs_of ys vs gs ≡ []

@@ -5,7 +5,7 @@ use Rattle.std.specs.Option.{option_map}
 use Rattle.std.specs.Ordering.{is_lt, is_eq, ordering_reverse}
 use Rattle.std.proofs.lemmas.Bool.{eqb-true, eq-eqb, true≢false, cases_eq, cases_lt}
 use Rattle.std.proofs.lemmas.Cmp.{tied_itself}
-use Rattle.std.proofs.lemmas.List.{length-map}
+use Rattle.std.proofs.lemmas.List.{length-map, get_or_default}
 use Rattle.std.proofs.lemmas.List.Folds.{list_any_none}
 use Rattle.std.proofs.lemmas.List.Sorted.{searchable_from_sorted}
 use Rattle.col_set.specs.ColSet.{report_cmp}
@@ -64,6 +64,10 @@ place_found xs x (Err i) o b s =
         after = λ k d h l. report_total.antisymm x (get_or xs k d) ∙ ap ordering_reverse (w.1 k d h l);
       };
     }
+
+-- a set that is seen at a place
+pub place_seen : (xs : List ℕ) (x y : ℕ) (i : ℕ) → Rises report_cmp xs → i < length xs → y ≡ get_or xs i y → y ≡ x → IsPlace xs x (Ok i)
+place_seen xs x y i o l is e = place_found xs x (Ok i) o l (λ d. ap (λ (z : ℕ). report_cmp z x) (get_or_default xs i d y l ∙ sym is ∙ e) ∙ tied_itself report_total x)
 
 -- ---- the place among pairs
 get_or-keys : (ps : List (ℕ × Mark)) (k : ℕ) (d : ℕ × Mark) → get_or (keys ps) k d.0 ≡ (get_or ps k d).0

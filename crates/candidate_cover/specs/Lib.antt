@@ -1,3 +1,4 @@
+pub mod AllMarked
 pub mod Branches
 pub mod Cands
 pub mod Drafts
@@ -6,3 +7,4 @@ pub mod Lists
 pub mod Marks
 pub mod Pairs
 pub mod Place
+pub mod Sizes

@@ -1,17 +1,19 @@
 // The candidates of one target in flat lists, the left sides apart from their marks.
-ghost use Rattle.std.specs.Prelude.{◌≡◌, ◌≤◌, ◌<◌, ◌-◌, ◌++◌, ◌∷◌, [], Bool, length, take, drop, map, slice_index_or, false, IfOk, OnOk, IfSome};
-ghost use Rattle.std.specs.List.{find};
-ghost use Rattle.col_set.specs.ColSet.{empty, report_cmp};
+ghost use Rattle.std.specs.Prelude.{◌≡◌, ◌≤◌, ◌<◌, ◌-◌, ◌&&◌, nat_le, ◌++◌, ◌∷◌, [], Bool, length, take, drop, map, max, slice_index_or, false, IfOk, OnOk, IfSome};
+ghost use Rattle.std.specs.List.{find, filter};
+ghost use Rattle.candidate_cover.specs.Sizes as sizes;
+ghost use Rattle.col_set.specs.ColSet.{empty, report_cmp, size};
 ghost use Rattle.col_set.specs.Lists.{Rises};
 ghost use Rattle.candidate_cover.specs.Cands as words;
 ghost use Rattle.candidate_cover.specs.Cands.{from, all_free, kept_or_fresh};
+ghost use Rattle.candidate_cover.specs.AllMarked.{all_marked};
 ghost use Rattle.candidate_cover.specs.Marks.{cand, cands, fresh_mark};
 ghost use Rattle.candidate_cover.specs.Pairs.{pairs_of, AreEven, keys, is_key, value_at, with_value, toggled};
 ghost use Rattle.candidate_cover.specs.Pairs as pairs;
 ghost use Rattle.candidate_cover.specs.declared.cand.Cand.{Cand};
 
 use crate::cand::{Cand, Mark};
-use crate::place::place_of;
+use crate::place::{place_near, place_of};
 use rel_base::{ColSet, RowNo};
 use std::alloc::{AllocError, Global};
 use std::marker::Model;
@@ -176,6 +178,14 @@ impl CandList {
         free_all(&mut self.lists.helds);
     }
 
+    // Lets go of all candidates, which are known to hold up to there at least.
+    pub(crate) fn mark_all(&mut self, to: RowNo)
+        ensures { cands self.new ≡ all_marked to (cands self.old) }
+    {
+        free_all(&mut self.lists.helds);
+        raise_all(&mut self.lists.uptos, to);
+    }
+
     // A copy, in one piece a list.
     pub(crate) fn copy(&self, alloc: Global) -> Result<CandList, AllocError>
         ensures same { IfOk result (λ made. made ≡ self.now) }
@@ -196,17 +206,24 @@ impl CandList {
         Ok(CandList::of(lists))
     }
 
-    // The marks that a left side has here, or fresh ones.
-    fn mark_of(&self, x: ColSet) -> Mark
-        ensures { cand (x, result) ≡ kept_or_fresh (cands self.now) x }
+    // The marks that a left side has here, or fresh ones, and the place behind it. One place is looked at first.
+    fn mark_near(&self, first: usize, x: ColSet) -> (Mark, usize)
+        ensures { cand (x, result.0) ≡ kept_or_fresh (cands self.now) x }
     {
-        match self.get(x) {
-            Some(mark) => mark,
-            None => Mark::fresh(),
+        match place_near(self.lists.sets.as_slice(), first, x) {
+            Ok(place) => {
+                let mark = Mark {
+                    upto: self.lists.uptos[place],
+                    held: self.lists.helds[place],
+                };
+                (mark, place + 1)
+            }
+            Err(place) => (Mark::fresh(), place),
         }
     }
 
-    // These left sides, each with the marks that it has here, or fresh ones.
+    // These left sides, each with the marks that it has here, or fresh ones. Where one is here that follows the one before it, it
+    // is found in a step.
     pub(crate) fn with_lefts(
         &self,
         alloc: Global,
@@ -217,10 +234,12 @@ impl CandList {
     {
         let mut uptos = Vec::with_capacity(alloc, sets.len())?;
         let mut helds = Vec::with_capacity(alloc, sets.len())?;
+        let mut next = 0;
         for x in sets.as_slice() {
-            let mark = self.mark_of(*x);
+            let (mark, place) = self.mark_near(next, *x);
             uptos.push(mark.upto)?;
             helds.push(mark.held)?;
+            next = place;
         }
         Ok(CandList::of(Lists { sets, uptos, helds }))
     }
@@ -238,6 +257,29 @@ impl CandList {
                 self.lists.helds.as_slice(),
                 place,
             ))?;
+        }
+        Ok(list)
+    }
+
+    // The candidates with at least and at most so many columns.
+    pub(crate) fn of_sizes(
+        &self,
+        alloc: Global,
+        least: u32,
+        most: u32,
+    ) -> Result<Vec<Cand>, AllocError>
+        ensures { IfOk result (λ list. list.items ≡ filter (sizes.is_between least most) (cands self.now)) }
+    {
+        let mut list = Vec::new(alloc);
+        for place in 0..self.lists.sets.len() {
+            if is_between(least, most, self.lists.sets[place]) {
+                list.push(cand_at(
+                    self.lists.sets.as_slice(),
+                    self.lists.uptos.as_slice(),
+                    self.lists.helds.as_slice(),
+                    place,
+                ))?;
+            }
         }
         Ok(list)
     }
@@ -318,4 +360,27 @@ fn free_all(helds: &mut Vec<bool>)
     for place in 0..helds.len() {
         helds[place] = false;
     }
+}
+
+// Each is known to hold up to there at least.
+fn raise_all(uptos: &mut Vec<RowNo>, to: RowNo)
+    ensures { uptos.new.items ≡ map (λ u. max u to) uptos.old.items }
+{
+    for place in 0..uptos.len() {
+        uptos[place] = later(uptos[place], to);
+    }
+}
+
+fn later(upto: RowNo, to: RowNo) -> RowNo
+    ensures { result ≡ max upto to }
+{
+    if upto < to { to } else { upto }
+}
+
+// Whether a set has at least and at most so many columns.
+fn is_between(least: u32, most: u32, x: ColSet) -> bool
+    ensures { result ≡ (nat_le least (size x) && nat_le (size x) most) }
+{
+    let count = x.len();
+    least <= count && count <= most
 }

@@ -1,11 +1,13 @@
 // The candidates of all targets.
 ghost use Rattle.std.specs.Prelude.{if◌then◌else◌, ◌≡◌, ◌≤◌, ◌∷◌, [], ◌++◌, ℕ, List, Bool, true, false, replicate, map, None, IfOk, IfSome};
-ghost use Rattle.std.specs.List.{All, find};
+ghost use Rattle.std.specs.List.{All, find, filter};
 ghost use Rattle.col_set.specs.ColSet.{empty};
 ghost use Rattle.col_set.specs.Target.{IsColumnTarget, has_target};
 ghost use Rattle.col_set.specs.Evidence.{least};
 ghost use Rattle.candidate_cover.specs.Cands as words;
 ghost use Rattle.candidate_cover.specs.Cands.{width, cands_of, with_list, lefts, is_listed, kept_or_fresh, marked, holding, all_free, freed, from, IsInOrder};
+ghost use Rattle.candidate_cover.specs.AllMarked.{marked_throughout};
+ghost use Rattle.candidate_cover.specs.Sizes.{is_between};
 ghost use Rattle.candidate_cover.specs.Drafts.{AreLeast};
 ghost use Rattle.candidate_cover.specs.Marks.{cand, cands};
 ghost use Rattle.candidate_cover.specs.declared.cand.Cand.{Cand};
@@ -16,7 +18,7 @@ use crate::cand_list::CandList;
 use crate::draft::Draft;
 use crate::explore::explored;
 use crate::growth::choices;
-use crate::part::{Part, generalised, sorted, specialised};
+use crate::part::{Part, generalised, in_order, specialised};
 use rel_base::{ColSet, MOST_COLUMNS, RowNo, Steps, Target};
 use std::alloc::{AllocError, Global};
 use std::marker::Model;
@@ -135,8 +137,8 @@ impl CandidateCover {
     /// that stay keep their marks.
     ///
     /// Nothing changes here; `put` makes the part the target's list. The left sides are made here, from the agree sets that the
-    /// draft has noted. Where they are the ones that there were, that is all; else they are sorted, and each is looked up among
-    /// the candidates.
+    /// draft has noted. Where they are the ones that there were, that is all; else they are sorted, which takes a step a set for
+    /// those that stay in their order, and each is looked up among the candidates.
     pub fn drafted(
         &self,
         alloc: Global,
@@ -154,7 +156,7 @@ impl CandidateCover {
         if sets.as_slice() == list.sets() {
             return Ok(None);
         }
-        let made = list.with_lefts(alloc, sorted(sets))?;
+        let made = list.with_lefts(alloc, in_order(sets)?)?;
         Ok(Some(Part::of(made)))
     }
 
@@ -204,6 +206,16 @@ impl CandidateCover {
         }
     }
 
+    /// Notes that all candidates hold among the rows below `to`, and lets go of them. It takes a step a candidate, and no memory.
+    pub fn mark_all(&mut self, to: RowNo)
+        ensures { self.new ≡ marked_throughout to self.old }
+    {
+        self.rows.mark_all(to);
+        for place in 0..self.columns.len() {
+            self.columns[place].mark_all(to);
+        }
+    }
+
     /// The first candidate of a target in report order that meets the test.
     pub fn first<F: Fn(Cand) -> bool>(&self, target: Target, test: F) -> Option<Cand>
         requires target { IsColumnTarget (width self.now) target }
@@ -237,6 +249,22 @@ impl CandidateCover {
         ensures order { IfOk result (λ list. IsInOrder list.items) }
     {
         let list = self.cand_list(target).list(alloc)?;
+        Ok(list)
+    }
+
+    /// The candidates of a target with at least and at most so many columns, in report order. It takes a step a candidate, and
+    /// copies these alone.
+    pub fn of_sizes(
+        &self,
+        alloc: Global,
+        target: Target,
+        least: u32,
+        most: u32,
+    ) -> Result<Vec<Cand>, AllocError>
+        requires { IsColumnTarget (width self.now) target }
+        ensures { IfOk result (λ list. list.items ≡ filter (is_between least most) (cands_of self.now target)) }
+    {
+        let list = self.cand_list(target).of_sizes(alloc, least, most)?;
         Ok(list)
     }
 

@@ -1,7 +1,7 @@
 // Candidates while many agree sets come in, one after another.
-ghost use Rattle.std.specs.Prelude.{◌≡◌, ◌≤◌, ◌<◌, ◌^◌, ◌∷◌, [], ◌++◌, ℕ, List, true, false, length, map, IfOk, OnOk};
+ghost use Rattle.std.specs.Prelude.{if◌then◌else◌, ◌≡◌, ◌≤◌, ◌<◌, ◌^◌, ◌∷◌, [], ◌++◌, ◌&&◌, ℕ, List, true, false, length, map, IfOk, OnOk};
 ghost use Rattle.std.specs.List.{list_any};
-ghost use Rattle.col_set.specs.ColSet.{has, subset};
+ghost use Rattle.col_set.specs.ColSet.{has, subset, union, minus};
 ghost use Rattle.col_set.specs.Target.{IsColumnTarget, has_target};
 ghost use Rattle.col_set.specs.declared.target.Target.TheVariants.{Col, RowId};
 ghost use Rattle.col_set.specs.Evidence.{refuted};
@@ -124,25 +124,52 @@ struct Known {
     columns: ColSet,
 }
 
-// For which of the targets one of these agree sets that lacks the target contains z.
+impl Known {
+    // After one more agree set.
+    fn told(self, all: ColSet, z: ColSet, w: ColSet) -> Known
+        ensures { result ≡ (if subset z w then record { rows = true; columns = union self.columns (minus all w) } else self) }
+    {
+        if z.subset_of(w) {
+            Known {
+                rows: true,
+                columns: self.columns.union(all.minus(w)),
+            }
+        } else {
+            self
+        }
+    }
+
+    // Whether which row it is and these columns are among the targets.
+    fn has_all(&self, columns: ColSet) -> bool
+        ensures { result ≡ (self.now.rows && subset columns self.now.columns) }
+    {
+        self.rows && columns.subset_of(self.columns)
+    }
+}
+
+// For which of the targets one of these agree sets that lacks the target contains z. It looks no further once that is so for all
+// that z lacks.
 fn known_by(agree_sets: &[ColSet], columns: u8, z: ColSet) -> Known
     requires { columns ≤ MOST_COLUMNS }
     ensures rows { result.rows ≡ refuted agree_sets.now RowId z }
     ensures columns { (a : ℕ) → a < columns → has result.columns a ≡ refuted agree_sets.now (Col a) z }
 {
     let all = ColSet::all(columns);
-    let mut rows = false;
-    let mut lacking = ColSet::empty();
+    let open = all.minus(z);
+    let mut known = Known {
+        rows: false,
+        columns: ColSet::empty(),
+    };
     for w in agree_sets {
-        if z.subset_of(*w) {
-            rows = true;
-            lacking = lacking.union(all.minus(*w));
+        known = known.told(all, z, *w);
+        if known.has_all(open) {
+            return Known {
+                rows: true,
+                columns: known.columns,
+            };
         }
     }
-    Known {
-        rows,
-        columns: lacking,
-    }
+    known
 }
 
 // Lists that are made anew for each target, in the same memory.

@@ -93,7 +93,7 @@ fn advanced<L: Ledger>(
         return Ok(found);
     }
     let sides = by_side(alloc, found.as_slice(), z, steps)?;
-    let near = near(alloc, z, sides.outside.as_slice())?;
+    let near = near(alloc, z, sides.outside.as_slice(), steps)?;
     let grown = grown(
         alloc,
         columns,

@@ -5,8 +5,9 @@ ghost use Rattle.col_set.specs.ColSet.{subset, has, with};
 ghost use Rattle.col_set.specs.Target.{IsColumnTarget};
 ghost use Rattle.candidate_cover.specs.Growth as words;
 
-use rel_base::{ColSet, MOST_COLUMNS, Target};
+use rel_base::{ColSet, MOST_COLUMNS, Steps, Target};
 use std::alloc::{AllocError, Global};
+use std::sync::ledger::Ledger;
 
 // The first columns but the target.
 pub(crate) fn choices(columns: u8, target: Target) -> ColSet
@@ -27,12 +28,18 @@ pub(crate) fn has_subset(sets: &[ColSet], x: ColSet) -> bool
     sets.iter().any(|y| y.subset_of(x))
 }
 
-// The sets with exactly one column outside z.
-pub(crate) fn near(alloc: Global, z: ColSet, sets: &[ColSet]) -> Result<Vec<ColSet>, AllocError>
+// The sets with exactly one column outside z. A step a set.
+pub(crate) fn near<L: Ledger>(
+    alloc: Global,
+    z: ColSet,
+    sets: &[ColSet],
+    steps: &mut Steps<L>,
+) -> Result<Vec<ColSet>, AllocError>
     ensures { IfOk result (λ found. found.items ≡ words.near z sets.now) }
 {
     let mut found = Vec::new(alloc);
     for x in sets {
+        steps.tick();
         if x.minus(z).len() == 1 {
             found.push(*x)?;
         }

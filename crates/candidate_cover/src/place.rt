@@ -12,3 +12,14 @@ pub(crate) fn place_of(sets: &[ColSet], x: ColSet) -> Result<usize, usize>
 {
     sets.binary_search_by(|y| y.cmp_report(x))
 }
+
+// The same, which looks at one place first.
+pub(crate) fn place_near(sets: &[ColSet], first: usize, x: ColSet) -> Result<usize, usize>
+    requires { Rises report_cmp sets.now }
+    ensures { IsPlace sets.now x result }
+{
+    if first < sets.len() && sets[first] == x {
+        return Ok(first);
+    }
+    place_of(sets, x)
+}

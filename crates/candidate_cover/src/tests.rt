@@ -342,3 +342,19 @@ fn marks_stay_with_their_candidates(rt: HostRuntime) -> Result<(), Fail> {
     assert!(rt; cover.first(Target::RowId, |cand| cand.upto.number() > 1) == Some(third));
     Ok(())
 }
+
+#[test]
+fn all_candidates_are_marked_at_once(rt: HostRuntime) -> Result<(), Fail> {
+    let alloc = rt.alloc();
+    let mut cover = second_and_third(alloc)?;
+    assert!(rt; cover.hold(Target::RowId, set(&[2]), true));
+    cover.mark_all(RowNo::of(7));
+    let single = cover.of_sizes(alloc, Target::RowId, 1, 1)?;
+    assert!(rt; single.len() == 2);
+    for cand in single.as_slice() {
+        assert!(rt; cand.upto == RowNo::of(7) && !cand.held);
+    }
+    assert!(rt; cover.of_sizes(alloc, Target::RowId, 2, 128)?.is_empty());
+    assert!(rt; cover.of_sizes(alloc, Target::RowId, 0, 1)?.len() == 2);
+    Ok(())
+}

@@ -1,12 +1,15 @@
 -- Evidence that is news.
-use Rattle.std.proofs.Common.{inl, inr, ◌≡◌, ◌≢◌, ◌⊎◌, ℕ, true, not, ◌&&◌, refl, sym, ap, ◌∙◌, subst, List, [], ◌∷◌, ◌++◌, append_assoc, append-nil, IsPermutation}
+use Rattle.std.proofs.Common.{inl, inr, ◌≡◌, ◌≢◌, ◌⊎◌, ℕ, true, false, not, ◌&&◌, refl, sym, ap, ◌∙◌, subst, List, [], ◌∷◌, ◌++◌, append_assoc, append-nil, eqb, Option, Some, None, IsPermutation}
 use Rattle.std.specs.List.{All, AllPairs, list_any}
-use Rattle.std.proofs.lemmas.Bool.{true≢false, and_parts, and_from, or_cases, not-true}
+use Rattle.std.specs.Option.{option_eq}
+use Rattle.std.proofs.lemmas.Bool.{eqb-true, true≢false, and_parts, and_from, or_cases, or_left, or_right, not-true, not_from_false, false_from_ne_true, true_from_ne_false}
 use Rattle.std.proofs.lemmas.List.{map-append}
 use Rattle.std.proofs.lemmas.List.Sorted.{Contains-permutation, IsPermutation-sym}
+use Rattle.col_set.specs.declared.target.Target.{Target}
 use Rattle.col_set.specs.declared.target.Target.TheVariants.{Col, RowId}
+use Rattle.col_set.specs.AllSets.{Listed-upto}
 use Rattle.col_set.specs.ColSet.{has, subset, upto}
-use Rattle.col_set.specs.Target.{has_target}
+use Rattle.col_set.specs.Target.{IsColumnTarget, has_target}
 use Rattle.col_set.specs.Evidence.{refuted}
 use Rattle.col_set.specs.Subsets.{IsSubset-refl, true-subset}
 use Rattle.col_set.specs.Lists.{Listed, Listed-append_left, Listed-append_right, Listed-append_cases, Listed-map, list_any_at, list_any_which}
@@ -21,6 +24,7 @@ use Rattle.candidate_cover.specs.Drafts.{Drafted, is_news}
 use Rattle.cover_steps.specs.Sound.{IsWitness}
 use Rattle.cover_steps.proofs.Keeping.{live-Contains}
 use Rattle.cover_steps.proofs.Lists.{AllPairs-Pairwise, Pairwise-AllPairs, Pairwise-append_one}
+use Rattle.cover_core.specs.declared.evidence.Evidence.{Evidence}
 use Rattle.cover_core.specs.Evidences.{IsNews}
 
 pub evidence-witness : (r : RowState) (i j z : ℕ) → is_live r i ≡ true → is_live r j ≡ true → i ≢ j → z ≡ agree_of r i j → IsWitness r (record { i = i; j = j; agree = z })
@@ -43,6 +47,26 @@ All-back P xs x a = All-listed P x (xs ++ x ∷ []) a (Listed-append_right x xs 
 pub All-permuted : {X : Type 0} (P : X → Type 0) (xs ys : List X) → IsPermutation xs ys → All P xs → All P ys
 All-permuted P xs ys p a = All-from P ys (λ x h. All-listed P x xs a (Listed-contained x xs (Contains-permutation ys xs x (IsPermutation-sym xs ys p) (Contains-listed x ys h))))
 
+pub same_option : (a b : Option ℕ) → option_eq eqb a b ≡ true → a ≡ b
+same_option None None e = refl
+same_option None (Some y) e = absurd (true≢false (sym e))
+same_option (Some x) None e = absurd (true≢false (sym e))
+same_option (Some x) (Some y) e = ap Some (eqb-true x y e)
+
+-- evidence that is taken from the end, one after another
+pub popped : (P : Evidence → Type 0) (old new : List Evidence) (e : Evidence) → old ≡ new ++ e ∷ [] → P e → (v : Evidence) → Listed v old ⊎ P v → Listed v new ⊎ P v
+popped P old new e is p v (inr q) = inr q
+popped P old new e is p v (inl h) = by (Listed-append_cases v new (e ∷ []) (subst (Listed v) is h))
+  where
+    by : Listed v new ⊎ Listed v (e ∷ []) → Listed v new ⊎ P v
+    by (inl g) = inl g
+    by (inr (inl g)) = inr (subst P (sym g) p)
+    by (inr (inr g)) = absurd g
+
+pub emptied : (P : Evidence → Type 0) (rest : List Evidence) → rest ≡ [] → (v : Evidence) → Listed v rest ⊎ P v → P v
+emptied P rest e v (inl h) = absurd (subst (Listed v) e h)
+emptied P rest e v (inr p) = p
+
 -- what is news is not among the agree sets
 pub news_apart : (n : ℕ) (ws : List ℕ) (z : ℕ) → is_news n ws z ≡ true → Listed z ws → ⊥
 unfolding is_news refuted has_target
@@ -54,6 +78,44 @@ news_apart n ws z e h = by (or_cases _ _ e)
         let w = list_any_which (λ a. not (has z a) && not (refuted ws (Col a) z)) (upto n) f in
         let p = and_parts (not (has z w.0)) _ w.2 in
         true≢false (sym (list_any_at (λ v. subset z v && not (has_target v (Col w.0))) z ws h (and_from _ _ (true-subset (IsSubset-refl z)) p.0)) ∙ not-true _ p.1)
+
+pub news_listed : (n : ℕ) (ws : List ℕ) (z : ℕ) → Listed z ws → is_news n ws z ≡ false
+news_listed n ws z h = false_from_ne_true _ (λ e. news_apart n ws z e h)
+
+-- what is no news to fewer agree sets is none to more
+refuted_fewer : (ws vs : List ℕ) (t : Target) (z : ℕ) → refuted (ws ++ vs) t z ≡ false → refuted ws t z ≡ false
+unfolding refuted
+refuted_fewer ws vs t z e = false_from_ne_true _ (λ f.
+    let w = list_any_which (λ w. subset z w && not (has_target w t)) ws f in
+    true≢false (sym (list_any_at (λ w. subset z w && not (has_target w t)) w.0 (ws ++ vs) (Listed-append_left w.0 ws vs w.1) w.2) ∙ e))
+
+news_fewer : (n : ℕ) (ws vs : List ℕ) (z : ℕ) → is_news n (ws ++ vs) z ≡ true → is_news n ws z ≡ true
+unfolding is_news
+news_fewer n ws vs z e = by (or_cases _ _ e)
+  where
+    by : (not (refuted (ws ++ vs) RowId z) ≡ true) ⊎ (list_any (λ a. not (has z a) && not (refuted (ws ++ vs) (Col a) z)) (upto n) ≡ true) → is_news n ws z ≡ true
+    by (inl f) = or_left _ _ (not_from_false _ (refuted_fewer ws vs RowId z (not-true _ f)))
+    by (inr f) =
+        let w = list_any_which (λ a. not (has z a) && not (refuted (ws ++ vs) (Col a) z)) (upto n) f in
+        let p = and_parts (not (has z w.0)) _ w.2 in
+        or_right _ _ (list_any_at (λ a. not (has z a) && not (refuted ws (Col a) z)) w.0 (upto n) w.1 (and_from _ _ p.0 (not_from_false _ (refuted_fewer ws vs (Col w.0) z (not-true _ p.1)))))
+
+pub news_kept : (n : ℕ) (ws vs : List ℕ) (z : ℕ) → is_news n ws z ≡ false → is_news n (ws ++ vs) z ≡ false
+news_kept n ws vs z e = false_from_ne_true _ (λ f. true≢false (sym (news_fewer n ws vs z f) ∙ e))
+
+-- what is no news is refuted for each target that it lacks
+pub news_told : (n : ℕ) (ws : List ℕ) (z : ℕ) → is_news n ws z ≡ false → (t : Target) → IsColumnTarget n t → has_target z t ≡ false → refuted ws t z ≡ true
+unfolding is_news has_target
+news_told n ws z e RowId l h = true_from_ne_false _ (λ f. true≢false (sym (or_left _ _ (not_from_false _ f)) ∙ e))
+news_told n ws z e (Col a) l h = true_from_ne_false _ (λ f.
+    true≢false (sym (or_right _ _ (list_any_at (λ a. not (has z a) && not (refuted ws (Col a) z)) a (upto n) (Listed-upto n a l) (and_from _ _ (not_from_false _ h) (not_from_false _ f)))) ∙ e))
+
+-- one more agree set that is noted
+pub noted_told : (d e : Drafted) (z : ℕ) → e ≡ record { width = d.width; agree_sets = d.agree_sets ++ z ∷ [] } → is_news e.width e.agree_sets z ≡ false
+noted_told d e z f = subst (λ (x : Drafted). is_news x.width x.agree_sets z ≡ false) (sym f) (news_listed d.width (d.agree_sets ++ z ∷ []) z (Listed-append_right z d.agree_sets (z ∷ []) (inl refl)))
+
+pub noted_kept : (d e : Drafted) (z y : ℕ) → e ≡ record { width = d.width; agree_sets = d.agree_sets ++ z ∷ [] } → is_news d.width d.agree_sets y ≡ false → is_news e.width e.agree_sets y ≡ false
+noted_kept d e z y f g = subst (λ (x : Drafted). is_news x.width x.agree_sets y ≡ false) (sym f) (news_kept d.width d.agree_sets (z ∷ []) y g)
 
 pub news_none : (r : RowState) (n : ℕ) (ws : List Witness) (d : Drafted) → d ≡ record { width = n; agree_sets = sets_of ws } → IsNews r n ws [] d
 news_none r n ws d e = record {

@@ -15,3 +15,5 @@ pub mod Freeing
 pub mod NearBooks
 pub mod Concerning
 pub mod Back
+pub mod AllPairs
+pub mod Complete

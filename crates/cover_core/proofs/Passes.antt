@@ -1,5 +1,5 @@
 -- A pass over the candidates, and evidence that is booked all at once.
-use Rattle.std.proofs.Common.{inl, inr, ◌≡◌, ◌⊎◌, ℕ, ◌^◌, ◌<◌, refl, sym, ap, ◌∙◌, subst, List, [], ◌++◌, append-nil, length, get_or}
+use Rattle.std.proofs.Common.{inl, inr, ◌≡◌, ◌⊎◌, ℕ, false, ◌^◌, ◌<◌, refl, sym, ap, ◌∙◌, subst, List, [], ◌++◌, append-nil, length, get_or}
 use Rattle.std.specs.List.{All}
 use Rattle.col_set.specs.declared.target.Target.{Target}
 use Rattle.col_set.specs.Target.{IsColumnTarget}
@@ -12,12 +12,13 @@ use Rattle.negative_cover.specs.declared.negative_cover.Witness.{Witness}
 use Rattle.negative_cover.specs.Witnesses.{sets_of}
 use Rattle.candidate_cover.specs.declared.cand.Cand.{Cand}
 use Rattle.candidate_cover.specs.Lists.{CandLists}
-use Rattle.candidate_cover.specs.Drafts.{Drafted}
+use Rattle.candidate_cover.specs.Drafts.{Drafted, is_news}
 use Rattle.cover_steps.specs.Core.{Core, renewed}
 use Rattle.cover_steps.specs.Sound.{IsWitness, IsMarked, Sound, Fits}
 use Rattle.cover_steps.proofs.Fitting.{Fits-shown}
 use Rattle.cover_steps.proofs.Keeping.{Sound-renewed, Follows-itself, cand-least, cand-marked}
 use Rattle.validator.specs.Verdicts.{IsFitting}
+use Rattle.cover_core.specs.declared.evidence.Evidence.{Evidence}
 use Rattle.cover_core.specs.Evidences.{IsNews}
 use Rattle.cover_core.specs.Waiting.{IsWaiting}
 use Rattle.cover_core.specs.declared.waiting.Waiting.{Waiting}
@@ -56,6 +57,12 @@ module _ (s : Core) (table : CodeTable) (book : IsBook s table) (more : List Wit
     table = book.table;
     shows = book.shows;
   })
+
+  pub told-all : (ws : List Witness) → ws ≡ s.witnesses ++ more → (found : List Evidence) → All (λ e. is_news d.width d.agree_sets e.agree ≡ false) found → All (λ e. is_news (width s.rows) (sets_of ws) e.agree ≡ false) found
+  told-all ws e found a = All-from (λ (v : Evidence). is_news (width s.rows) (sets_of ws) v.agree ≡ false) found (λ v h. sym (same v.agree) ∙ All-listed (λ (v : Evidence). is_news d.width d.agree_sets v.agree ≡ false) v found a h)
+    where
+      same : (z : ℕ) → is_news d.width d.agree_sets z ≡ is_news (width s.rows) (sets_of ws) z
+      same z = (λ i. is_news ((news.drafted i).width) ((news.drafted i).agree_sets) z) ∙ (λ i. is_news (book.sound.columns i) (sets_of (sym e i)) z)
 
 -- ---- a candidate that is judged
 module _ (s now : Core) (table : CodeTable) (book : IsBook s table) (view : s ≡ now) (t : Target) (c : Cand) (target : IsColumnTarget (width now.rows) t) (left : c.left < 2 ^ width now.rows) (marked : IsMarked now.rows t c)

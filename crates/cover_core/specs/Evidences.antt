@@ -1,10 +1,12 @@
 -- Evidence, and what of it is news.
-use Rattle.std.specs.Prelude.{◌≡◌, ◌≢◌, ℕ, List, ◌++◌}
-use Rattle.std.specs.List.{All, AllPairs}
-use Rattle.rel_base.specs.RowState.{RowState}
+use Rattle.std.specs.Prelude.{◌≡◌, ◌≢◌, ℕ, false, List, ◌++◌}
+use Rattle.std.specs.List.{All, AllPairs, Contains}
+use Rattle.rel_base.specs.RowState.{RowState, width}
+use Rattle.rel_base.specs.Validity.{agree_of}
 use Rattle.negative_cover.specs.declared.negative_cover.Witness.{Witness}
 use Rattle.negative_cover.specs.Witnesses.{sets_of}
-use Rattle.candidate_cover.specs.Drafts.{Drafted}
+use Rattle.candidate_cover.specs.Drafts.{Drafted, is_news}
+use Rattle.cover_steps.specs.Core.{Core}
 use Rattle.cover_steps.specs.Sound.{IsWitness}
 use Rattle.cover_core.specs.declared.evidence.Evidence.{Evidence}
 
@@ -17,3 +19,7 @@ pub record IsNews (r : RowState) (n : ℕ) (ws more : List Witness) (draft : Dra
   pub drafted : draft ≡ record { width = n; agree_sets = sets_of (ws ++ more) }
   pub witnesses : All (IsWitness r) more
   pub once : AllPairs (λ v w. v.agree ≢ w.agree) ws → AllPairs (λ v w. v.agree ≢ w.agree) (ws ++ more)
+
+-- what any two live rows agree on is no news to the witnesses
+pub record IsAllTold (s : Core) : Type 0 where
+  pub each : (i j : ℕ) → Contains s.rows.live i → Contains s.rows.live j → i ≢ j → is_news (width s.rows) (sets_of s.witnesses) (agree_of s.rows i j) ≡ false

@@ -12,11 +12,14 @@ ghost use Rattle.rel_base.specs.Validity.{agree_of};
 ghost use Rattle.cover_steps.specs.Core.{opened_core, entries, refutes_some, first_drawable as first_drawable_of, first_unfinished as first_unfinished_of};
 ghost use Rattle.cover_steps.specs.Steps as steps;
 ghost use Rattle.cover_steps.specs.Sound.{Sound, Fits, IsMarked};
-ghost use Rattle.cover_core.specs.Evidences.{IsEvidence};
+ghost use Rattle.negative_cover.specs.Witnesses.{sets_of};
+ghost use Rattle.candidate_cover.specs.Drafts.{is_news};
+ghost use Rattle.cover_core.specs.Evidences.{IsEvidence, IsAllTold};
 ghost use Rattle.cover_core.specs.Past.{IsFirst};
 ghost use Rattle.cover_core.specs.Work.{Extends, work};
 ghost use Rattle.cover_core.specs.Replies.{reply_of_draw, reply_of_refutation, reply_of_mark, reply_of_release, reply_of_batch, reply_of_settle, IfJob, IfReady};
 
+use crate::all_pairs::all_pairs;
 use crate::answers::{Draw, Refutation, Release, Settling};
 use crate::concerned::Concerned;
 use crate::cursor::{Cursors, Unfinished, is_late};
@@ -28,7 +31,7 @@ use crate::renewal::renewed_after;
 use crate::sampling::sampled;
 use crate::searching::{first_drawable, first_unfinished, move_both_back};
 use crate::verdict::{breaches_on, store_of};
-use crate::waiting::of_size;
+use crate::waiting::{Sizes, count, of_sizes};
 use candidate_cover::{Cand, CandidateCover, Marking};
 use negative_cover::{NegativeCover, Witness};
 use rel_base::{Batch, Covers, Job, Limits, Nulls, Relation, RowNo, Snapshot, Target};
@@ -38,6 +41,12 @@ use std::marker::{Brand, Model};
 use std::sync::Arc;
 use std::sync::ledger::Blank;
 use validator::Store;
+
+// Of so many live rows all pairs are compared.
+const FEW_ROWS: u32 = 1500;
+
+// Of so many candidates all that are unfinished are validated in one pass, 64 bytes each.
+const MOST_WAITING: usize = 1 << 20;
 
 // How many pairs of rows a pass asks for where a dependency does not hold.
 const MOST_BREACHES: usize = 64;
@@ -297,7 +306,8 @@ impl Book {
     /// Finds the covers of the rows (HyFD, Papenbrock and Naumann, 2016).
     ///
     /// It lets go of all candidates, so that none is held when it answers; jobs that are out may still come back. A book without
-    /// witnesses begins with pairs of rows that stand near each other, whose agree sets refute most of what does not hold. Then the
+    /// witnesses of few rows compares all pairs of them, and then each candidate that is left holds. One of more rows begins with pairs
+    /// of rows that stand near each other, whose agree sets refute most of what does not hold. Then the
     /// candidates of all targets are validated, those with fewer columns first, and left sides that begin with the same columns one
     /// after another, so that their verdicts share the groups of rows. Of those that fail, pairs of rows from many groups are booked
     /// at once after each size. So its time is mostly that of the verdicts: one for each minimal dependency, and some for those that
@@ -335,22 +345,54 @@ impl Book {
     }
 
     // Validates the unfinished candidates, those with fewer columns first. What evidence leaves of those that fail has one column
-    // more, so that it comes with the next pass.
+    // more, so that it comes with the next pass. Once few fail, a pass is of all that are left, as far as these are not too many.
     fn search(&mut self) -> Result<(), AllocError>
         ensures rows { self.new.rows ≡ self.old.rows }
         ensures witnesses { Extends self.old.witnesses self.new.witnesses }
         ensures sound { Sound self.new }
     {
         if self.witnesses.is_empty() {
+            if self.rows.live_len() <= FEW_ROWS {
+                return self.compare_all();
+            }
             self.sample()?;
         }
+        let mut calm = false;
         for size in 0..=self.candidates.columns() {
             if self.settled() {
                 return Ok(());
             }
-            self.pass(size as u32)?;
+            let least = size as u32;
+            let whole = calm && count(&self.candidates) <= MOST_WAITING;
+            let most = if whole { u32::MAX } else { least };
+            calm = self.pass(Sizes { least, most })?;
         }
         Ok(())
+    }
+
+    // Books what all pairs of live rows agree on. That is all the evidence that there is: what it leaves holds.
+    fn compare_all(&mut self) -> Result<(), AllocError>
+        ensures rows { self.new.rows ≡ self.old.rows }
+        ensures witnesses { Extends self.old.witnesses self.new.witnesses }
+        ensures sound { Sound self.new }
+    {
+        let found = all_pairs(self.alloc, &self.snapshot)?;
+        self.book_all(found)?;
+        self.mark_all();
+        Ok(())
+    }
+
+    // Marks all candidates, where the witnesses tell of what all pairs of live rows agree on.
+    fn mark_all(&mut self)
+        requires { IsAllTold self.old }
+        ensures rows { self.new.rows ≡ self.old.rows }
+        ensures witnesses { self.new.witnesses ≡ self.old.witnesses }
+        ensures sound { Sound self.new }
+    {
+        let next = self.rows.next();
+        self.candidates.mark_all(next);
+        self.cursors = Cursors::start();
+        self.first = first_unfinished(&self.candidates, &mut self.cursors.unfinished, next);
     }
 
     // Books what pairs of rows near each other agree on.
@@ -363,21 +405,24 @@ impl Book {
         self.book_all(found)
     }
 
-    // Validates the unfinished candidates with so many columns that no evidence just found refutes, and books the evidence.
-    fn pass(&mut self, size: u32) -> Result<(), AllocError>
+    // Validates the unfinished candidates with so many columns that no evidence just found refutes, books the evidence, and tells
+    // whether few of them failed: whether it is less evidence than these are.
+    fn pass(&mut self, sizes: Sizes) -> Result<bool, AllocError>
         ensures rows { self.new.rows ≡ self.old.rows }
         ensures witnesses { Extends self.old.witnesses self.new.witnesses }
         ensures sound { Sound self.new }
     {
         let next = self.rows.next();
-        let list = of_size(self.alloc, &self.candidates, &self.order, size, next)?;
+        let list = of_sizes(self.alloc, &self.candidates, &self.order, sizes, next)?;
         let mut found = Vec::new(self.alloc);
         for waiting in list.as_slice() {
             if !is_told(recent(found.as_slice()), waiting.target, waiting.cand.left) {
                 self.judge(waiting.target, waiting.cand, &mut found)?;
             }
         }
-        self.book_all(found)
+        let few = found.len() < list.len();
+        self.book_all(found)?;
+        Ok(few)
     }
 
     // Validates a candidate, and marks it where it holds, or else adds evidence against it.
@@ -410,6 +455,7 @@ impl Book {
     // Books the evidence that is news, all of it or none.
     fn book_all(&mut self, found: Vec<Evidence>) -> Result<(), AllocError>
         requires { All (IsEvidence self.old.rows) found.items }
+        ensures told { OnOk result (All (λ e. is_news (width self.new.rows) (sets_of self.new.witnesses) e.agree ≡ false) found.items) }
         ensures rows { self.new.rows ≡ self.old.rows }
         ensures witnesses { Extends self.old.witnesses self.new.witnesses }
         ensures sound { Sound self.new }

@@ -1,11 +1,12 @@
 // Evidence: what pairs of rows agree on, and what much of it at once leaves of the candidates.
-ghost use Rattle.std.specs.Prelude.{◌≡◌, ◌<◌, ℕ, OnOk, IfOk, IfSome};
+ghost use Rattle.std.specs.Prelude.{◌≡◌, ◌<◌, ℕ, List, false, OnOk, IfOk, IfSome};
 ghost use Rattle.std.specs.List.{All};
 ghost use Rattle.col_set.specs.Target.{IsColumnTarget};
 ghost use Rattle.rel_base.specs.RowState.{RowState};
 ghost use Rattle.candidate_cover.specs.Cands.{width};
-ghost use Rattle.candidate_cover.specs.Drafts.{AreLeast};
+ghost use Rattle.candidate_cover.specs.Drafts.{AreLeast, is_news};
 ghost use Rattle.negative_cover.specs.Witnesses as sets;
+ghost use Rattle.negative_cover.specs.declared.negative_cover.Witness.{Witness};
 ghost use Rattle.cover_core.specs.Evidences.{IsEvidence, IsNews};
 
 use candidate_cover::{CandidateCover, Draft};
@@ -111,6 +112,25 @@ pub(crate) struct News {
     pub(crate) draft: Draft,
 }
 
+// The draft with this evidence, which is one more witness where it is news.
+fn noted(
+    alloc: Global,
+    draft: Draft,
+    more: &mut Vec<Witness>,
+    evidence: Evidence,
+) -> Result<Draft, AllocError>
+    ensures news { IfOk result (λ new. (r : RowState) (n : ℕ) (ws : List Witness) → IsEvidence r evidence → IsNews r n ws more.old.items draft → IsNews r n ws more.new.items new) }
+    ensures told { IfOk result (λ new. is_news new.width new.agree_sets evidence.agree ≡ false) }
+    ensures kept { IfOk result (λ new. (z : ℕ) → is_news draft.width draft.agree_sets z ≡ false → is_news new.width new.agree_sets z ≡ false) }
+{
+    if !draft.is_news(evidence.agree) {
+        return Ok(draft);
+    }
+    let grown = draft.grown(alloc, evidence.agree)?;
+    more.push(evidence.witness())?;
+    Ok(grown)
+}
+
 // What is news in this evidence. The largest agree sets come first, since one inside another is seldom news.
 pub(crate) fn news_of(
     alloc: Global,
@@ -119,18 +139,18 @@ pub(crate) fn news_of(
     mut found: Vec<Evidence>,
 ) -> Result<News, AllocError>
     requires { AreLeast (width candidates.now) (sets.sets_of witnesses.now) candidates.now }
-    ensures { IfOk result (λ news. (r : RowState) → All (IsEvidence r) found.items → IsNews r (width candidates.now) witnesses.now news.witnesses.items news.draft) }
+    ensures news { IfOk result (λ news. (r : RowState) → All (IsEvidence r) found.items → IsNews r (width candidates.now) witnesses.now news.witnesses.items news.draft) }
+    ensures told { IfOk result (λ news. All (λ e. is_news news.draft.width news.draft.agree_sets e.agree ≡ false) found.items) }
 {
     found.sort_unstable();
     let mut draft = candidates.draft(alloc, sets_of(alloc, witnesses)?)?;
     let mut more = Vec::new(alloc);
     let mut last = None;
     while let Some(evidence) = found.pop() {
-        if last != Some(evidence.agree) && draft.is_news(evidence.agree) {
-            draft = draft.grown(alloc, evidence.agree)?;
-            more.push(evidence.witness())?;
+        if last != Some(evidence.agree) {
+            draft = noted(alloc, draft, &mut more, evidence)?;
+            last = Some(evidence.agree);
         }
-        last = Some(evidence.agree);
     }
     Ok(News {
         witnesses: more,

@@ -4,18 +4,15 @@ ghost use Rattle.std.specs.List.{All};
 ghost use Rattle.cover_core.specs.Evidences.{IsEvidence};
 
 use crate::evidence::{Evidence, push_pair};
-use rel_base::{RowNo, Snapshot};
+use rel_base::Snapshot;
 use row_log::RowLog;
 use std::alloc::{AllocError, Global};
 use stripped_partition::Partition;
 
-// Up to so many rows all pairs are compared.
-const ALL_PAIRS: u32 = 1500;
-
-// Of more rows, about so many pairs are for each column.
+// About so many pairs are for each column.
 const NEIGHBOURS: u32 = 1 << 13;
 
-// What pairs of rows agree on: all pairs of few rows, else neighbours in the groups by one column, spread over all of them.
+// What pairs of rows agree on: neighbours in the groups by one column, spread over all of them.
 pub(crate) fn sampled(
     alloc: Global,
     rows: &RowLog,
@@ -24,29 +21,11 @@ pub(crate) fn sampled(
     ensures { IfOk result (λ found. All (IsEvidence rows.now) found.items) }
 {
     let mut found = Vec::new(alloc);
-    if rows.next().number() <= ALL_PAIRS {
-        push_all_pairs(rows, &mut found)?;
-        return Ok(found);
-    }
     for column in 0..snapshot.columns() {
         let partition = Partition::of_column(alloc, snapshot, column)?;
         push_neighbours(rows, &partition, &mut found)?;
     }
     Ok(found)
-}
-
-// Adds what each two rows agree on.
-fn push_all_pairs(rows: &RowLog, found: &mut Vec<Evidence>) -> Result<(), AllocError>
-    requires { All (IsEvidence rows.now) found.old.items }
-    ensures { OnOk result (All (IsEvidence rows.now) found.new.items) }
-{
-    let next = rows.next().number();
-    for j in 1..next {
-        for i in 1..j {
-            push_pair(rows, RowNo::of(i), RowNo::of(j), found)?;
-        }
-    }
-    Ok(())
 }
 
 // Adds what neighbours in the groups of a partition agree on, spread evenly over them.

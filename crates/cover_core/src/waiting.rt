@@ -18,12 +18,28 @@ pub(crate) struct Waiting {
     pub(crate) cand: Cand,
 }
 
+// How many columns the candidates of a pass have at least, and at most.
+#[derive(Clone, Copy)]
+pub(crate) struct Sizes {
+    pub(crate) least: u32,
+    pub(crate) most: u32,
+}
+
+// How many candidates there are.
+pub(crate) fn count(candidates: &CandidateCover) -> usize {
+    let mut count = candidates.lefts(Target::RowId).len();
+    for column in 0..candidates.columns() {
+        count = count.saturating_add(candidates.lefts(Target::Col(column)).len());
+    }
+    count
+}
+
 // The unfinished candidates with so many columns. Those with the same columns at their beginning stand next to each other.
-pub(crate) fn of_size(
+pub(crate) fn of_sizes(
     alloc: Global,
     candidates: &CandidateCover,
     order: &Order,
-    size: u32,
+    sizes: Sizes,
     next: RowNo,
 ) -> Result<Vec<Waiting>, AllocError>
     ensures { IfOk result (λ list. All (IsWaiting candidates.now) list.items) }
@@ -34,13 +50,13 @@ pub(crate) fn of_size(
         candidates,
         Target::RowId,
         order,
-        size,
+        sizes,
         next,
         &mut list,
     )?;
     for column in 0..candidates.columns() {
         let target = Target::Col(column);
-        push_waiting(alloc, candidates, target, order, size, next, &mut list)?;
+        push_waiting(alloc, candidates, target, order, sizes, next, &mut list)?;
     }
     list.sort_unstable_by_key(|waiting| waiting.places);
     Ok(list)
@@ -52,7 +68,7 @@ fn push_waiting(
     candidates: &CandidateCover,
     target: Target,
     order: &Order,
-    size: u32,
+    sizes: Sizes,
     next: RowNo,
     list: &mut Vec<Waiting>,
 ) -> Result<(), AllocError>
@@ -60,9 +76,9 @@ fn push_waiting(
     requires waiting { All (IsWaiting candidates.now) list.old.items }
     ensures { OnOk result (All (IsWaiting candidates.now) list.new.items) }
 {
-    let own = candidates.list(alloc, target)?;
+    let own = candidates.of_sizes(alloc, target, sizes.least, sizes.most)?;
     for cand in own.as_slice() {
-        if cand.upto < next && cand.left.len() == size {
+        if cand.upto < next {
             let places = order.places_of(cand.left);
             list.push(Waiting {
                 places,

@@ -1,20 +1,30 @@
-use Rattle.std.proofs.Common.{◌+◌, ◌∙◌, ℕ, ap, sym, subst, take}
-use Rattle.col_set.specs.ColSet.{minus, union}
-use Rattle.candidate_cover.proofs.Drafting.{KnownSoFar, known_none, known_more, known_same}
+use Rattle.std.proofs.Common.{◌≡◌, ℕ, ◌+◌, ◌&&◌, ◌∙◌, sym, ap, true, cond, take}
+use Rattle.std.proofs.lemmas.Bool.{and_parts}
+use Rattle.col_set.specs.ColSet.{subset, minus, union, all}
+use Rattle.candidate_cover.specs.declared.draft.Known.{Known}
+use Rattle.candidate_cover.proofs.Drafting.{KnownSoFar, known_none, known_next, known_enough}
 use Rattle.candidate_cover.proofs.draft.known_by.Goals as goal
-use Rattle.candidate_cover.proofs.draft.known_by.Goals.{then-subset_of, else-subset_of}
 
 pub loop-w-init : goal.loop-w-init
-loop-w-init c = known_none c.args.columns c.args.z c.empty-lacking.result c.empty-lacking.ensures
+loop-w-init c = known_none c.args.columns c.args.z c.empty.result c.empty.ensures
 
 pub loop-w-preserved : goal.loop-w-preserved
-loop-w-preserved c = elim c.if-subset_of.branch [
-  | then-subset_of w ↦
-      subst (λ b. KnownSoFar c.args.columns (take (c.loop-w.w-index + 1) c.args.agree_sets.now) c.args.z b c.if-subset_of.lacking) (sym w.rows-is)
-      (known_more c.args.columns c.args.z c.args.agree_sets.now c.loop-w.w-index c.w-item.result c.loop-w-test.true c.w-item.is c.loop-w.rows c.loop-w.lacking c.loop-w.invariant (sym w.if-subset_of.ensures) c.if-subset_of.lacking
-      (w.lacking-is ∙ w.union-lacking.ensures ∙ ap (union c.loop-w.lacking) (w.minus.ensures ∙ ap (λ (u : ℕ). minus u c.w-item.result) c.all-all.ensures)))
-  | else-subset_of w ↦
-      subst (λ b. KnownSoFar c.args.columns (take (c.loop-w.w-index + 1) c.args.agree_sets.now) c.args.z b c.if-subset_of.lacking) (sym w.rows-is)
-      (subst (λ (v : ℕ). KnownSoFar c.args.columns (take (c.loop-w.w-index + 1) c.args.agree_sets.now) c.args.z c.loop-w.rows v) (sym w.lacking-is)
-      (known_same c.args.columns c.args.z c.args.agree_sets.now c.loop-w.w-index c.w-item.result c.loop-w-test.true c.w-item.is c.loop-w.rows c.loop-w.lacking c.loop-w.invariant (sym w.if-subset_of.ensures)))
-]
+loop-w-preserved c =
+    known_next c.args.columns c.args.z c.args.agree_sets.now c.loop-w.w-index c.w-item.result c.loop-w-test.true c.w-item.is c.loop-w.known c.told-known.result
+    (c.told-known.ensures ∙ (λ i. cond (subset c.args.z c.w-item.result) (record { rows = true; columns = union c.loop-w.known.columns (minus (c.all-all.ensures i) c.w-item.result) }) c.loop-w.known)) c.loop-w.invariant
+
+found : (c : goal.Then-has_all) → (c.told-known.result.rows && subset (minus (all c.args.columns) c.args.z) c.told-known.result.columns) ≡ true
+found c =
+    ap (λ (u : ℕ). c.told-known.result.rows && subset u c.told-known.result.columns) (sym (c.minus-open.ensures ∙ ap (λ (v : ℕ). minus v c.args.z) c.all-all.ensures))
+    ∙ sym c.has_all.ensures ∙ c.if-has_all.true
+
+enough : (c : goal.Then-has_all) → KnownSoFar c.args.columns c.args.agree_sets.now c.args.z c.told-known.result.rows c.told-known.result.columns
+enough c = known_enough c.args.columns c.args.z c.args.agree_sets.now (c.loop-w.w-index + 1) c.told-known.result.rows c.told-known.result.columns (found c)
+    (known_next c.args.columns c.args.z c.args.agree_sets.now c.loop-w.w-index c.w-item.result c.loop-w-test.true c.w-item.is c.loop-w.known c.told-known.result
+    (c.told-known.ensures ∙ (λ i. cond (subset c.args.z c.w-item.result) (record { rows = true; columns = union c.loop-w.known.columns (minus (c.all-all.ensures i) c.w-item.result) }) c.loop-w.known)) c.loop-w.invariant)
+
+pub returns-then-has_all-clause-rows : goal.returns-then-has_all-clause-rows
+returns-then-has_all-clause-rows c = sym (and_parts _ _ (found c)).0 ∙ (enough c).of_rows
+
+pub returns-then-has_all-clause-columns : goal.returns-then-has_all-clause-columns
+returns-then-has_all-clause-columns c = (enough c).of_columns

@@ -7,8 +7,8 @@ pub loop-x-init : goal.loop-x-init
 loop-x-init c = marked_none (cands c.args.self.now) c.as_slice-x-items.result.now c.in_ok-uptos.uptos.items c.in_ok-helds.helds.items c.in_ok-uptos.ensures.items c.in_ok-helds.ensures.items
 
 pub loop-x-preserved : goal.loop-x-preserved
-loop-x-preserved c = marked_more (cands c.args.self.now) c.as_slice-x-items.result.now c.loop-x.x-index c.loop-x.uptos.items c.push.new.self.items c.loop-x.helds.items c.push-in-loop-x.new.self.items c.x-item.result c.mark_of-mark.result
-    c.loop-x-test.true c.x-item.is c.mark_of-mark.ensures c.in_ok-push.ensures.items c.in_ok-push-2.ensures.items c.loop-x.invariant
+loop-x-preserved c = marked_more (cands c.args.self.now) c.as_slice-x-items.result.now c.loop-x.x-index c.loop-x.uptos.items c.push.new.self.items c.loop-x.helds.items c.push-in-loop-x.new.self.items c.x-item.result c.mark_near-mark.result.0
+    c.loop-x-test.true c.x-item.is c.mark_near-mark.ensures c.in_ok-push.ensures.items c.in_ok-push-2.ensures.items c.loop-x.invariant
 
 pub of-requires-clause-even : goal.of-requires-clause-even
 of-requires-clause-even c = (marked_all (cands c.args.self.now) c.as_slice-x-items.result.now c.loop-x.x-index c.loop-x.uptos.items c.loop-x.helds.items c.args.sets.items c.loop-x-test.false c.as_slice-x-items.ensures.value c.loop-x.invariant).0

@@ -13,15 +13,15 @@ use Rattle.candidate_cover.proofs.candidate_cover.CandidateCover.drafted.Goals a
 
 pub returns-clause-least : goal.returns-clause-least
 returns-clause-least c =
-    ap lefts (c.of.ensures ∙ c.in_ok-made.ensures) ∙ lefts_kept _ c.sorted.result.items
-    ∙ sorted_least c.args.draft.now.width c.args.draft.now.agree_sets c.args.target c.sorted.result.items c.sorted.ensures.order
-    (lists_members (choices c.args.draft.now.width c.args.target) c.args.draft.now.agree_sets c.args.target c.in_ok-sets.sets.items c.sorted.result.items c.sorted.ensures.members c.in_ok-sets.ensures)
+    ap lefts (c.of.ensures ∙ c.in_ok-made.ensures) ∙ lefts_kept _ c.in_ok-in_order.field-0.items
+    ∙ sorted_least c.args.draft.now.width c.args.draft.now.agree_sets c.args.target c.in_ok-in_order.field-0.items c.in_ok-in_order.ensures.order
+    (lists_members (choices c.args.draft.now.width c.args.target) c.args.draft.now.agree_sets c.args.target c.in_ok-sets.sets.items c.in_ok-in_order.field-0.items c.in_ok-in_order.ensures.members c.in_ok-sets.ensures)
     ∙ ap (λ (n : ℕ). least n c.args.draft.now.agree_sets c.args.target) c.requires.width
 
 pub returns-clause-marks : goal.returns-clause-marks
 returns-clause-marks c =
     c.of.ensures ∙ c.in_ok-made.ensures
-    ∙ ap₂ (λ (cs : List Cand) (xs : List ℕ). map (kept_or_fresh cs) xs) c.cand_list-list.ensures (sym (lefts_kept _ c.sorted.result.items) ∙ sym (ap lefts (c.of.ensures ∙ c.in_ok-made.ensures)))
+    ∙ ap₂ (λ (cs : List Cand) (xs : List ℕ). map (kept_or_fresh cs) xs) c.cand_list-list.ensures (sym (lefts_kept _ c.in_ok-in_order.field-0.items) ∙ sym (ap lefts (c.of.ensures ∙ c.in_ok-made.ensures)))
 
 pub returns-then-eq-clause-same : goal.returns-then-eq-clause-same
 returns-then-eq-clause-same c = λ e.
