@@ -7,15 +7,15 @@ ghost use Rattle.row_log.specs.Column.{AreCodes};
 ghost use Rattle.row_log.specs.Distinct.{AreFlaggedCells, AreUsed};
 
 use crate::codes::{CodeList, code_in};
-use column_dict::Dict;
-use rel_base::{Cell, Codes, MOST_ROWS, Nulls, Row};
+use column_dict::{Dict, Text};
+use rel_base::{Codes, MOST_ROWS, Nulls, Row};
 use std::alloc::{AllocError, Global};
 use std::marker::Model;
 
 /// The cells of one column, of all rows in order, as codes.
 ///
 /// Beside the codes it is kept for each code which row brought it, so that the last rows go in the time that they took to come.
-/// It costs 4 bytes a row, and some 64 bytes and the cell for each code.
+/// It costs 4 bytes a row, and some 50 bytes and the cell for each code.
 #[derive(Drop)]
 pub struct Column {
     dict: Dict,
@@ -129,7 +129,7 @@ impl Column {
     }
 
     /// The cell of the row at this place.
-    pub fn cell(&self, place: usize) -> &Cell
+    pub fn cell(&self, place: usize) -> &Text
         requires { place < length self.now.cells }
         ensures { result.now ≡ slice_index_or self.now.cells place [] }
     {
@@ -156,7 +156,7 @@ impl Column {
 }
 
 // Whether the code of a cell is used and the cell is not NULL.
-fn is_wanted(used: bool, cell: &Cell) -> bool
+fn is_wanted(used: bool, cell: &Text) -> bool
     ensures yes { result ≡ true → (used ≡ true) × (cell.now ≢ []) }
     ensures no { result ≡ false → used ≡ true → cell.now ≡ [] }
 {
