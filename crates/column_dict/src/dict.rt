@@ -157,6 +157,16 @@ impl Dict {
         self.places.len() as u32
     }
 
+    /// Makes room for so many cells to come, so that the map is not laid out anew again and again as they come. Where memory is
+    /// wanting there is less room.
+    pub fn expect(&mut self, cells: usize)
+        ensures { self.new ≡ self.old }
+    {
+        if self.known.reserve(cells).is_ok() {
+            let _ = self.places.reserve(cells);
+        }
+    }
+
     /// Drops the codes from n on, as if their cells had not been seen. It takes a step a code dropped, and no memory.
     pub fn keep(&mut self, n: u32)
         ensures { self.new ≡ record { nulls = self.old.nulls; cells = take n self.old.cells } }
