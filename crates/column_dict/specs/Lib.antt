@@ -1,2 +1,3 @@
 pub mod Coding
 pub mod Layout
+pub mod Text

@@ -4,23 +4,22 @@ ghost use Rattle.column_dict.specs.Coding.{IsCoding, IsCodeOf, coded, is_new};
 
 use crate::recent::{Recent, mark_of};
 use crate::table::{Known, add_fresh, add_known, entries_left, is_fresh, is_known_as, known_code};
+use crate::text::Text;
 use rel_base::{Cell, Nulls};
 use std::alloc::{AllocError, Global};
 use std::hash::BuildHasherDefault;
 use std::marker::Model;
-use std::mem;
 
 /// The codes of a column's cells, counted from 0 by first sight.
 ///
 /// Two codes are equal exactly where their cells are, but that under `Nulls::Distinct` each NULL coded has a code of its own.
-/// A cell that has a code takes no memory when it is coded again; a new one is copied.
-/// A code costs about 60 bytes and its cell, a fresh NULL 4 bytes, and what is kept to guess by at most 256 KB.
+/// A new cell is copied: one of at most 14 bytes into the table itself, a longer one beside it.
+/// A code costs about 45 bytes, a longer cell its bytes and some 50, a fresh NULL 4, and what is kept to guess by at most 256 KB.
 #[derive(Drop)]
 pub struct Dict {
     known: Known,
     places: Vec<u32>,
-    null: Cell,
-    scratch: Vec<u8>,
+    null: Text,
     recent: Recent,
     alloc: Global,
     nulls: Nulls,
@@ -56,16 +55,16 @@ impl Dict {
         Dict {
             known: Known::with_hasher(alloc, BuildHasherDefault::new()),
             places: Vec::new(alloc),
-            null: Cell::of(Vec::new(alloc)),
-            scratch: Vec::new(alloc),
+            null: Text::null(),
             recent: Recent::new(alloc),
             alloc,
             nulls,
         }
     }
 
-    /// The code of a cell, which is copied where it is new.
+    /// The code of a cell.
     ///
+    /// A new cell is copied; to look up a long one takes memory for a copy, also where it is known.
     /// After want of memory the dictionary is as before.
     pub fn code(&mut self, cell: &Cell) -> Result<u32, AllocError>
         requires { length self.old.cells < u32.MAX }
@@ -75,20 +74,11 @@ impl Dict {
         ensures agrees { IfOk result (λ code. IsCodeOf self.old cell.now code) }
         ensures refused { OnErr result (self.new ≡ self.old) }
     {
-        if is_fresh(self.nulls, cell) {
-            return add_fresh(&mut self.places);
-        }
-        if let Some(code) = known_code(&self.known, cell) {
-            return Ok(code);
-        }
-        let copy = Cell::copied(self.alloc, cell.bytes())?;
-        add_known(&mut self.known, &mut self.places, copy)
+        self.looked_up(cell.bytes())
     }
 
-    /// The code of the cell of these bytes. It does what `code` does, and makes no cell where one is known.
-    ///
-    /// A cell that was coded lately is found by a quick guess that is then compared. Else the bytes are looked up from a
-    /// buffer that the dictionary keeps, which grows to the longest cell.
+    /// The code of the cell of these bytes. It does what `code` does, and is quicker where the cell was coded lately: that is found
+    /// by a guess that is then compared.
     pub fn code_of(&mut self, bytes: &[u8]) -> Result<u32, AllocError>
         requires { length self.old.cells < u32.MAX }
         ensures cell { IfOk result (λ code. slice_get self.new.cells code ≡ Some bytes.now) }
@@ -136,20 +126,18 @@ impl Dict {
         ensures agrees { IfOk result (λ code. IsCodeOf self.old bytes.now code) }
         ensures refused { OnErr result (self.new ≡ self.old) }
     {
-        let mut buffer = mem::replace(&mut self.scratch, Vec::new(self.alloc));
-        buffer.clear();
-        let filled = buffer.extend_from_slice(bytes);
-        let cell = Cell::of(buffer);
-        let answer = match filled {
-            Ok(()) => self.code(&cell),
-            Err(refused) => Err(refused),
-        };
-        self.scratch = cell.into_bytes();
-        answer
+        if is_fresh(self.nulls, bytes) {
+            return add_fresh(&mut self.places);
+        }
+        let cell = Text::copied(self.alloc, bytes)?;
+        if let Some(code) = known_code(&self.known, &cell) {
+            return Ok(code);
+        }
+        add_known(&mut self.known, &mut self.places, cell)
     }
 
     /// The cell of a code.
-    pub fn cell(&self, code: u32) -> &Cell
+    pub fn cell(&self, code: u32) -> &Text
         requires { code < length self.now.cells }
         ensures { slice_get self.now.cells code ≡ Some result.now }
     {
@@ -167,6 +155,16 @@ impl Dict {
         // `len` is called for its clause that no cell stands twice.
         let _cells = self.known.len();
         self.places.len() as u32
+    }
+
+    /// Makes room for so many cells to come, so that the map is not laid out anew again and again as they come. Where memory is
+    /// wanting there is less room.
+    pub fn expect(&mut self, cells: usize)
+        ensures { self.new ≡ self.old }
+    {
+        if self.known.reserve(cells).is_ok() {
+            let _ = self.places.reserve(cells);
+        }
     }
 
     /// Drops the codes from n on, as if their cells had not been seen. It takes a step a code dropped, and no memory.

@@ -6,5 +6,7 @@ mod recent;
 mod table;
 #[cfg(test)]
 mod tests;
+mod text;
 
 pub use dict::Dict;
+pub use text::Text;

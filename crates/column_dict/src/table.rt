@@ -7,37 +7,38 @@ ghost use Rattle.indexmap.specs.IndexMap.{get, IsUnique};
 ghost use Rattle.column_dict.specs.Coding as coding;
 ghost use Rattle.column_dict.specs.Layout.{nowhere};
 
+use crate::text::Text;
 use indexmap::IndexMap;
-use rel_base::{Cell, Nulls};
+use rel_base::Nulls;
 use std::alloc::{AllocError, Global};
 use std::hash::{BuildHasherDefault, DefaultHasher};
 
 /// Cells by order of first sight, each with its code. The hash is SipHash with a fixed key: cells that collide are not known without a search.
-pub type Known = IndexMap<Cell, u32, BuildHasherDefault<DefaultHasher>>;
+pub type Known = IndexMap<Text, u32, BuildHasherDefault<DefaultHasher>>;
 
 // The place of a fresh NULL.
 const NOWHERE: u32 = u32::MAX;
 
 // Whether each code of the cell is a fresh one.
-pub fn is_fresh(nulls: Nulls, cell: &Cell) -> bool
-    ensures { result ≡ coding.is_fresh nulls cell.now }
+pub fn is_fresh(nulls: Nulls, bytes: &[u8]) -> bool
+    ensures { result ≡ coding.is_fresh nulls bytes.now }
 {
     match nulls {
         Nulls::Equal => false,
-        Nulls::Distinct => cell.is_null(),
+        Nulls::Distinct => bytes.is_empty(),
     }
 }
 
 // Whether each code of the cell is that of these bytes.
-pub fn is_known_as(nulls: Nulls, cell: &Cell, bytes: &[u8]) -> bool
+pub fn is_known_as(nulls: Nulls, cell: &Text, bytes: &[u8]) -> bool
     ensures same { result ≡ true → cell.now ≡ bytes.now }
     ensures old { result ≡ true → coding.is_fresh nulls bytes.now ≡ false }
 {
-    cell.bytes() == bytes && !is_fresh(nulls, cell)
+    cell.bytes() == bytes && !is_fresh(nulls, bytes)
 }
 
 // The code of a cell of the map.
-pub fn known_code(known: &Known, cell: &Cell) -> Option<u32>
+pub fn known_code(known: &Known, cell: &Text) -> Option<u32>
     ensures code { result ≡ get (pointwise nat_eq) known.now cell.now }
     ensures unique { IsUnique (pointwise nat_eq) known.now }
 {
@@ -47,7 +48,7 @@ pub fn known_code(known: &Known, cell: &Cell) -> Option<u32>
 }
 
 // Gives a cell that the map lacks the next code.
-pub fn add_known(known: &mut Known, places: &mut Vec<u32>, cell: Cell) -> Result<u32, AllocError>
+pub fn add_known(known: &mut Known, places: &mut Vec<u32>, cell: Text) -> Result<u32, AllocError>
     requires absent { get (pointwise nat_eq) known.old cell ≡ None }
     requires room { length places.old.items < u32.MAX }
     requires fewer { length known.old.entries ≤ length places.old.items }

@@ -55,3 +55,37 @@ fn each_null_has_a_code_of_its_own_where_null_agrees_with_nothing(
     assert!(rt; code_of(&rt, &mut dict, b"y")? == 4);
     Ok(())
 }
+
+// Whether new cells of this length get one code after another, and keep them. They are alike but for their bytes at this place.
+fn are_told_apart(dict: &mut Dict, cell: &mut [u8], place: usize) -> Result<bool, AllocError> {
+    for number in 0..40u8 {
+        if place < cell.len() {
+            cell[place] = number;
+        }
+        let wanted = dict.len();
+        if wanted == u32::MAX
+            || dict.code_of(cell)? != wanted
+            || dict.cell(wanted).bytes() != cell
+        {
+            return Ok(false);
+        }
+        let codes = dict.len();
+        if codes == u32::MAX || dict.code_of(cell)? != wanted || dict.len() != codes {
+            return Ok(false);
+        }
+    }
+    Ok(true)
+}
+
+#[test]
+fn cells_of_any_length_are_told_apart(rt: HostRuntime) -> Result<(), Fail> {
+    let mut dict = Dict::new(rt.alloc());
+    for length in [1usize, 13, 14, 15, 24, 25, 40, 41, 300] {
+        let mut cell = vec![in rt.alloc(); b'z'; length]?;
+        assert!(rt;
+            are_told_apart(&mut dict, &mut cell, length / 2)?,
+            "{length}"
+        );
+    }
+    Ok(())
+}

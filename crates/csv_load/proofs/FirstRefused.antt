@@ -12,6 +12,7 @@ use Rattle.rel_base.specs.Cells.{Row}
 use Rattle.rel_base.specs.Relation.{Content, IsContent}
 use Rattle.csv_load.specs.declared.load.Reading.TheVariants.{Read, Refused}
 use Rattle.csv_load.specs.Reading.{ReadsAs}
+use Rattle.csv_load.specs.Header.{IsWideHeader}
 use Rattle.csv_load.specs.Records.{records_of}
 use Rattle.csv_load.specs.Laws.{IsFirstRefused, RefusedAtTheFirst}
 use Rattle.csv_load.specs.Refusal.{first_refused, has_long_cell, header_refusal, row_refusal, refusal, refused_file, refused_records, IsWithin}
@@ -132,6 +133,11 @@ pub refused_header : (limits : Limits) (names : Row) (rows : List Row) (why : Wh
     → refused_records limits (names ∷ rows) ≡ Some (1, why)
 unfolding refused_records
 refused_header limits names rows why e = first_refused-here (refusal limits (length names)) 1 names rows why e
+
+pub wide_refused : (limits : Limits) (records : List Row) → IsWideHeader limits.columns records → refused_records limits records ≡ Some (1, Columns)
+wide_refused limits records h =
+    ap (refused_records limits) h.records_are
+    ∙ refused_header limits h.header h.others Columns (ap (λ (b : Bool). cond b (Some Columns) (cond (has_long_cell limits.cell h.header) (Some Cell) None)) (lt-ltb limits.columns (length h.header) h.wide))
 
 pub refused_later : (limits : Limits) (names : Row) (rows : List Row) → header_refusal limits names ≡ None
     → refused_records limits (names ∷ rows) ≡ first_refused (refusal limits (length names)) 2 rows

@@ -22,9 +22,9 @@ use Rattle.csv_load.specs.Unread.{ReadsPlainly, bytes_left, records_after}
 -- ---- a byte that ends a record
 
 -- what it does to the fields, and where it leaves the machine: between two records
-record EndsRecord (p : State × Action) : Type 0 where
-  action : p.1 ≡ act.EndRecord
-  between : ends_at_end p.0 ≡ false
+pub record EndsRecord (p : State × Action) : Type 0 where
+  pub action : p.1 ≡ act.EndRecord
+  pub between : ends_at_end p.0 ≡ false
 
 between_after : (t : Terminator) (c : ℕ) → ends_at_end (after_end t c) ≡ false
 between_after term.CRLF c = by (c == 13)
@@ -55,7 +55,7 @@ ends_at_record cfg c =
     either (ends_with cfg.terminator c) (st.StartRecord, act.Skip) _ (λ e. never e)
     (either (is_byte cfg.comment c) (st.InComment, act.Skip) (start_field cfg c) (λ e. never e) (ends_at_start cfg c))
 
-ends_a_record : (cfg : Config) (s : State) (c : ℕ) → is_end (step cfg s c).1 ≡ true → EndsRecord (step cfg s c)
+pub ends_a_record : (cfg : Config) (s : State) (c : ℕ) → is_end (step cfg s c).1 ≡ true → EndsRecord (step cfg s c)
 ends_a_record cfg st.StartRecord c = ends_at_record cfg c
 ends_a_record cfg st.StartField c = ends_at_start cfg c
 ends_a_record cfg st.InField c = ends_in_field cfg c

@@ -1,4 +1,5 @@
 pub mod Records
+pub mod Header
 pub mod Refusal
 pub mod Unread
 pub mod Reading

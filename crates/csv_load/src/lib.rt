@@ -1,6 +1,7 @@
 //! Files of comma-separated values: their records, and the relation that they hold or the rule that refuses them.
 #![tactic(auto)]
 
+mod header_width;
 pub mod laws;
 mod load;
 mod marks;

@@ -3,6 +3,7 @@ ghost use Rattle.std.specs.Prelude.{◌≡◌, IfOk};
 ghost use Rattle.csv_load.specs.Records.{records_of};
 ghost use Rattle.csv_load.specs.Reading.{ReadsAs};
 
+use crate::header_width::has_wide_header;
 use crate::record_reader::RecordReader;
 use crate::refusal::{header_refusal, row_refusal};
 use csv::ByteRecord;
@@ -51,6 +52,13 @@ pub fn read_relation(alloc: Global, bytes: &[u8], limits: &Limits) -> Reading
 fn try_read(alloc: Global, bytes: &[u8], limits: &Limits) -> Result<Reading, AllocError>
     ensures { IfOk result (ReadsAs limits.now (records_of bytes.now)) }
 {
+    // A header that is too wide is refused before its fields take memory.
+    if has_wide_header(bytes, limits.columns as usize) {
+        return Ok(Reading::Refused {
+            rec: 1,
+            why: Why::Columns,
+        });
+    }
     let mut reader = RecordReader::new(alloc, bytes);
     let mut record = ByteRecord::new(alloc);
     if !reader.next(&mut record)? {

@@ -98,7 +98,7 @@ fn records_of_a_text(rt: HostRuntime) -> Result<(), Fail> {
 fn relations_and_refusals(rt: HostRuntime) -> Result<(), Fail> {
     let standard = Limits::standard();
     let whole = b"id|city|zip/1|Berlin|10115/2|Berlin|10115/3|Potsdam|14467/".as_slice();
-    let cases: [(&[u8], Limits, &[u8]); 14] = [
+    let cases: [(&[u8], Limits, &[u8]); 16] = [
         (CITIES, standard, whole),
         (b"\xEF\xBB\xBFa,b\r\n\r\n1,\"x,y\"", standard, b"a|b/1|x,y/"),
         (
@@ -123,6 +123,16 @@ fn relations_and_refusals(rt: HostRuntime) -> Result<(), Fail> {
         ),
         (CITIES, Limits::smaller(3, 3, 7, 1), whole),
         (b"a,b,c\n1\n", Limits::smaller(2, 9, 9, 9), b"1 Columns"),
+        (
+            b"\n\"a,\"\",\",b\"\n1,2\n",
+            Limits::smaller(2, 9, 9, 99),
+            b"a,\",|b\"/1|2/",
+        ),
+        (
+            b"\n\"a\n\",\"b,\"\"\",\"c",
+            Limits::smaller(2, 9, 9, 99),
+            b"1 Columns",
+        ),
         (b"a,b\n11\n", Limits::smaller(9, 9, 1, 9), b"2 Fields"),
         (b"a\n1\n22\n", Limits::smaller(9, 1, 1, 9), b"3 Cell"),
     ];

@@ -7,15 +7,15 @@ ghost use Rattle.row_log.specs.Column.{AreCodes};
 ghost use Rattle.row_log.specs.Distinct.{AreFlaggedCells, AreUsed};
 
 use crate::codes::{CodeList, code_in};
-use column_dict::Dict;
-use rel_base::{Cell, Codes, MOST_ROWS, Nulls, Row};
+use column_dict::{Dict, Text};
+use rel_base::{Codes, MOST_ROWS, Nulls, Row};
 use std::alloc::{AllocError, Global};
 use std::marker::Model;
 
 /// The cells of one column, of all rows in order, as codes.
 ///
 /// Beside the codes it is kept for each code which row brought it, so that the last rows go in the time that they took to come.
-/// It costs 4 bytes a row, and some 64 bytes and the cell for each code.
+/// It costs 4 bytes a row, and some 50 bytes and the cell for each code.
 #[derive(Drop)]
 pub struct Column {
     dict: Dict,
@@ -68,10 +68,21 @@ impl Column {
         requires few { length self.old.cells + length rows.now ≤ MOST_ROWS }
         ensures { OnOk result (self.new ≡ record { nulls = self.old.nulls; cells = self.old.cells ++ map (λ row. cell row place) rows.now }) }
     {
+        self.expect_as_many_new();
         for row in rows {
             self.push(row.cell(place))?;
         }
         Ok(())
+    }
+
+    // Where nearly all cells that came were new, makes room in the dictionary for as many as there is room for codes.
+    fn expect_as_many_new(&mut self)
+        ensures { self.new ≡ self.old }
+    {
+        let rows = self.codes.own.len();
+        if self.dict.len() as usize > rows - rows / 8 {
+            self.dict.expect(self.codes.own.capacity() - rows);
+        }
     }
 
     /// Codes the cell of one more row.
@@ -129,7 +140,7 @@ impl Column {
     }
 
     /// The cell of the row at this place.
-    pub fn cell(&self, place: usize) -> &Cell
+    pub fn cell(&self, place: usize) -> &Text
         requires { place < length self.now.cells }
         ensures { result.now ≡ slice_index_or self.now.cells place [] }
     {
@@ -156,7 +167,7 @@ impl Column {
 }
 
 // Whether the code of a cell is used and the cell is not NULL.
-fn is_wanted(used: bool, cell: &Cell) -> bool
+fn is_wanted(used: bool, cell: &Text) -> bool
     ensures yes { result ≡ true → (used ≡ true) × (cell.now ≢ []) }
     ensures no { result ≡ false → used ≡ true → cell.now ≡ [] }
 {

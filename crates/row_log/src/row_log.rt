@@ -16,7 +16,8 @@ use crate::column::Column;
 use crate::table::{
     agreement, append_live, columns_of, handed_codes, push_row, share_codes, truncate_rows,
 };
-use rel_base::{Batch, Cell, ColSet, Limits, Nulls, Op, Relation, Row, RowNo, Snapshot, Why};
+use column_dict::Text;
+use rel_base::{Batch, ColSet, Limits, Nulls, Op, Relation, Row, RowNo, Snapshot, Why};
 use std::alloc::{AllocError, Global};
 use std::marker::Model;
 use std::sync::Arc;
@@ -150,7 +151,7 @@ impl RowLog {
     }
 
     /// The cell of a row in a column, counted from 0. Rows that are no longer live keep theirs.
-    pub fn cell(&self, number: RowNo, column: u8) -> &Cell
+    pub fn cell(&self, number: RowNo, column: u8) -> &Text
         requires given { number < next self.now }
         requires column { column < width self.now }
         ensures { result.now ≡ cell (row self.now number) column }

@@ -1,9 +1,9 @@
 use Rattle.std.proofs.Common.{◌≡◌, ◌∙◌, sym, ap, ◌+◌, arith, length}
 use Rattle.csv.specs.Records.{fields_of}
-use Rattle.rel_base.specs.declared.why.Why.TheVariants.{NoHeader}
+use Rattle.rel_base.specs.declared.why.Why.TheVariants.{Columns, NoHeader}
 use Rattle.rel_base.specs.Relation.{Content}
 use Rattle.csv_load.specs.Records.{records_of}
-use Rattle.csv_load.proofs.FirstRefused.{no_records, read_header, read_row, read_whole, reads_as_refused, reads_as_relation, refuse_row, refused_header}
+use Rattle.csv_load.proofs.FirstRefused.{no_records, read_header, read_row, read_whole, reads_as_refused, reads_as_relation, refuse_row, refused_header, wide_refused}
 use Rattle.csv_load.proofs.load.try_read.Goals as goal
 use Rattle.csv_load.proofs.load.try_read.Goals.{After-names}
 
@@ -11,6 +11,10 @@ pub returns-then-not-branch : goal.returns-then-not-branch
 returns-then-not-branch c =
     let end = rw c.if-not-branch.true at c.in_ok-next.ensures.end in
     reads_as_refused c.args.limits.now (records_of c.args.bytes.now) 0 NoHeader (rw (← c.new-reader.ensures.records, end.0) (no_records c.args.limits.now))
+
+pub returns-then-has_wide_header : goal.returns-then-has_wide_header
+returns-then-has_wide_header c =
+    reads_as_refused c.args.limits.now (records_of c.args.bytes.now) 1 Columns (wide_refused c.args.limits.now (records_of c.args.bytes.now) (c.has_wide_header.ensures c.if-has_wide_header.true))
 
 pub returns-in-Some : goal.returns-in-Some
 returns-in-Some c =
