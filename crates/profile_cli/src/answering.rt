@@ -48,8 +48,15 @@ fn made_of<R: Threads + Sync>(
             prefix,
             file,
         } => {
-            let relation = relations.swap_remove(0);
-            normalized_of(rt, alloc, *workers, limits, prefix, file, relation)
+            normalized_of(
+                rt,
+                alloc,
+                *workers,
+                limits,
+                prefix,
+                file,
+                relations.swap_remove(0),
+            )
         }
         Request::Demo { workers, seed } => {
             let text = demo_text_of(rt, alloc, *workers, limits, *seed)?;
