@@ -1,0 +1,4 @@
+pub mod Sitting
+pub mod Answering
+pub mod Running
+pub mod Ready
