@@ -12,6 +12,8 @@
 mod desk;
 pub mod laws;
 mod passes;
+#[cfg(test)]
+mod tests;
 mod turns;
 
 pub use desk::Desk;
