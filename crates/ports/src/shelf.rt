@@ -1,9 +1,9 @@
 // Files by name.
-ghost use Rattle.std.specs.Prelude.{◌≡◌, ◌<◌, ℕ, List, Option, length, IsTrue};
+ghost use Rattle.std.specs.Prelude.{◌≡◌, ◌<◌, ◌≤◌, ◌+◌, ℕ, List, Option, length, IsTrue, IfSome};
 ghost use Rattle.ports.specs.Faults.{CountsAt, SameFaults};
 ghost use Rattle.ports.specs.Files.{Files, Access, Nothing, ForReading, is_reading, is_writing, name_of, left_of};
 ghost use Rattle.ports.specs.Answers.{open_failed, create_failed, read_failed, write_failed, close_failed_reading, close_failed_writing};
-ghost use Rattle.ports.specs.Answers.{after_open, after_create, ReadMoves, CreateEmpties, WriteAppendsTo};
+ghost use Rattle.ports.specs.Answers.{after_open, after_create, LeavesRest, ReadMoves, CreateEmpties, WriteAppendsTo};
 
 use crate::{Reading, Writing};
 use rel_base::Name;
@@ -60,19 +60,24 @@ pub trait Shelf {
         ensures opened { opened self.new ≡ after_open result name (content self.old) }
         ensures content { content self.new ≡ content self.old }
         ensures reads { CountsAt (open_failed result) name read_faults read_last self.old self.new }
+        ensures once { read_faults self.new ≤ read_faults self.old + 1 }
         ensures writes { SameFaults write_faults write_last self.old self.new };
 
-    /// Reads the file that is open, as a source is read.
+    /// Reads the file that is open, as a source is read. A type that tells its bytes leaves the rest
+    /// of the buffer as it was.
     fn read(&mut self, buffer: &mut [u8]) -> Reading
         requires some_room { 0 < length buffer.old }
         requires open { IsTrue (is_reading (opened self.old)) }
         ensures moved { ReadMoves result buffer.new
             (left_of (opened self.old)) (left_of (opened self.new)) }
+        ensures rest { IfSome (left_of (opened self.old))
+            (λ _. LeavesRest result buffer.old buffer.new) }
         ensures opened { opened self.new
             ≡ ForReading (name_of (opened self.old)) (left_of (opened self.new)) }
         ensures content { content self.new ≡ content self.old }
         ensures reads { CountsAt (read_failed result) (name_of (opened self.old))
             read_faults read_last self.old self.new }
+        ensures once { read_faults self.new ≤ read_faults self.old + 1 }
         ensures writes { SameFaults write_faults write_last self.old self.new };
 
     /// Makes a file without bytes, in place of one of this name, and opens it for writing.
@@ -82,6 +87,7 @@ pub trait Shelf {
         ensures content { CreateEmpties result name (content self.old) (content self.new) }
         ensures writes { CountsAt (create_failed result) name
             write_faults write_last self.old self.new }
+        ensures once { write_faults self.new ≤ write_faults self.old + 1 }
         ensures reads { SameFaults read_faults read_last self.old self.new };
 
     /// Writes behind what the created file has, as a sink is written to.
@@ -93,6 +99,7 @@ pub trait Shelf {
         ensures opened { opened self.new ≡ opened self.old }
         ensures writes { CountsAt (write_failed result) (name_of (opened self.old))
             write_faults write_last self.old self.new }
+        ensures once { write_faults self.new ≤ write_faults self.old + 1 }
         ensures reads { SameFaults read_faults read_last self.old self.new };
 
     /// Closes what is open. With nothing open there is nothing that could fail.
@@ -103,5 +110,7 @@ pub trait Shelf {
         ensures reads { CountsAt (close_failed_reading result (opened self.old))
             (name_of (opened self.old)) read_faults read_last self.old self.new }
         ensures writes { CountsAt (close_failed_writing result (opened self.old))
-            (name_of (opened self.old)) write_faults write_last self.old self.new };
+            (name_of (opened self.old)) write_faults write_last self.old self.new }
+        ensures read_once { read_faults self.new ≤ read_faults self.old + 1 }
+        ensures write_once { write_faults self.new ≤ write_faults self.old + 1 };
 }

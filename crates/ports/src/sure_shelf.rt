@@ -1,5 +1,5 @@
 // A shelf that never fails at a read.
-ghost use Rattle.std.specs.Prelude.{◌≡◌, None};
+ghost use Rattle.std.specs.Prelude.{◌≡◌, ◌≤◌, ◌+◌, None};
 ghost use Rattle.ports.specs.Faults.{SameFaults};
 ghost use Rattle.ports.specs.Files.{Nothing};
 ghost use Rattle.ports.specs.Answers.{create_failed, after_create, CreateEmpties};
@@ -92,6 +92,7 @@ impl Shelf for SureShelf {
         ensures content { CreateEmpties result name
             (sure_content self.old) (sure_content self.new) }
         ensures writes { SureWritesCount (create_failed result) name self.old self.new }
+        ensures once { self.new.write_faults ≤ self.old.write_faults + 1 }
         ensures reads { SameFaults (λ (shelf : SureFiles). 0) (λ (shelf : SureFiles). None)
             self.old self.new }
         ensures fails { result ≡ Creating.Failed }
