@@ -126,6 +126,7 @@ pub struct MemShelf {
     calls: ShelfCalls,
     reads: Faults,
     writes: Faults,
+    opens: u64,
 }
 
 impl Model for MemShelf {
@@ -169,6 +170,7 @@ impl MemShelf {
             calls: ShelfCalls::of(fails),
             reads: Faults::none(),
             writes: Faults::none(),
+            opens: 0,
         })
     }
 
@@ -189,6 +191,13 @@ impl MemShelf {
         ensures { result ≡ length self.now.files }
     {
         self.files.len()
+    }
+
+    /// How many opens there were.
+    pub fn opens(&self) -> u64
+        ensures { result ≡ self.now.opens }
+    {
+        self.opens
     }
 
     /// How often an open, a read, or a close of what was opened failed.
@@ -238,6 +247,8 @@ impl Shelf for MemShelf {
 
     ghost opened = { λ s. s.opened };
 
+    ghost opens = { λ s. s.opens };
+
     ghost read_faults = { λ s. s.read_faults };
 
     ghost read_last = { λ s. s.read_last };
@@ -249,6 +260,7 @@ impl Shelf for MemShelf {
     fn open(&mut self, name: Name) -> Opening
         requires { self.old.opened ≡ Nothing }
         ensures opened { self.new.opened ≡ after_open result name (mem_content self.old) }
+        ensures opens { self.new.opens ≤ self.old.opens + 1 }
         ensures content { mem_content self.new ≡ mem_content self.old }
         ensures reads { ReadsCount (open_failed result) name self.old self.new }
         ensures once { self.new.read_faults ≤ self.old.read_faults + 1 }
@@ -259,6 +271,7 @@ impl Shelf for MemShelf {
         ensures blanks { self.new.blanks ≡ self.old.blanks }
     {
         let listed = self.calls.begin(Kind::Open);
+        self.opens = self.opens.saturating_add(1);
         match place_of(&self.files, &name) {
             Some(place) if !listed => {
                 self.open = Open::Reading(place);
@@ -280,6 +293,7 @@ impl Shelf for MemShelf {
         ensures rest { LeavesRest result buffer.old buffer.new }
         ensures opened { self.new.opened
             ≡ ForReading (name_of self.old.opened) (left_of self.new.opened) }
+        ensures opens { self.new.opens ≡ self.old.opens }
         ensures content { mem_content self.new ≡ mem_content self.old }
         ensures reads { ReadsCount (read_failed result) (name_of self.old.opened)
             self.old self.new }
@@ -306,6 +320,7 @@ impl Shelf for MemShelf {
     fn create(&mut self, name: Name) -> Creating
         requires { self.old.opened ≡ Nothing }
         ensures opened { self.new.opened ≡ after_create result name }
+        ensures opens { self.new.opens ≡ self.old.opens }
         ensures content { CreateEmpties result name (mem_content self.old) (mem_content self.new) }
         ensures writes { WritesCount (create_failed result) name self.old self.new }
         ensures once { self.new.write_faults ≤ self.old.write_faults + 1 }
@@ -331,6 +346,7 @@ impl Shelf for MemShelf {
         ensures appended { WriteAppendsTo result (name_of self.old.opened) piece.now
             (mem_content self.old) (mem_content self.new) }
         ensures opened { self.new.opened ≡ self.old.opened }
+        ensures opens { self.new.opens ≡ self.old.opens }
         ensures writes { WritesCount (write_failed result) (name_of self.old.opened)
             self.old self.new }
         ensures once { self.new.write_faults ≤ self.old.write_faults + 1 }
@@ -359,6 +375,7 @@ impl Shelf for MemShelf {
 
     fn close(&mut self) -> Closing
         ensures opened { self.new.opened ≡ Nothing }
+        ensures opens { self.new.opens ≡ self.old.opens }
         ensures content { mem_content self.new ≡ mem_content self.old }
         ensures idle { self.old.opened ≡ Nothing → result ≡ Closing.Closed }
         ensures reads { ReadsCount (close_failed_reading result self.old.opened)

@@ -41,6 +41,9 @@ pub trait Shelf {
     /// What is open.
     ghost opened: { Self → Access };
 
+    /// How many opens there were. A count that has come to the last value of its type stands still.
+    ghost opens: { Self → ℕ };
+
     /// How often an open, a read, or a close of what was opened failed.
     ghost read_faults: { Self → ℕ };
 
@@ -58,6 +61,7 @@ pub trait Shelf {
     fn open(&mut self, name: Name) -> Opening
         requires { opened self.old ≡ Nothing }
         ensures opened { opened self.new ≡ after_open result name (content self.old) }
+        ensures opens { opens self.new ≤ opens self.old + 1 }
         ensures content { content self.new ≡ content self.old }
         ensures reads { CountsAt (open_failed result) name read_faults read_last self.old self.new }
         ensures once { read_faults self.new ≤ read_faults self.old + 1 }
@@ -74,6 +78,7 @@ pub trait Shelf {
             (λ _. LeavesRest result buffer.old buffer.new) }
         ensures opened { opened self.new
             ≡ ForReading (name_of (opened self.old)) (left_of (opened self.new)) }
+        ensures opens { opens self.new ≡ opens self.old }
         ensures content { content self.new ≡ content self.old }
         ensures reads { CountsAt (read_failed result) (name_of (opened self.old))
             read_faults read_last self.old self.new }
@@ -84,6 +89,7 @@ pub trait Shelf {
     fn create(&mut self, name: Name) -> Creating
         requires { opened self.old ≡ Nothing }
         ensures opened { opened self.new ≡ after_create result name }
+        ensures opens { opens self.new ≡ opens self.old }
         ensures content { CreateEmpties result name (content self.old) (content self.new) }
         ensures writes { CountsAt (create_failed result) name
             write_faults write_last self.old self.new }
@@ -97,6 +103,7 @@ pub trait Shelf {
         ensures appended { WriteAppendsTo result (name_of (opened self.old)) piece.now
             (content self.old) (content self.new) }
         ensures opened { opened self.new ≡ opened self.old }
+        ensures opens { opens self.new ≡ opens self.old }
         ensures writes { CountsAt (write_failed result) (name_of (opened self.old))
             write_faults write_last self.old self.new }
         ensures once { write_faults self.new ≤ write_faults self.old + 1 }
@@ -105,6 +112,7 @@ pub trait Shelf {
     /// Closes what is open. With nothing open there is nothing that could fail.
     fn close(&mut self) -> Closing
         ensures opened { opened self.new ≡ Nothing }
+        ensures opens { opens self.new ≡ opens self.old }
         ensures content { content self.new ≡ content self.old }
         ensures idle { opened self.old ≡ Nothing → result ≡ Closing.Closed }
         ensures reads { CountsAt (close_failed_reading result (opened self.old))
