@@ -2,9 +2,10 @@
 ghost use Rattle.std.specs.Prelude.{◌≡◌};
 ghost use Rattle.depprof.specs.Faults.{StandsAt};
 
+use crate::streams::write_some;
 use ports::{Closing, Creating, Opening, Reading, Shelf, Writing};
 use rel_base::Name;
-use std::io::{Read, Write};
+use std::io::Read;
 use std::rt::Files;
 use std::{fs, mem};
 
@@ -16,11 +17,13 @@ enum Held<F> {
     ForWriting { name: Name, file: F, failed: bool },
 }
 
-/// The files of the system, by their paths. A file is closed when it is let go, which the system does not report on.
+/// The files of the system, by their paths. Each write is flushed in the same call. A file is closed when it is let go, which the system does not
+/// report on.
 #[derive(Drop)]
 pub struct FileShelf<'r, R: Files> {
     rt: &'r R,
     held: Held<R::File>,
+    opens: u64,
     read_faults: u64,
     read_last: Option<Name>,
     write_faults: u64,
@@ -38,6 +41,7 @@ impl<'r, R: Files> FileShelf<'r, R> {
         FileShelf {
             rt,
             held: Held::Nothing,
+            opens: 0,
             read_faults: 0,
             read_last: None,
             write_faults: 0,
@@ -54,6 +58,8 @@ impl<R: Files> Shelf for FileShelf<'_, R> {
 
     ghost opened = { λ s. access_of s.held };
 
+    ghost opens = { λ s. s.opens };
+
     ghost read_faults = { λ s. s.read_faults };
 
     ghost read_last = { λ s. read_last_of s.held s.read_last };
@@ -63,6 +69,7 @@ impl<R: Files> Shelf for FileShelf<'_, R> {
     ghost write_last = { λ s. write_last_of s.held s.write_last };
 
     fn open(&mut self, name: Name) -> Opening {
+        self.opens = self.opens.saturating_add(1);
         match fs::open(self.rt, name.as_str()) {
             Ok(file) => {
                 self.held = Held::ForReading {
@@ -117,9 +124,9 @@ impl<R: Files> Shelf for FileShelf<'_, R> {
         let Held::ForWriting { file, failed, .. } = &mut self.held else {
             unreachable!()
         };
-        match file.write(piece) {
-            Ok(count) if count > 0 => Writing::Took(count),
-            _ => {
+        match write_some(file, piece) {
+            Some(count) => Writing::Took(count),
+            None => {
                 *failed = true;
                 self.write_faults = self.write_faults.saturating_add(1);
                 Writing::Failed

@@ -53,11 +53,11 @@ impl<'r, P: Print> StandardOut<'r, P> {
     }
 }
 
-// Writes some first bytes and flushes: how many went, or `None` where it failed or took none.
-fn write_some<P: Print>(rt: &P, piece: &[u8]) -> Option<usize>
+// Writes some first bytes and flushes them in the same call, so that a failure to hand them on is told here: how many went, or `None` where either
+// failed or none were taken.
+pub(crate) fn write_some<W: Write>(writer: &mut W, piece: &[u8]) -> Option<usize>
     ensures { IfSome result (λ count. (0 < count) × (count ≤ length piece.now)) }
 {
-    let mut writer = io::writer(rt);
     let count = writer.write(piece).ok()?;
     writer.flush().ok()?;
     if count == 0 { None } else { Some(count) }
@@ -71,7 +71,7 @@ impl<P: Print> Sink for StandardOut<'_, P> {
     ghost faults = { λ s. s.faults };
 
     fn write(&mut self, piece: &[u8]) -> Writing {
-        match write_some(self.rt, piece) {
+        match write_some(&mut io::writer(self.rt), piece) {
             Some(count) => Writing::Took(count),
             None => {
                 self.faults = self.faults.saturating_add(1);

@@ -1,12 +1,13 @@
-use crate::WordsFault;
+use crate::words::{WordsFault, end_without};
 use crate::file_shelf::FileShelf;
-use crate::streams::{StandardIn, StandardOut};
+use crate::streams::{StandardIn, StandardOut, write_some};
 use ports::{
     Closing, Creating, Loading, OpenGate, Reading, Shelf, Sink, Source, Storing, SureSink, Writing,
     load_file, store_file,
 };
-use profile_cli::run;
+use profile_cli::{Outcome, run, usage_line};
 use rel_base::{Limits, Name};
+use std::io::Write;
 use std::test::Fail;
 use std::{env, fs, io};
 
@@ -91,9 +92,33 @@ fn standard_input_comes_to_its_end(rt: HostRuntime) {
 }
 
 #[test]
-fn words_that_cannot_be_gathered_have_a_status(rt: HostRuntime) {
+fn words_that_cannot_be_gathered_are_no_command(rt: HostRuntime) -> Result<(), Fail> {
     let memory = WordsFault::from(io::Error::from(io::ErrorKind::OutOfMemory));
     let text = WordsFault::from(io::Error::from(io::ErrorKind::InvalidData));
-    assert!(rt; memory == WordsFault::NoMemory && memory.status() == 6);
-    assert!(rt; text == WordsFault::NotText && text.status() == 2);
+    assert!(rt; memory == WordsFault::NoMemory && text == WordsFault::NotText);
+    let mut out = SureSink::with_room(rt.alloc(), 1_000)?;
+    assert!(rt; end_without(memory, &mut out) == Outcome::NoMemory);
+    assert!(rt; out.bytes().is_empty());
+    assert!(rt; end_without(text, &mut out) == Outcome::Usage);
+    assert!(rt; out.bytes() == usage_line());
+    Ok(())
+}
+
+// A writer that takes all bytes and can't hand them on.
+#[derive(Drop)]
+struct Unflushed;
+
+impl Write for Unflushed {
+    fn write(&mut self, bytes: &[u8]) -> io::Result<usize> {
+        Ok(bytes.len())
+    }
+
+    fn flush(&mut self) -> io::Result<()> {
+        Err(io::Error::from(io::ErrorKind::Other))
+    }
+}
+
+#[test]
+fn a_failed_flush_is_a_failed_write(rt: HostRuntime) {
+    assert!(rt; write_some(&mut Unflushed, b"a line").is_none());
 }

@@ -2,12 +2,12 @@
 use Rattle.std.proofs.Common.{◌≡◌, ℕ, zero, suc, ◌+◌, ◌<◌, ◌≤◌, min, ◌∙◌, refl, sym, ap, subst, arith, false, List, [], ◌∷◌, ◌++◌, length, take, drop, append_assoc, append-nil, take-append-drop, drop-drop, length-append, length-drop, Option, None, Some}
 use Rattle.std.specs.Option.{option_map}
 use Rattle.std.proofs.Math.Seq.{take-add}
-use Rattle.std.proofs.lemmas.List.{take-append-le}
+use Rattle.std.proofs.lemmas.List.{take-append-le, drop-append-le}
 use Rattle.ports.specs.declared.source.Reading.{Reading}
 use Rattle.ports.specs.declared.source.Reading.TheVariants.{Got, End, Failed}
 use Rattle.ports.specs.declared.sink.Writing.TheVariants.{Took}
 use Rattle.ports.specs.Bytes.{Moves, Gains}
-use Rattle.ports.specs.Answers.{ReadMoves}
+use Rattle.ports.specs.Answers.{LeavesRest, ReadMoves}
 use Rattle.ports.specs.Memory.{read_answer, write_answer}
 
 -- a buffer whose first part is filled with what was moved so far, and which never grows past one byte more than the limit
@@ -72,6 +72,21 @@ ReadMoves-wider (Got count) front back before now h =
     (h.0, omega (arith, h.1, length-append front back), subst (Moves before now) (sym (take-append-le count front back h.1)) h.2)
 ReadMoves-wider End front back before now h = h
 ReadMoves-wider Failed front back before now h = h
+
+-- a read that copied so many bytes leaves what lies behind them
+pub LeavesRest-copied : (count : ℕ) (before now : List ℕ) → drop count now ≡ drop count before → LeavesRest (read_answer false count) before now
+LeavesRest-copied zero before now same = same
+LeavesRest-copied (suc count) before now same = same
+
+-- the same of a read into the front of a buffer
+pub LeavesRest-front : (count most : ℕ) (buffer front : List ℕ) → count ≤ length front → length front ≡ length (take most buffer) → drop count front ≡ drop count (take most buffer)
+    → LeavesRest (read_answer false count) buffer (front ++ drop most buffer)
+LeavesRest-front count most buffer front few size same =
+    LeavesRest-copied count buffer (front ++ drop most buffer)
+    (drop-append-le count front (drop most buffer) few
+    ∙ ap (λ rest. rest ++ drop most buffer) same
+    ∙ sym (drop-append-le count (take most buffer) (drop most buffer) (omega arith))
+    ∙ ap (drop count) (take-append-drop most buffer))
 
 -- what is read stays within the text
 pub within-read : (at count room : ℕ) (text : List ℕ) → at ≤ length text → count ≡ min (length (drop at text)) room → at + count ≤ length text

@@ -1,5 +1,5 @@
 -- What the answers of the traits' calls mean.
-use Rattle.std.specs.Prelude.{◌≡◌, ℕ, ◌<◌, ◌≤◌, Bool, true, false, ◌&&◌, List, [], length, take, Option}
+use Rattle.std.specs.Prelude.{◌≡◌, ℕ, ◌<◌, ◌≤◌, Bool, true, false, ◌&&◌, List, [], length, take, drop, Option}
 use Rattle.std.specs.Option.{option_map}
 use Rattle.ports.specs.declared.source.Reading.{Reading}
 use Rattle.ports.specs.declared.source.Reading.TheVariants.{Got, End, Failed as ReadFailed}
@@ -65,6 +65,12 @@ abbrev pub ReadMoves : Reading → List ℕ → Option (List ℕ) → Option (Li
 ReadMoves (Got count) buffer before now = (0 < count) × (count ≤ length buffer) × Moves before now (take count buffer)
 ReadMoves End buffer before now = IsUsedUp before × (now ≡ before)
 ReadMoves ReadFailed buffer before now = now ≡ before
+
+-- A read leaves all of the buffer that lies behind what it moved, and so all of it where it moved nothing.
+abbrev pub LeavesRest : Reading → List ℕ → List ℕ → Type 0
+LeavesRest (Got count) before now = drop count now ≡ drop count before
+LeavesRest End before now = now ≡ before
+LeavesRest ReadFailed before now = now ≡ before
 
 -- A write appends the first bytes of the piece, at least one. It appends none where it failed.
 abbrev pub WriteAppends : Writing → List ℕ → Option (List ℕ) → Option (List ℕ) → Type 0

@@ -5,7 +5,8 @@ use Rattle.std.specs.Prelude.{◌≡◌, ℕ, ◌-◌, ◌^◌, ◌≤◌, Bool,
 abbrev pub last_count : ℕ
 last_count = 2 ^ 64 - 1
 
--- A count rose in a call, or stands at its last value. It never falls.
+-- A count rose, or stands at its last value. It never falls. A single call raises it by one at most, which the traits say beside this; a file that is read
+-- whole may fail twice, at a read and at the close.
 pub record Rose (before now : ℕ) : Type 0 where
   pub not_fallen : before ≤ now
   pub risen : now ≡ before → now ≡ last_count

@@ -39,6 +39,7 @@ abbrev pub seen : Inside → MemFiles
 seen s = record {
   files = told s.files.items s.«open» s.buffer.held;
   opened = opened_of s.files.items s.«open» s.at;
+  opens = s.opens;
   blanks = vec_len s.blanks;
   room = s.room;
   largest = s.largest;

@@ -18,7 +18,16 @@
 //! only where it raised that count, at a shelf under the name that it worked on (`Rose` and
 //! `RoseAt` of `specs/Faults`). Every other answer leaves counts and names (`SameFaults`). So a body that
 //! answers a fault where the outside had none is refused, and the name tells which file it was.
-//! A count at the last value of its type stands still, which `Rose` allows for.
+//! A count at the last value of its type stands still, which `Rose` allows for. A call raises a
+//! count by one at most.
+//!
+//! *Opens*, by one more count, which a shelf raises at an open alone, and by one at most. So a
+//! program that opens more files than it says is refused, since on some shelf its count is above
+//! what it says.
+//!
+//! *The buffer of a read*: a type that tells its bytes leaves what lies behind those that it moved,
+//! and so all of it where it moved none. Of the others nothing is claimed, so that a real file reads
+//! straight into the buffer.
 //!
 //! [`load`], [`load_file`], [`put_all`] and [`store_file`] speak of whole texts, over any of these
 //! and in the same words: all that was left, the bytes of a file, all or a first part of what was

@@ -29,6 +29,7 @@ pub fn load<S: Source>(alloc: Global, source: &mut S, limit: u64) -> Loading
     ensures loads { IfSome (S.left source.old) (Loads result limit) }
     ensures takes { Takes result limit (S.left source.old) (S.left source.new) }
     ensures counted { Counts (load_failed result) (S.faults source.old) (S.faults source.new) }
+    ensures once { S.faults source.new ≤ S.faults source.old + 1 }
 {
     let mut bytes = Vec::new(alloc);
     let mut filled = 0;
@@ -55,6 +56,7 @@ fn read_behind<S: Source>(source: &mut S, buffer: &mut [u8], filled: usize) -> R
     ensures moved { ReadMoves result (drop filled buffer.new)
         (S.left source.old) (S.left source.new) }
     ensures counted { Counts (read_failed result) (S.faults source.old) (S.faults source.new) }
+    ensures once { S.faults source.new ≤ S.faults source.old + 1 }
 {
     source.read(&mut buffer[filled..])
 }

@@ -1,10 +1,10 @@
 // A shelf of which listed calls fail.
-ghost use Rattle.std.specs.Prelude.{◌≡◌, ◌<◌, ◌&&◌, ◌||◌, ◌==◌, ◌-◌, ℕ, List, Option, length, IsTrue, IfOk, is_none, if◌then◌else◌, vec_len, option_copied};
+ghost use Rattle.std.specs.Prelude.{◌≡◌, ◌<◌, ◌≤◌, ◌&&◌, ◌||◌, ◌==◌, ◌+◌, ◌-◌, ℕ, List, Option, length, IsTrue, IfOk, is_none, if◌then◌else◌, vec_len, option_copied};
 ghost use Rattle.std.specs.List.{All};
 ghost use Rattle.ports.specs.Faults.{Rose, Counts};
 ghost use Rattle.ports.specs.Files.{Nothing, ForReading, is_reading, is_writing, is_some_open, name_of, left_of};
 ghost use Rattle.ports.specs.Answers.{open_failed, create_failed, close_failed, read_failed, write_failed, close_failed_reading, close_failed_writing};
-ghost use Rattle.ports.specs.Answers.{after_open, after_create, ReadMoves, CreateEmpties, WriteAppendsTo};
+ghost use Rattle.ports.specs.Answers.{after_open, after_create, LeavesRest, ReadMoves, CreateEmpties, WriteAppendsTo};
 ghost use Rattle.ports.specs.Memory.{empty_room, read_answer, write_answer};
 ghost use Rattle.ports.specs.Kinds.{is_due};
 ghost use Rattle.ports.specs.Lists.{look_up};
@@ -71,6 +71,7 @@ impl Faults {
 
     fn rise(&mut self, last: Last)
         ensures count { Rose self.old.count self.new.count }
+        ensures once { self.new.count ≤ self.old.count + 1 }
         ensures last { self.new.last ≡ last }
     {
         self.count = self.count.saturating_add(1);
@@ -92,6 +93,7 @@ impl Faults {
     fn close(&mut self, fails: bool, place: usize) -> Closing
         ensures answer { close_failed result ≡ fails }
         ensures count { Counts fails self.old.count self.new.count }
+        ensures once { self.new.count ≤ self.old.count + 1 }
         ensures last { self.new.last ≡ (if fails then Last.At place else self.old.last) }
     {
         if !fails {
@@ -124,6 +126,7 @@ pub struct MemShelf {
     calls: ShelfCalls,
     reads: Faults,
     writes: Faults,
+    opens: u64,
 }
 
 impl Model for MemShelf {
@@ -167,6 +170,7 @@ impl MemShelf {
             calls: ShelfCalls::of(fails),
             reads: Faults::none(),
             writes: Faults::none(),
+            opens: 0,
         })
     }
 
@@ -187,6 +191,13 @@ impl MemShelf {
         ensures { result ≡ length self.now.files }
     {
         self.files.len()
+    }
+
+    /// How many opens there were.
+    pub fn opens(&self) -> u64
+        ensures { result ≡ self.now.opens }
+    {
+        self.opens
     }
 
     /// How often an open, a read, or a close of what was opened failed.
@@ -236,6 +247,8 @@ impl Shelf for MemShelf {
 
     ghost opened = { λ s. s.opened };
 
+    ghost opens = { λ s. s.opens };
+
     ghost read_faults = { λ s. s.read_faults };
 
     ghost read_last = { λ s. s.read_last };
@@ -247,8 +260,10 @@ impl Shelf for MemShelf {
     fn open(&mut self, name: Name) -> Opening
         requires { self.old.opened ≡ Nothing }
         ensures opened { self.new.opened ≡ after_open result name (mem_content self.old) }
+        ensures opens { self.new.opens ≤ self.old.opens + 1 }
         ensures content { mem_content self.new ≡ mem_content self.old }
         ensures reads { ReadsCount (open_failed result) name self.old self.new }
+        ensures once { self.new.read_faults ≤ self.old.read_faults + 1 }
         ensures writes { SameWrites self.old self.new }
         ensures fails { open_failed result
             ≡ (is_due Kind.Open self.old.course || is_none (look_up self.old.files name)) }
@@ -256,6 +271,7 @@ impl Shelf for MemShelf {
         ensures blanks { self.new.blanks ≡ self.old.blanks }
     {
         let listed = self.calls.begin(Kind::Open);
+        self.opens = self.opens.saturating_add(1);
         match place_of(&self.files, &name) {
             Some(place) if !listed => {
                 self.open = Open::Reading(place);
@@ -274,11 +290,14 @@ impl Shelf for MemShelf {
         requires open { IsTrue (is_reading self.old.opened) }
         ensures moved { ReadMoves result buffer.new
             (left_of self.old.opened) (left_of self.new.opened) }
+        ensures rest { LeavesRest result buffer.old buffer.new }
         ensures opened { self.new.opened
             ≡ ForReading (name_of self.old.opened) (left_of self.new.opened) }
+        ensures opens { self.new.opens ≡ self.old.opens }
         ensures content { mem_content self.new ≡ mem_content self.old }
         ensures reads { ReadsCount (read_failed result) (name_of self.old.opened)
             self.old self.new }
+        ensures once { self.new.read_faults ≤ self.old.read_faults + 1 }
         ensures writes { SameWrites self.old self.new }
         ensures answer { result ≡ read_answer (is_due Kind.Read self.old.course)
             (readable_file self.old (length buffer.old)) }
@@ -301,8 +320,10 @@ impl Shelf for MemShelf {
     fn create(&mut self, name: Name) -> Creating
         requires { self.old.opened ≡ Nothing }
         ensures opened { self.new.opened ≡ after_create result name }
+        ensures opens { self.new.opens ≡ self.old.opens }
         ensures content { CreateEmpties result name (mem_content self.old) (mem_content self.new) }
         ensures writes { WritesCount (create_failed result) name self.old self.new }
+        ensures once { self.new.write_faults ≤ self.old.write_faults + 1 }
         ensures reads { SameReads self.old self.new }
         ensures fails { create_failed result
             ≡ (is_due Kind.Create self.old.course || (self.old.blanks == 0)) }
@@ -325,8 +346,10 @@ impl Shelf for MemShelf {
         ensures appended { WriteAppendsTo result (name_of self.old.opened) piece.now
             (mem_content self.old) (mem_content self.new) }
         ensures opened { self.new.opened ≡ self.old.opened }
+        ensures opens { self.new.opens ≡ self.old.opens }
         ensures writes { WritesCount (write_failed result) (name_of self.old.opened)
             self.old self.new }
+        ensures once { self.new.write_faults ≤ self.old.write_faults + 1 }
         ensures reads { SameReads self.old self.new }
         ensures answer { result ≡ write_answer (is_due Kind.Write self.old.course)
             (writable_file self.old (length piece.now)) }
@@ -352,12 +375,15 @@ impl Shelf for MemShelf {
 
     fn close(&mut self) -> Closing
         ensures opened { self.new.opened ≡ Nothing }
+        ensures opens { self.new.opens ≡ self.old.opens }
         ensures content { mem_content self.new ≡ mem_content self.old }
         ensures idle { self.old.opened ≡ Nothing → result ≡ Closing.Closed }
         ensures reads { ReadsCount (close_failed_reading result self.old.opened)
             (name_of self.old.opened) self.old self.new }
         ensures writes { WritesCount (close_failed_writing result self.old.opened)
             (name_of self.old.opened) self.old self.new }
+        ensures read_once { self.new.read_faults ≤ self.old.read_faults + 1 }
+        ensures write_once { self.new.write_faults ≤ self.old.write_faults + 1 }
         ensures fails { close_failed result
             ≡ (is_due Kind.Close self.old.course && is_some_open self.old.opened) }
         ensures goes { Goes Kind.Close self.old self.new }

@@ -1,7 +1,7 @@
 // A source and a sink of which listed calls fail.
-ghost use Rattle.std.specs.Prelude.{◌≡◌, ◌<◌, ◌≤◌, length, Some, IfOk};
+ghost use Rattle.std.specs.Prelude.{◌≡◌, ◌<◌, ◌≤◌, ◌+◌, length, Some, IfOk};
 ghost use Rattle.ports.specs.Faults.{Counts};
-ghost use Rattle.ports.specs.Answers.{read_failed, write_failed, ReadMoves, WriteAppends};
+ghost use Rattle.ports.specs.Answers.{read_failed, write_failed, LeavesRest, ReadMoves, WriteAppends};
 ghost use Rattle.ports.specs.Memory.{empty_room, new_course, is_listed, after_call, read_answer, write_answer, readable, writable};
 
 use crate::pieces::{Buffer, Calls, Rest, reading_of};
@@ -69,8 +69,10 @@ impl Source for MemSource {
         requires { 0 < length buffer.old }
         ensures moved { ReadMoves result buffer.new
             (Some self.old.left) (Some self.new.left) }
+        ensures rest { LeavesRest result buffer.old buffer.new }
         ensures counted { Counts (read_failed result)
             self.old.course.faults self.new.course.faults }
+        ensures once { self.new.course.faults ≤ self.old.course.faults + 1 }
         ensures answer { result ≡ read_answer (is_listed self.old.course)
             (readable self.old (length buffer.old)) }
         ensures course { self.new.course ≡ after_call self.old.course (read_failed result) }
@@ -161,6 +163,7 @@ impl Sink for MemSink {
         ensures room { Some self.new.store.room ≡ Some self.old.store.room }
         ensures counted { Counts (write_failed result)
             self.old.course.faults self.new.course.faults }
+        ensures once { self.new.course.faults ≤ self.old.course.faults + 1 }
         ensures answer { result ≡ write_answer (is_listed self.old.course)
             (writable self.old (length piece.now)) }
         ensures course { self.new.course ≡ after_call self.old.course (write_failed result) }

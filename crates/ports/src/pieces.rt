@@ -1,6 +1,6 @@
 // What the versions in memory are made of: bytes that are handed out, a buffer that never grows,
 // and the calls that fail.
-ghost use Rattle.std.specs.Prelude.{◌≡◌, ◌≤◌, ◌-◌, ◌++◌, [], length, min, take, drop, false, IfOk};
+ghost use Rattle.std.specs.Prelude.{◌≡◌, ◌≤◌, ◌+◌, ◌-◌, ◌++◌, [], length, min, take, drop, false, IfOk};
 ghost use Rattle.ports.specs.Faults.{Rose};
 ghost use Rattle.ports.specs.Memory.{empty_room, new_course, one_more, is_listed, after_call, room_left, read_answer};
 
@@ -14,6 +14,7 @@ pub(crate) fn copy_from(text: &[u8], at: usize, buffer: &mut [u8]) -> usize
     requires { at ≤ length text.now }
     ensures count { result ≡ min (length (drop at text.now)) (length buffer.new) }
     ensures copied { take result buffer.new ≡ take result (drop at text.now) }
+    ensures rest { drop result buffer.new ≡ drop result buffer.old }
 {
     let left = &text[at..];
     let count = left.len().min(buffer.len());
@@ -66,6 +67,7 @@ impl Rest {
     pub(crate) fn move_first(&mut self, buffer: &mut [u8]) -> usize
         ensures count { result ≡ min (length self.old) (length buffer.old) }
         ensures moved { self.old ≡ take result buffer.new ++ self.new }
+        ensures rest { drop result buffer.new ≡ drop result buffer.old }
     {
         let count = copy_from(&self.bytes, self.at, buffer);
         self.at += count;
@@ -178,6 +180,7 @@ impl Calls {
     pub(crate) fn fail(&mut self)
         ensures counted { self.new ≡ record self.old { faults = one_more self.old.faults } }
         ensures rose { Rose self.old.faults self.new.faults }
+        ensures once { self.new.faults ≤ self.old.faults + 1 }
     {
         self.faults = self.faults.saturating_add(1);
     }

@@ -1,5 +1,5 @@
 // A text that is written on a sink.
-ghost use Rattle.std.specs.Prelude.{◌≡◌};
+ghost use Rattle.std.specs.Prelude.{◌≡◌, ◌≤◌, ◌+◌};
 ghost use Rattle.ports.specs.Faults.{Counts};
 ghost use Rattle.ports.specs.Whole.{put_failed, Puts};
 
@@ -19,6 +19,7 @@ pub fn put_all<O: Sink>(sink: &mut O, bytes: &[u8]) -> Putting
     ensures puts { Puts result bytes.now (O.held sink.old) (O.held sink.new) }
     ensures room { O.room sink.new ≡ O.room sink.old }
     ensures counted { Counts (put_failed result) (O.faults sink.old) (O.faults sink.new) }
+    ensures once { O.faults sink.new ≤ O.faults sink.old + 1 }
 {
     let mut done = 0;
     while done < bytes.len() {

@@ -1,5 +1,5 @@
 // Where bytes go.
-ghost use Rattle.std.specs.Prelude.{◌≡◌, ℕ, List, Option, length, ◌<◌};
+ghost use Rattle.std.specs.Prelude.{◌≡◌, ℕ, List, Option, length, ◌<◌, ◌≤◌, ◌+◌};
 ghost use Rattle.ports.specs.Faults.{Counts};
 ghost use Rattle.ports.specs.Answers.{write_failed, WriteAppends};
 
@@ -28,5 +28,6 @@ pub trait Sink {
         requires { 0 < length piece.now }
         ensures appended { WriteAppends result piece.now (held self.old) (held self.new) }
         ensures room { room self.new ≡ room self.old }
-        ensures counted { Counts (write_failed result) (faults self.old) (faults self.new) };
+        ensures counted { Counts (write_failed result) (faults self.old) (faults self.new) }
+        ensures once { faults self.new ≤ faults self.old + 1 };
 }

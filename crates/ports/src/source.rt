@@ -1,7 +1,7 @@
 // Where bytes come from.
-ghost use Rattle.std.specs.Prelude.{ℕ, List, Option, length, ◌<◌};
+ghost use Rattle.std.specs.Prelude.{ℕ, List, Option, length, ◌<◌, ◌≤◌, ◌+◌, IfSome};
 ghost use Rattle.ports.specs.Faults.{Counts};
-ghost use Rattle.ports.specs.Answers.{read_failed, ReadMoves};
+ghost use Rattle.ports.specs.Answers.{read_failed, LeavesRest, ReadMoves};
 
 /// What a read answers.
 #[derive(Clone, Copy, Debug, PartialEq, Eq)]
@@ -23,8 +23,11 @@ pub trait Source {
     ghost faults: { Self → ℕ };
 
     /// Moves first bytes of those that are left into the front of the buffer, as many as it likes.
+    /// A type that tells its bytes leaves the rest of the buffer as it was.
     fn read(&mut self, buffer: &mut [u8]) -> Reading
         requires { 0 < length buffer.old }
         ensures moved { ReadMoves result buffer.new (left self.old) (left self.new) }
-        ensures counted { Counts (read_failed result) (faults self.old) (faults self.new) };
+        ensures rest { IfSome (left self.old) (λ _. LeavesRest result buffer.old buffer.new) }
+        ensures counted { Counts (read_failed result) (faults self.old) (faults self.new) }
+        ensures once { faults self.new ≤ faults self.old + 1 };
 }

@@ -1,7 +1,7 @@
 // A source that never fails, and a sink that fails only where it is full.
-ghost use Rattle.std.specs.Prelude.{◌≡◌, ◌<◌, ◌≤◌, length, min, false, Some, IfOk};
+ghost use Rattle.std.specs.Prelude.{◌≡◌, ◌<◌, ◌≤◌, ◌+◌, length, min, false, Some, IfOk};
 ghost use Rattle.ports.specs.Faults.{Counts};
-ghost use Rattle.ports.specs.Answers.{read_failed, write_failed, ReadMoves, WriteAppends};
+ghost use Rattle.ports.specs.Answers.{read_failed, write_failed, LeavesRest, ReadMoves, WriteAppends};
 ghost use Rattle.ports.specs.Memory.{empty_room, room_left, read_answer, write_answer};
 
 use crate::pieces::{Buffer, Rest, reading_of};
@@ -50,7 +50,9 @@ impl Source for SureSource {
     fn read(&mut self, buffer: &mut [u8]) -> Reading
         requires { 0 < length buffer.old }
         ensures moved { ReadMoves result buffer.new (Some self.old) (Some self.new) }
+        ensures rest { LeavesRest result buffer.old buffer.new }
         ensures counted { Counts (read_failed result) 0 0 }
+        ensures once { 0 ≤ 0 + 1 }
         ensures answer { result
             ≡ read_answer false (min (length self.old) (length buffer.old)) }
     {
@@ -121,6 +123,7 @@ impl Sink for SureSink {
             (Some self.old.store.held) (Some self.new.store.held) }
         ensures room { Some self.new.store.room ≡ Some self.old.store.room }
         ensures counted { Counts (write_failed result) self.old.faults self.new.faults }
+        ensures once { self.new.faults ≤ self.old.faults + 1 }
         ensures answer { result
             ≡ write_answer false (min (length piece.now) (room_left self.old.store)) }
     {

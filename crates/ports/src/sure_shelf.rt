@@ -1,5 +1,5 @@
 // A shelf that never fails at a read.
-ghost use Rattle.std.specs.Prelude.{◌≡◌, None};
+ghost use Rattle.std.specs.Prelude.{◌≡◌, ◌≤◌, ◌+◌, None};
 ghost use Rattle.ports.specs.Faults.{SameFaults};
 ghost use Rattle.ports.specs.Files.{Nothing};
 ghost use Rattle.ports.specs.Answers.{create_failed, after_create, CreateEmpties};
@@ -22,6 +22,7 @@ pub struct SureShelf {
     // The name of the file that is open, and how many of its bytes were read.
     open: Option<Name>,
     at: usize,
+    opens: u64,
     write_faults: u64,
     write_last: Option<Name>,
 }
@@ -44,6 +45,7 @@ impl SureShelf {
         ensures { result ≡ record {
           files = files.items;
           opened = Nothing;
+          opens = 0;
           write_faults = 0;
           write_last = None;
         } }
@@ -51,6 +53,7 @@ impl SureShelf {
         SureShelf {
             files,
             open: None,
+            opens: 0,
             at: 0,
             write_faults: 0,
             write_last: None,
@@ -63,6 +66,8 @@ impl Shelf for SureShelf {
 
     ghost opened = { λ s. s.opened };
 
+    ghost opens = { λ s. s.opens };
+
     ghost read_faults = { λ _. 0 };
 
     ghost read_last = { λ _. None };
@@ -74,6 +79,7 @@ impl Shelf for SureShelf {
     fn open(&mut self, name: Name) -> Opening {
         self.open = Some(name);
         self.at = 0;
+        self.opens = self.opens.saturating_add(1);
         Opening::Opened
     }
 
@@ -89,9 +95,11 @@ impl Shelf for SureShelf {
     fn create(&mut self, name: Name) -> Creating
         requires { self.old.opened ≡ Nothing }
         ensures opened { self.new.opened ≡ after_create result name }
+        ensures opens { self.new.opens ≡ self.old.opens }
         ensures content { CreateEmpties result name
             (sure_content self.old) (sure_content self.new) }
         ensures writes { SureWritesCount (create_failed result) name self.old self.new }
+        ensures once { self.new.write_faults ≤ self.old.write_faults + 1 }
         ensures reads { SameFaults (λ (shelf : SureFiles). 0) (λ (shelf : SureFiles). None)
             self.old self.new }
         ensures fails { result ≡ Creating.Failed }

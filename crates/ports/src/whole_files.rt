@@ -1,5 +1,5 @@
 // Files of a shelf that are read and written whole.
-ghost use Rattle.std.specs.Prelude.{◌≡◌, ◌<◌, IfSome, IsTrue, length, take, drop};
+ghost use Rattle.std.specs.Prelude.{◌≡◌, ◌<◌, ◌≤◌, ◌+◌, IfSome, IsTrue, length, take, drop};
 ghost use Rattle.ports.specs.Faults.{CountsAt, SameFaults};
 ghost use Rattle.ports.specs.Files.{Nothing, ForReading, is_reading, is_writing, name_of, left_of, bytes_of, OthersKept};
 ghost use Rattle.ports.specs.Answers.{read_failed, ReadMoves};
@@ -19,7 +19,7 @@ pub enum Storing {
     Failed,
 }
 
-/// Reads a whole file, if it is no more than the limit. The files stay as they were, whatever the
+/// Reads a whole file, if it is no more than the limit, which opens it once. The files stay as they were, whatever the
 /// answer.
 pub fn load_file<H: Shelf>(alloc: Global, shelf: &mut H, name: Name, limit: u64) -> Loading
     requires { H.opened shelf.old ≡ Nothing }
@@ -30,6 +30,7 @@ pub fn load_file<H: Shelf>(alloc: Global, shelf: &mut H, name: Name, limit: u64)
     ensures closed { H.opened shelf.new ≡ Nothing }
     ensures reads { CountsAt (load_failed result) name
         H.read_faults H.read_last shelf.old shelf.new }
+    ensures opens { H.opens shelf.new ≤ H.opens shelf.old + 1 }
     ensures writes { SameFaults H.write_faults H.write_last shelf.old shelf.new }
 {
     match shelf.open(name) {
@@ -51,6 +52,7 @@ fn load_opened<H: Shelf>(alloc: Global, shelf: &mut H, limit: u64) -> Loading
     ensures within { IsWithin result limit }
     ensures opened { H.opened shelf.new
         ≡ ForReading (name_of (H.opened shelf.old)) (left_of (H.opened shelf.new)) }
+    ensures opens { H.opens shelf.new ≡ H.opens shelf.old }
     ensures content { H.content shelf.new ≡ H.content shelf.old }
     ensures reads { CountsAt (load_failed result) (name_of (H.opened shelf.old))
         H.read_faults H.read_last shelf.old shelf.new }
@@ -83,6 +85,7 @@ fn read_file_behind<H: Shelf>(shelf: &mut H, buffer: &mut [u8], filled: usize) -
         (left_of (H.opened shelf.old)) (left_of (H.opened shelf.new)) }
     ensures opened { H.opened shelf.new
         ≡ ForReading (name_of (H.opened shelf.old)) (left_of (H.opened shelf.new)) }
+    ensures opens { H.opens shelf.new ≡ H.opens shelf.old }
     ensures content { H.content shelf.new ≡ H.content shelf.old }
     ensures reads { CountsAt (read_failed result) (name_of (H.opened shelf.old))
         H.read_faults H.read_last shelf.old shelf.new }
@@ -97,6 +100,7 @@ pub fn store_file<H: Shelf>(shelf: &mut H, name: Name, bytes: &[u8]) -> Storing
     requires { H.opened shelf.old ≡ Nothing }
     ensures stores { Stores result name bytes.now (H.content shelf.old) (H.content shelf.new) }
     ensures others { OthersKept name (H.content shelf.old) (H.content shelf.new) }
+    ensures opens { H.opens shelf.new ≡ H.opens shelf.old }
     ensures closed { H.opened shelf.new ≡ Nothing }
     ensures writes { CountsAt (store_failed result) name
         H.write_faults H.write_last shelf.old shelf.new }
@@ -120,6 +124,7 @@ fn write_whole<H: Shelf>(shelf: &mut H, bytes: &[u8]) -> Storing
     ensures appended { AppendsTo result (name_of (H.opened shelf.old)) bytes.now
         (H.content shelf.old) (H.content shelf.new) }
     ensures opened { H.opened shelf.new ≡ H.opened shelf.old }
+    ensures opens { H.opens shelf.new ≡ H.opens shelf.old }
     ensures writes { CountsAt (store_failed result) (name_of (H.opened shelf.old))
         H.write_faults H.write_last shelf.old shelf.new }
     ensures reads { SameFaults H.read_faults H.read_last shelf.old shelf.new }

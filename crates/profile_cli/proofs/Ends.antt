@@ -321,9 +321,9 @@ module _ (words : List Text) (request : Request) (limits : Limits) (content : Op
 
     -- ---- nothing failed
     module _ {I : Type 0} (files : Files) (bytes : List ℕ) (told : content ≡ Some files) (given : IsInput task.reads_input input bytes) (read_faults : S → ℕ) (read_last : S → Option (List ℕ))
-        (from from' : I) (left left' : Option (List ℕ)) (count count' : ℕ) where
+        (from from' : I) (left left' : Option (List ℕ)) (count count' opens opens' : ℕ) where
       abbrev Faulted : Outcome → Type 0
-      Faulted o = IfReadFault o (λ file. IsFileFault limits content task file read_faults read_last old new from from'
+      Faulted o = IfReadFault o (λ file. IsFileFault limits content task file read_faults read_last old new from from' opens opens'
           ⊎ (AreAccepted limits content task.reads read_faults read_last old new × IsInputFault limits task.reads_input file left left' count count'))
 
       abbrev NoFileFault : Type 0
@@ -336,7 +336,7 @@ module _ (words : List Text) (request : Request) (limits : Limits) (content : Op
           at true g k = subst (λ i. IfSome i (P files)) g k
           at false g k = subst (P files) (sym g) k
 
-      no_file : (file : List ℕ) → NoFileFault → IsFileFault limits content task file read_faults read_last old new from from' → ⊥
+      no_file : (file : List ℕ) → NoFileFault → IsFileFault limits content task file read_faults read_last old new from from' opens opens' → ⊥
       no_file file shelf x = shelf x.reached.place x.reached.within (record { count = x.shelf.count; name_is = x.shelf.name_is ∙ ap (λ (name : List ℕ). Some name) (sym x.reached.name) })
 
       pub complete : (o : Outcome) → Ran o → Faulted o → refusal task limits files bytes ≡ None → NoFileFault → (task.reads_input ≡ true → Rose count count' → ⊥)

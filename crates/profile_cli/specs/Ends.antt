@@ -124,16 +124,18 @@ EndsWith (ReadFault file) wanted line before now faults faults' = (ReadFault fil
 EndsWith WriteFault wanted line before now faults faults' = (WriteFault ≡ wanted) × IsPut line before now faults faults'
 
 -- ---- where a run ends before it writes
--- This file is one of those that are read, and no file before it is refused.
-pub record IsReached (limits : Limits) (content : Option Files) (names : List (List ℕ)) (file : List ℕ) : Type 0 where
+-- This file is one of those that are read, no file before it is refused, and none behind it was opened: so many files were opened at most as there are
+-- up to it.
+pub record IsReached (limits : Limits) (content : Option Files) (names : List (List ℕ)) (file : List ℕ) (opens opens' : ℕ) : Type 0 where
   pub place : ℕ
   pub within : place < length names
   pub name : slice_index_or names place [] ≡ file
   pub accepted : IfSome content (λ files. first_refusal limits files (take place names) ≡ None)
+  pub opened : opens' ≤ opens + (place + 1)
 
 -- This file is the first that a rule refuses, and the input was left as it was.
-pub record IsFileRefusal {I : Type 0} (limits : Limits) (content : Option Files) (task : Task) (file : List ℕ) (rec : ℕ) (why : Why) (input input' : I) : Type 0 where
-  pub reached : IsReached limits content task.reads file
+pub record IsFileRefusal {I : Type 0} (limits : Limits) (content : Option Files) (task : Task) (file : List ℕ) (rec : ℕ) (why : Why) (input input' : I) (opens opens' : ℕ) : Type 0 where
+  pub reached : IsReached limits content task.reads file opens opens'
   pub refused : IfSome content (λ files. refused_file limits (bytes_of files file) ≡ Some (rec, why))
   pub unread : input' ≡ input
 
@@ -148,8 +150,8 @@ pub record IsInputRefusal (limits : Limits) (reads : Bool) (file : List ℕ) (re
   pub moved : Moves left left' came
 
 -- A call on this file failed, and no file before it is refused. The input was left as it was.
-pub record IsFileFault {S I : Type 0} (limits : Limits) (content : Option Files) (task : Task) (file : List ℕ) (faults : S → ℕ) (last : S → Option (List ℕ)) (old new : S) (input input' : I) : Type 0 where
-  pub reached : IsReached limits content task.reads file
+pub record IsFileFault {S I : Type 0} (limits : Limits) (content : Option Files) (task : Task) (file : List ℕ) (faults : S → ℕ) (last : S → Option (List ℕ)) (old new : S) (input input' : I) (opens opens' : ℕ) : Type 0 where
+  pub reached : IsReached limits content task.reads file opens opens'
   pub shelf : RoseAt file faults last old new
   pub unread : input' ≡ input
 

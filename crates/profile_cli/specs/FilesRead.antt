@@ -1,5 +1,5 @@
 -- What reading files comes to.
-use Rattle.std.specs.Prelude.{◌≡◌, ◌<◌, ℕ, Bool, true, false, List, [], length, take, slice_index_or, Some, None, ⊤}
+use Rattle.std.specs.Prelude.{◌≡◌, ◌<◌, ◌+◌, ℕ, Bool, true, false, List, [], length, take, slice_index_or, Some, None, ⊤}
 use Rattle.rel_base.specs.declared.limits.Limits.{Limits}
 use Rattle.ports.specs.Files.{Files, bytes_of}
 use Rattle.csv_load.specs.Refusal.{refused_file}
@@ -42,6 +42,13 @@ IsOfFiles (files.Read relations) names = length relations.items ≡ length names
 IsOfFiles (files.Refused place rec why) names = place < length names
 IsOfFiles (files.Fault place) names = place < length names
 IsOfFiles files.NoMemory names = ⊤
+
+-- of so many files, how many are opened at most: those up to the one that is named, and all where none is
+abbrev pub most_opened : FilesRead → ℕ → ℕ
+most_opened (files.Read relations) count = count
+most_opened (files.Refused place rec why) count = place + 1
+most_opened (files.Fault place) count = place + 1
+most_opened files.NoMemory count = count
 
 -- what is known of the files
 abbrev pub UnderstandsAll : FilesRead → Limits → List (List ℕ) → Files → Type 0

@@ -1,5 +1,5 @@
 -- What each command does. A further command is one more case of `task_of`.
-use Rattle.std.specs.Prelude.{◌≤◌, ℕ, Bool, true, false, List, [], ◌∷◌, map}
+use Rattle.std.specs.Prelude.{◌≤◌, ℕ, Bool, true, false, List, [], ◌∷◌, length, map, Option, Some, None}
 use Rattle.rel_base.specs.declared.limits.Limits.{Limits}
 use Rattle.rel_base.specs.declared.nulls.Nulls.TheVariants.{Equal}
 use Rattle.rel_base.specs.Relation.{Content}
@@ -52,6 +52,11 @@ task_of (Demo workers seed) = record {
   writes_files = false;
   writes = λ limits relations input. text_alone (demo_text seed (opened Equal limits.rows (demo_content seed)));
 }
+
+-- how many files words that are this command, or none, have read
+abbrev pub files_read : Option Request → ℕ
+files_read None = 0
+files_read (Some request) = length (task_of request).reads
 
 -- there is a worker, and there are no more than 16
 pub record HasWorkers (task : Task) : Type 0 where

@@ -89,6 +89,7 @@ pub(crate) fn answer<R: Threads + Sync, H: Shelf, I: Source, O: Sink>(
     ensures room { O.room out.new ≡ O.room out.old }
     ensures closed { H.opened shelf.new ≡ Nothing }
     ensures reads { SameFaults H.read_faults H.read_last shelf.old shelf.new }
+    ensures opens { H.opens shelf.new ≡ H.opens shelf.old }
 {
     if !request.reads_input() {
         let made = made_of(rt, alloc, request, *limits, relations, &[]);

@@ -1,9 +1,9 @@
 // Files read, one after another, before anything is computed.
-ghost use Rattle.std.specs.Prelude.{◌≡◌, ℕ, List, IfSome};
+ghost use Rattle.std.specs.Prelude.{◌≡◌, ◌≤◌, ◌+◌, ℕ, List, length, IfSome};
 ghost use Rattle.ports.specs.Faults.{CountsAt, SameFaults};
 ghost use Rattle.ports.specs.Files.{Nothing, bytes_of};
 ghost use Rattle.ports.specs.Whole.{Loads, load_failed};
-ghost use Rattle.profile_cli.specs.FilesRead.{faulted, Understands, any_faulted, fault_name, IsOfFiles, UnderstandsAll};
+ghost use Rattle.profile_cli.specs.FilesRead.{faulted, Understands, any_faulted, fault_name, most_opened, IsOfFiles, UnderstandsAll};
 
 use csv_load::{Reading, read_relation};
 use ports::{Loading, Shelf, load_file};
@@ -65,6 +65,7 @@ pub(crate) fn read_file<H: Shelf>(
     ensures content { H.content shelf.new ≡ H.content shelf.old }
     ensures closed { H.opened shelf.new ≡ Nothing }
     ensures reads { CountsAt (faulted result) name.now H.read_faults H.read_last shelf.old shelf.new }
+    ensures opens { H.opens shelf.new ≤ H.opens shelf.old + 1 }
     ensures writes { SameFaults H.write_faults H.write_last shelf.old shelf.new }
 {
     match name.clone() {
@@ -73,7 +74,7 @@ pub(crate) fn read_file<H: Shelf>(
     }
 }
 
-/// Reads these files in order, up to the first that is refused or fails.
+/// Reads these files in order, up to the first that is refused or fails. None behind it is opened.
 pub(crate) fn read_files<H: Shelf>(
     alloc: Global,
     shelf: &mut H,
@@ -86,6 +87,7 @@ pub(crate) fn read_files<H: Shelf>(
     ensures content { H.content shelf.new ≡ H.content shelf.old }
     ensures closed { H.opened shelf.new ≡ Nothing }
     ensures reads { CountsAt (any_faulted result) (fault_name result names.now) H.read_faults H.read_last shelf.old shelf.new }
+    ensures opens { H.opens shelf.new ≤ H.opens shelf.old + most_opened result (length names.now) }
     ensures writes { SameFaults H.write_faults H.write_last shelf.old shelf.new }
 {
     let mut relations = Vec::new(alloc);

@@ -13,10 +13,14 @@ mod words;
 use crate::{Outcome, run};
 use ports::{Kind, MemShelf, MemSink, MemSource, OpenGate, Text};
 use rel_base::{Limits, Name};
+use reports::{FILES_IN_ORDER, ONE_FILE};
+use sessions::{BATCHES, REPORTS};
 use std::alloc::{AllocError, Global};
 use std::process::Abort;
 use std::sync::Wait;
+use std::test::Fail;
 use std::thread::Threads;
+use tables::NORMALIZED;
 
 pub const R: &str = "id,city,zip\n1,Berlin,10115\n2,Berlin,10115\n3,Potsdam,14467\n";
 
@@ -25,30 +29,33 @@ pub const R_REPORT: &str =
 
 // A run, and what it is to write: a text, in pieces, the files that it makes, and the status.
 #[derive(Clone, Copy)]
-pub struct Case {
-    words: &'static [&'static str],
-    files: &'static [(&'static str, &'static str)],
-    input: &'static str,
-    text: &'static [&'static str],
-    tables: &'static [(&'static str, &'static str)],
+pub struct Case<'a> {
+    words: &'a [&'a str],
+    files: &'a [(&'a str, &'a str)],
+    input: &'a str,
+    text: &'a [&'a str],
+    tables: &'a [(&'a str, &'a str)],
     status: u8,
 }
 
-// The call that fails, by its number among those of its kind, and the most bytes that a call moves.
+// The call that fails, by its number among those of its kind, which is 0 where none does, the most bytes that a call moves, and the room that each file
+// and the text have.
 #[derive(Clone, Copy)]
 pub struct Outside {
-    call: Option<(Kind, u64)>,
-    read: Option<u64>,
-    write: Option<u64>,
+    call: (Kind, u64),
+    read: u64,
+    write: u64,
     largest: usize,
+    room: usize,
 }
 
 // Nothing fails, and a call moves all that there is.
 pub const SURE: Outside = Outside {
-    call: None,
-    read: None,
-    write: None,
+    call: (Kind::Open, 0),
+    read: 0,
+    write: 0,
     largest: usize::MAX,
+    room: 10_000,
 };
 
 // What a run came to.
@@ -57,6 +64,15 @@ pub struct Ran {
     outcome: Outcome,
     text: Vec<u8>,
     shelf: MemShelf,
+}
+
+// How much is there of what is wanted.
+#[derive(Clone, Copy, PartialEq, Eq)]
+pub enum Extent {
+    Whole,
+    // Some first bytes, and nothing else.
+    First,
+    Other,
 }
 
 // A text for each of these.
@@ -68,57 +84,41 @@ fn words_of(alloc: Global, words: &[&str]) -> Result<Vec<String>, AllocError> {
     Ok(own)
 }
 
-fn file_of(alloc: Global, name: &str, bytes: &[u8]) -> Result<(Name, Text), AllocError> {
-    let name = Name::of(String::from_str(alloc, name)?);
-    let text = Text::of(Vec::from_slice(alloc, bytes)?);
-    Ok((name, text))
-}
-
-// The one number, if there is one.
-fn numbers_of(alloc: Global, number: Option<u64>) -> Result<Vec<u64>, AllocError> {
-    let mut numbers = Vec::new(alloc);
-    if let Some(number) = number {
-        numbers.push(number)?;
-    }
-    Ok(numbers)
-}
-
-// A shelf with these files, and with room for four more.
+// A shelf with these files, and with room for twelve more.
 fn shelf_of(
     alloc: Global,
     files: &[(&str, &str)],
-    call: Option<(Kind, u64)>,
-    largest: usize,
+    outside: &Outside,
 ) -> Result<MemShelf, AllocError>
-    requires { 0 < largest }
+    requires { 0 < outside.now.largest }
     ensures { IfOk result (λ shelf. shelf.opened ≡ Nothing) }
 {
     let mut held = Vec::new(alloc);
     for (name, text) in files {
-        held.push(file_of(alloc, name, text.as_bytes())?)?;
+        let name = Name::of(String::from_str(alloc, name)?);
+        let text = Text::of(Vec::from_slice(alloc, text.as_bytes())?);
+        held.push((name, text))?;
     }
-    let mut fails = Vec::new(alloc);
-    if let Some(call) = call {
-        fails.push(call)?;
-    }
-    MemShelf::with(alloc, held, 4, 1_000, fails, largest)
+    let fails = vec![in alloc; outside.call]?;
+    MemShelf::with(alloc, held, 12, outside.room, fails, outside.largest)
 }
 
 // A run, what it came to, and what it wrote.
 fn run_of<R: Threads + Wait + Sync>(
     rt: &R,
     alloc: Global,
-    case: &Case,
+    case: &Case<'_>,
     outside: &Outside,
     limits: Limits,
 ) -> Result<Ran, AllocError>
     requires { 0 < outside.now.largest }
 {
     let largest = outside.largest;
-    let mut shelf = shelf_of(alloc, case.files, outside.call, largest)?;
+    let mut shelf = shelf_of(alloc, case.files, outside)?;
     let bytes = Vec::from_slice(alloc, case.input.as_bytes())?;
-    let mut input = MemSource::of(bytes, numbers_of(alloc, outside.read)?, largest);
-    let mut out = MemSink::with_room(alloc, 1_000_000, numbers_of(alloc, outside.write)?, largest)?;
+    let mut input = MemSource::of(bytes, vec![in alloc; outside.read]?, largest);
+    let fails = vec![in alloc; outside.write]?;
+    let mut out = MemSink::with_room(alloc, outside.room, fails, largest)?;
     let words = words_of(alloc, case.words)?;
     let outcome = run(
         rt, alloc, words, &mut shelf, &mut input, &mut out, &OpenGate, limits,
@@ -131,75 +131,73 @@ fn run_of<R: Threads + Wait + Sync>(
     })
 }
 
-// How much of the text is left behind these pieces, or `None` where it begins otherwise.
-fn behind<'a>(text: &'a [u8], pieces: &[&str]) -> Option<&'a [u8]> {
+// How much of these pieces, one after another, the text is.
+fn extent_of(text: &[u8], pieces: &[&str]) -> Extent {
     let mut rest = text;
     for piece in pieces {
-        rest = rest.strip_prefix(piece.as_bytes())?;
-    }
-    Some(rest)
-}
-
-// Whether the text is these pieces one after another.
-fn is_joined(text: &[u8], pieces: &[&str]) -> bool {
-    match behind(text, pieces) {
-        Some(rest) => rest.is_empty(),
-        None => false,
-    }
-}
-
-// What a file of this name holds.
-fn held<'a>(
-    alloc: Global,
-    shelf: &'a MemShelf,
-    name: &str,
-) -> Result<Option<&'a [u8]>, AllocError> {
-    let name = Name::of(String::from_str(alloc, name)?);
-    Ok(shelf.file(&name))
-}
-
-// Whether the files are there, each whole.
-fn are_whole(alloc: Global, shelf: &MemShelf, tables: &[(&str, &str)]) -> Result<bool, AllocError> {
-    for (name, text) in tables {
-        match held(alloc, shelf, name)? {
-            Some(bytes) if bytes == text.as_bytes() => {}
-            _ => return Ok(false),
+        match rest.strip_prefix(piece.as_bytes()) {
+            Some(after) => rest = after,
+            None if piece.as_bytes().starts_with(rest) => return Extent::First,
+            None => return Extent::Other,
         }
     }
-    Ok(true)
+    if rest.is_empty() {
+        Extent::Whole
+    } else {
+        Extent::Other
+    }
+}
+
+// How much of these files is there: all of them whole, or the first ones whole, then one with some first bytes or none, and none behind it.
+fn extent_on(
+    alloc: Global,
+    shelf: &MemShelf,
+    files: &[(&str, &str)],
+) -> Result<Extent, AllocError> {
+    let mut extent = Extent::Whole;
+    for (name, text) in files {
+        let name = Name::of(String::from_str(alloc, name)?);
+        extent = match (extent, shelf.file(&name)) {
+            (Extent::Whole, Some(bytes)) => extent_of(bytes, &[*text]),
+            (Extent::Whole | Extent::First, None) => Extent::First,
+            _ => Extent::Other,
+        };
+    }
+    Ok(extent)
 }
 
 // Whether a run wrote all that it is to.
-fn is_whole(alloc: Global, case: &Case, done: &Ran) -> Result<bool, AllocError> {
-    let status = done.outcome.status() == case.status;
-    Ok(status && is_joined(&done.text, case.text) && are_whole(alloc, &done.shelf, case.tables)?)
+fn is_whole(alloc: Global, case: &Case<'_>, done: &Ran) -> Result<bool, AllocError> {
+    Ok(done.outcome.status() == case.status
+        && extent_of(&done.text, case.text) == Extent::Whole
+        && extent_on(alloc, &done.shelf, case.tables)? == Extent::Whole)
 }
 
 // Asserts that a run writes what it is to.
 fn expect<R: Threads + Wait + Sync + Abort>(
     rt: &R,
     alloc: Global,
-    case: &Case,
+    case: &Case<'_>,
     limits: Limits,
 ) -> Result<(), AllocError> {
     let done = run_of(rt, alloc, case, &SURE, limits)?;
-    assert!(rt;
-        is_whole(alloc, case, &done)?,
-        "{:?} {}",
-        case.words,
-        case.input
-    );
+    let whole = is_whole(alloc, case, &done)?;
+    assert!(rt; whole, "{:?} {}", case.words, case.input);
     Ok(())
 }
 
-// Asserts it of each of these runs.
-fn expect_all<R: Threads + Wait + Sync + Abort>(
-    rt: &R,
-    alloc: Global,
-    cases: &[Case],
-) -> Result<(), AllocError> {
-    for case in cases {
-        expect(rt, alloc, case, Limits::standard())?;
+#[test]
+fn runs_write_what_they_are_to(rt: HostRuntime) -> Result<(), Fail> {
+    for cases in [
+        &ONE_FILE[..],
+        &FILES_IN_ORDER[..],
+        &BATCHES[..],
+        &REPORTS[..],
+        &NORMALIZED[..],
+    ] {
+        for case in cases {
+            expect(&rt, rt.alloc(), case, Limits::standard())?;
+        }
     }
     Ok(())
 }

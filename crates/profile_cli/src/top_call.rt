@@ -1,5 +1,5 @@
 // The top call.
-ghost use Rattle.std.specs.Prelude.{◌≡◌, ◌⊎◌, ◌<◌, ℕ, List, Some, None, true, false, [], length, slice_index_or, IsSomeAnd, IfSome};
+ghost use Rattle.std.specs.Prelude.{◌≡◌, ◌⊎◌, ◌<◌, ◌≤◌, ◌+◌, ℕ, List, Some, None, true, false, [], length, slice_index_or, IsSomeAnd, IfSome};
 ghost use Rattle.ports.specs.Faults.{SameFaults, Rose, RoseAt};
 ghost use Rattle.ports.specs.Files.{Nothing, Files};
 ghost use Rattle.ports.specs.Lists.{file_at};
@@ -11,7 +11,7 @@ ghost use Rattle.profile_cli.specs.Contents.{first_refusal};
 ghost use Rattle.profile_cli.specs.Ends.{IsFileFault, IsFileRefusal, IsInput, IsInputFault, IsInputRefusal, AreAccepted, IsPut, IsReadThrough, IsUnwritten, IsWhole, OnSources, OnTold, Runs, StopsAtFile, StopsAtSink};
 ghost use Rattle.profile_cli.specs.Outcomes.{OnDone, OnUsage, IfRefused, IfReadFault, OnWriteFault, OnNoMemory, UnlessFaulted, UnlessWritten, IsDoneOrNoMemory, IsUsageOrNoMemory, IsRefusedOrNoMemory};
 ghost use Rattle.profile_cli.specs.Output.{output, refusal};
-ghost use Rattle.profile_cli.specs.Task.{task_of};
+ghost use Rattle.profile_cli.specs.Task.{files_read, task_of};
 ghost use Rattle.profile_cli.specs.Usage.{usage_text};
 ghost use Rattle.profile_cli.specs.declared.request.Request.{Request};
 
@@ -71,12 +71,12 @@ pub fn run<R: Threads + Wait + Sync, H: Shelf, I: Source, O: Sink, G: Gate + Syn
 
     ensures no_command { words_of.command (texts words.items) ≡ None → IsUsageOrNoMemory result }
 
-    // This file, or the input, is the first that the rules refuse, and nothing behind it was read; where one is refused and no call that reads failed, nothing else is answered, unless memory ran out.
+    // This file, or the input, is the first that the rules refuse, and nothing behind it was opened or read; where one is refused and no call that reads failed, nothing else is answered, unless memory ran out.
     ensures refused { IfRefused result (λ file rec why. IsSomeAnd (words_of.command (texts words.items)) (λ request. OnSources (task_of request) (H.content shelf.old) (I.left input.old) (λ files bytes.
         refusal (task_of request) limits files bytes ≡ Some (file, rec, why)))) }
     ensures refused_line { IfRefused result (λ file rec why. IsPut (file_line file rec why) (O.held out.old) (O.held out.new) (O.faults out.old) (O.faults out.new)) }
     ensures refused_at { IfRefused result (λ file rec why. IsSomeAnd (words_of.command (texts words.items)) (λ request.
-        IsFileRefusal limits (H.content shelf.old) (task_of request) file rec why input.old input.new
+        IsFileRefusal limits (H.content shelf.old) (task_of request) file rec why input.old input.new (H.opens shelf.old) (H.opens shelf.new)
         ⊎ (AreAccepted limits (H.content shelf.old) (task_of request).reads H.read_faults H.read_last shelf.old shelf.new
         × IsInputRefusal limits (task_of request).reads_input file rec why (I.left input.old) (I.left input.new)))) }
     ensures not_accepted { (request : Request) (files : Files) (bytes file : List ℕ) (rec : ℕ) (why : Why) → words_of.command (texts words.items) ≡ Some request → H.content shelf.old ≡ Some files
@@ -85,9 +85,9 @@ pub fn run<R: Threads + Wait + Sync, H: Shelf, I: Source, O: Sink, G: Gate + Syn
         → (first_refusal limits files (task_of request).reads ≡ None → Rose (I.faults input.old) (I.faults input.new) → ⊥)
         → IsRefusedOrNoMemory result }
 
-    // A call on this file failed, and no file before it is refused, or a call on the input failed, and no file is refused. Nothing behind it was read.
+    // A call on this file failed, and no file before it is refused, or a call on the input failed, and no file is refused. Nothing behind it was opened or read.
     ensures read_fault { IfReadFault result (λ file. IsSomeAnd (words_of.command (texts words.items)) (λ request.
-        IsFileFault limits (H.content shelf.old) (task_of request) file H.read_faults H.read_last shelf.old shelf.new input.old input.new
+        IsFileFault limits (H.content shelf.old) (task_of request) file H.read_faults H.read_last shelf.old shelf.new input.old input.new (H.opens shelf.old) (H.opens shelf.new)
         ⊎ (AreAccepted limits (H.content shelf.old) (task_of request).reads H.read_faults H.read_last shelf.old shelf.new
         × IsInputFault limits (task_of request).reads_input file (I.left input.old) (I.left input.new) (I.faults input.old) (I.faults input.new)))) }
     ensures fault_line { IfReadFault result (λ file. IsPut (fault_line file) (O.held out.old) (O.held out.new) (O.faults out.old) (O.faults out.new)) }
@@ -107,6 +107,9 @@ pub fn run<R: Threads + Wait + Sync, H: Shelf, I: Source, O: Sink, G: Gate + Syn
     // No call that reads failed where the run went on to write something else than a read fault.
     ensures reads { UnlessFaulted result (SameFaults H.read_faults H.read_last shelf.old shelf.new) }
     ensures input_reads { UnlessFaulted result (I.faults input.new ≡ I.faults input.old) }
+
+    // Each file that the command reads is opened once at most, and none where the words are no command.
+    ensures opens { H.opens shelf.new ≤ H.opens shelf.old + files_read (words_of.command (texts words.items)) }
 
     // The sink keeps its room, nothing is open, the files stay as they were where the whole output wasn't to be written or has none, and the input is unread unless the words are a command that reads it.
     ensures room { O.room out.new ≡ O.room out.old }
@@ -140,11 +143,11 @@ fn perform<R: Threads + Sync, H: Shelf, I: Source, O: Sink>(
     ensures runs { Runs (OnTold (task_of request) limits.now (H.content shelf.old) (I.left input.old)) result
         (H.content shelf.old) (H.content shelf.new) (O.held out.old) (O.held out.new) (O.faults out.old) (O.faults out.new) H.write_faults H.write_last shelf.old shelf.new }
     ensures refused { IfRefused result (λ file rec why.
-        IsFileRefusal limits.now (H.content shelf.old) (task_of request) file rec why input.old input.new
+        IsFileRefusal limits.now (H.content shelf.old) (task_of request) file rec why input.old input.new (H.opens shelf.old) (H.opens shelf.new)
         ⊎ (AreAccepted limits.now (H.content shelf.old) (task_of request).reads H.read_faults H.read_last shelf.old shelf.new
         × IsInputRefusal limits.now (task_of request).reads_input file rec why (I.left input.old) (I.left input.new))) }
     ensures read_fault { IfReadFault result (λ file.
-        IsFileFault limits.now (H.content shelf.old) (task_of request) file H.read_faults H.read_last shelf.old shelf.new input.old input.new
+        IsFileFault limits.now (H.content shelf.old) (task_of request) file H.read_faults H.read_last shelf.old shelf.new input.old input.new (H.opens shelf.old) (H.opens shelf.new)
         ⊎ (AreAccepted limits.now (H.content shelf.old) (task_of request).reads H.read_faults H.read_last shelf.old shelf.new
         × IsInputFault limits.now (task_of request).reads_input file (I.left input.old) (I.left input.new) (I.faults input.old) (I.faults input.new))) }
     ensures reads { UnlessFaulted result (SameFaults H.read_faults H.read_last shelf.old shelf.new) }
@@ -152,6 +155,7 @@ fn perform<R: Threads + Sync, H: Shelf, I: Source, O: Sink>(
     ensures through { OnDone result (IsReadThrough (task_of request).reads_input (I.left input.new)) }
     ensures unread { (task_of request).reads_input ≡ false → input.new ≡ input.old }
     ensures no_files { (task_of request).writes_files ≡ false → IsUnwritten (H.content shelf.old) (H.content shelf.new) H.write_faults H.write_last shelf.old shelf.new }
+    ensures opens { H.opens shelf.new ≤ H.opens shelf.old + length (task_of request).reads }
     ensures room { O.room out.new ≡ O.room out.old }
     ensures closed { H.opened shelf.new ≡ Nothing }
 {

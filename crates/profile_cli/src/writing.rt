@@ -18,6 +18,7 @@ fn store_all<H: Shelf>(shelf: &mut H, files: Vec<(Name, Text)>) -> Storing
     ensures stored { StoresAll result files.items (H.content shelf.old) (H.content shelf.new) H.write_faults H.write_last shelf.old shelf.new }
     ensures closed { H.opened shelf.new ≡ Nothing }
     ensures reads { SameFaults H.read_faults H.read_last shelf.old shelf.new }
+    ensures opens { H.opens shelf.new ≡ H.opens shelf.old }
 {
     for (name, text) in files {
         match store_file(shelf, name, text.bytes()) {
@@ -41,6 +42,7 @@ pub(crate) fn write_made<H: Shelf, O: Sink>(
     ensures room { O.room out.new ≡ O.room out.old }
     ensures closed { H.opened shelf.new ≡ Nothing }
     ensures reads { SameFaults H.read_faults H.read_last shelf.old shelf.new }
+    ensures opens { H.opens shelf.new ≡ H.opens shelf.old }
 {
     match made {
         Ok(made) => {

@@ -1,6 +1,5 @@
 // What `profile` writes.
-use super::{Case, R, R_REPORT, expect_all};
-use std::test::Fail;
+use super::{Case, R, R_REPORT};
 
 const ONE: &str = "relation,one,1,2\ncolumn,1,a\nkey,1\n";
 
@@ -10,7 +9,7 @@ const DASH: &str = "relation,-,1,1\ncolumn,1,c\nkey,\nfd,,1\n";
 
 const FILES: &[(&str, &str)] = &[("one", "a\n1\n2\n"), ("-x", "b\n"), ("-", "c\n3\n")];
 
-static ONE_FILE: [Case; 10] = [
+pub static ONE_FILE: [Case<'static>; 10] = [
     Case {
         words: &["depprof", "profile", "r.csv"],
         files: &[("r.csv", R)],
@@ -102,13 +101,7 @@ static ONE_FILE: [Case; 10] = [
     },
 ];
 
-#[test]
-fn reports_keys_and_dependencies(rt: HostRuntime) -> Result<(), Fail> {
-    expect_all(&rt, rt.alloc(), &ONE_FILE)?;
-    Ok(())
-}
-
-static FILES_IN_ORDER: [Case; 8] = [
+pub static FILES_IN_ORDER: [Case<'static>; 8] = [
     Case {
         words: &["depprof", "profile", "one", "-"],
         files: FILES,
@@ -201,9 +194,3 @@ static FILES_IN_ORDER: [Case; 8] = [
         status: 0,
     },
 ];
-
-#[test]
-fn files_are_reported_in_the_order_of_the_words(rt: HostRuntime) -> Result<(), Fail> {
-    expect_all(&rt, rt.alloc(), &FILES_IN_ORDER)?;
-    Ok(())
-}

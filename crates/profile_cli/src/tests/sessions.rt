@@ -1,6 +1,5 @@
 // What a session answers to a change text.
-use super::{Case, expect_all};
-use std::test::Fail;
+use super::Case;
 
 pub const K: &[(&str, &str)] = &[("k.csv", "k,v\n1,x\n1,y\n2,z\n")];
 
@@ -8,7 +7,7 @@ const K_HEAD: &str = "column,1,k\ncolumn,2,v\n";
 
 const WORDS: &[&str] = &["depprof", "session", "k.csv"];
 
-static BATCHES: [Case; 8] = [
+pub static BATCHES: [Case<'static>; 8] = [
     Case {
         words: WORDS,
         files: K,
@@ -77,13 +76,7 @@ static BATCHES: [Case; 8] = [
     },
 ];
 
-#[test]
-fn each_batch_is_answered_in_order(rt: HostRuntime) -> Result<(), Fail> {
-    expect_all(&rt, rt.alloc(), &BATCHES)?;
-    Ok(())
-}
-
-static REPORTS: [Case; 4] = [
+pub static REPORTS: [Case<'static>; 4] = [
     Case {
         words: WORDS,
         files: K,
@@ -137,9 +130,3 @@ static REPORTS: [Case; 4] = [
         status: 0,
     },
 ];
-
-#[test]
-fn reports_show_the_rows_at_that_point(rt: HostRuntime) -> Result<(), Fail> {
-    expect_all(&rt, rt.alloc(), &REPORTS)?;
-    Ok(())
-}

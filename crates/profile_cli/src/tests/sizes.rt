@@ -1,10 +1,8 @@
 // Inputs at the limits and beyond them.
-use super::{Case, R, R_REPORT, expect, file_of, words_of};
-use crate::run;
-use ports::{OpenGate, SureShelf, SureSink, SureSource};
+use super::sessions::K;
+use super::{Case, Outside, R, R_REPORT, Ran, SURE, expect, run_of};
 use rel_base::{Limits, MOST_BYTES, MOST_CELL_BYTES, MOST_COLUMNS, MOST_ROWS};
 use std::alloc::{AllocError, Global};
-use std::process::Abort;
 use std::sync::Wait;
 use std::test::Fail;
 use std::thread::Threads;
@@ -12,23 +10,12 @@ use std::thread::Threads;
 // Limits on columns, rows, cells and bytes, and a run under them.
 struct Limited {
     limits: (u8, u32, u64, u64),
-    case: Case,
+    case: Case<'static>,
 }
 
-// Asserts what a run under limits writes.
-fn expect_limited<H: Threads + Wait + Sync + Abort>(
-    rt: &H,
-    alloc: Global,
-    limited: &Limited,
-) -> Result<(), AllocError> {
-    let (columns, rows, cell, bytes) = limited.limits;
-    assert!(rt; 0 < columns && columns <= MOST_COLUMNS && rows <= MOST_ROWS);
-    assert!(rt; cell <= MOST_CELL_BYTES && bytes <= MOST_BYTES);
-    let limits = Limits::smaller(columns, rows, cell, bytes);
-    expect(rt, alloc, &limited.case, limits)
-}
+const SESSION: &[&str] = &["depprof", "session", "k.csv"];
 
-static PROFILES: [Limited; 9] = [
+static LIMITED: [Limited; 14] = [
     Limited {
         limits: (MOST_COLUMNS, MOST_ROWS, MOST_CELL_BYTES, MOST_BYTES),
         case: Case {
@@ -128,13 +115,6 @@ static PROFILES: [Limited; 9] = [
             status: 3,
         },
     },
-];
-
-const K: &[(&str, &str)] = &[("k.csv", "k,v\n1,x\n1,y\n2,z\n")];
-
-const SESSION: &[&str] = &["depprof", "session", "k.csv"];
-
-static SESSIONS: [Limited; 5] = [
     Limited {
         limits: (MOST_COLUMNS, 3, MOST_CELL_BYTES, MOST_BYTES),
         case: Case {
@@ -194,70 +174,44 @@ static SESSIONS: [Limited; 5] = [
 
 #[test]
 fn limits_hold(rt: HostRuntime) -> Result<(), Fail> {
-    for limited in &PROFILES {
-        expect_limited(&rt, rt.alloc(), limited)?;
-    }
-    for limited in &SESSIONS {
-        expect_limited(&rt, rt.alloc(), limited)?;
+    for limited in &LIMITED {
+        let (columns, rows, cell, bytes) = limited.limits;
+        assert!(rt; 0 < columns && columns <= MOST_COLUMNS && rows <= MOST_ROWS);
+        assert!(rt; cell <= MOST_CELL_BYTES && bytes <= MOST_BYTES);
+        let limits = Limits::smaller(columns, rows, cell, bytes);
+        expect(&rt, rt.alloc(), &limited.case, limits)?;
     }
     Ok(())
 }
 
 // Adds a record of so many cells, of which the last one may differ from the others.
-fn push_record(text: &mut Vec<u8>, cells: u8, cell: u8, last: u8) -> Result<(), AllocError> {
+fn push_record(text: &mut String, cells: u8, cell: char, last: char) -> Result<(), AllocError> {
     for _ in 1..cells {
-        text.extend_from_slice(&[cell, b','])?;
+        text.push(cell)?;
+        text.push(',')?;
     }
-    text.extend_from_slice(&[last, b'\n'])
+    text.push(last)?;
+    text.push('\n')
 }
 
-// A header of so many columns named c, and rows of zeros that differ in the last column alone.
-fn wide(alloc: Global, columns: u8, rows: u8) -> Result<Vec<u8>, AllocError> {
-    let mut text = Vec::new(alloc);
-    push_record(&mut text, columns, b'c', b'c')?;
-    for row in 0..rows {
-        push_record(&mut text, columns, b'0', b'1'.saturating_add(row))?;
+// A header of so many columns named c, and as many rows of zeros that differ in the last column alone.
+fn wide(alloc: Global, columns: u8, rows: &[char]) -> Result<String, AllocError> {
+    let mut text = String::new(alloc);
+    push_record(&mut text, columns, 'c', 'c')?;
+    for last in rows {
+        push_record(&mut text, columns, '0', *last)?;
     }
     Ok(text)
 }
 
-// What `profile` writes of a file with these bytes, and its status.
-fn profiled<H: Threads + Wait + Sync>(
-    rt: &H,
-    alloc: Global,
-    bytes: &[u8],
-) -> Result<(Vec<u8>, u8), AllocError> {
-    let file = file_of(alloc, "w.csv", bytes)?;
-    let mut shelf = SureShelf::of(vec![in alloc; file]?);
-    let mut input = SureSource::of(Vec::new(alloc));
-    let mut out = SureSink::with_room(alloc, 1_000_000)?;
-    let words = words_of(alloc, &["depprof", "profile", "w.csv"])?;
-    let limits = Limits::standard();
-    let outcome = run(
-        rt, alloc, words, &mut shelf, &mut input, &mut out, &OpenGate, limits,
-    );
-    Ok((Vec::from_slice(alloc, out.bytes())?, outcome.status()))
-}
-
-// Columns and rows, how many lines the report has, and the status.
-static WIDTHS: [(u8, u8, usize, u8); 5] = [
-    (13, 0, 184, 0),
-    (64, 0, 4162, 0),
-    (MOST_COLUMNS, 0, 16514, 0),
-    (129, 0, 1, 3),
-    (65, 2, 4163, 0),
+// Columns, the last cells of the rows, how many lines the report has, and the status.
+static WIDTHS: [(u8, &[char], usize, u8); 5] = [
+    (13, &[], 184, 0),
+    (64, &[], 4162, 0),
+    (MOST_COLUMNS, &[], 16514, 0),
+    (129, &[], 1, 3),
+    (65, &['1', '2'], 4163, 0),
 ];
-
-#[test]
-fn widths_up_to_the_limit_are_reported(rt: HostRuntime) -> Result<(), Fail> {
-    for (columns, rows, lines, wanted) in &WIDTHS {
-        let bytes = wide(rt.alloc(), *columns, *rows)?;
-        let (text, status) = profiled(&rt, rt.alloc(), bytes.as_slice())?;
-        let written = text.as_slice().iter().filter(|b| **b == b'\n').count();
-        assert!(rt; written == *lines && status == *wanted, "{columns} columns");
-    }
-    Ok(())
-}
 
 // A header, the length of the cell that follows it, and the report.
 static CELLS: [(&str, usize, &str); 3] = [
@@ -270,16 +224,42 @@ static CELLS: [(&str, usize, &str); 3] = [
     ("", 65_537, "refused,w.csv,1,4\n"),
 ];
 
+// What `profile` comes to over a file with this text.
+fn profiled<H: Threads + Wait + Sync>(rt: &H, alloc: Global, text: &str) -> Result<Ran, AllocError> {
+    let case = Case {
+        words: &["depprof", "profile", "w.csv"],
+        files: &[("w.csv", text)],
+        input: "",
+        text: &[],
+        tables: &[],
+        status: 0,
+    };
+    let outside = Outside {
+        room: 1_000_000,
+        ..SURE
+    };
+    run_of(rt, alloc, &case, &outside, Limits::standard())
+}
+
 #[test]
-fn cells_up_to_the_limit_are_read(rt: HostRuntime) -> Result<(), Fail> {
-    for (header, length, wanted) in &CELLS {
-        let mut bytes = Vec::from_slice(rt.alloc(), header.as_bytes())?;
-        for _ in 0..*length {
-            bytes.push(b'x')?;
-        }
-        let (text, _) = profiled(&rt, rt.alloc(), bytes.as_slice())?;
+fn widths_and_cells_up_to_the_limit_are_reported(rt: HostRuntime) -> Result<(), Fail> {
+    for (columns, rows, lines, wanted) in &WIDTHS {
+        let text = wide(rt.alloc(), *columns, rows)?;
+        let done = profiled(&rt, rt.alloc(), &text)?;
+        let written = done.text.iter().filter(|byte| **byte == b'\n').count();
         assert!(rt;
-            text.as_slice() == wanted.as_bytes(),
+            written == *lines && done.outcome.status() == *wanted,
+            "{columns} columns"
+        );
+    }
+    for (header, length, wanted) in &CELLS {
+        let mut text = String::from_str(rt.alloc(), *header)?;
+        for _ in 0..*length {
+            text.push('x')?;
+        }
+        let done = profiled(&rt, rt.alloc(), &text)?;
+        assert!(rt;
+            done.text.as_slice() == wanted.as_bytes(),
             "a cell of {length} bytes"
         );
     }

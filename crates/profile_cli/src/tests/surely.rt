@@ -10,6 +10,7 @@ ghost use Rattle.profile_cli.specs.Outcomes.{IsDoneOrNoMemory, OnDone};
 ghost use Rattle.profile_cli.specs.Task.{task_of};
 ghost use Rattle.profile_cli.specs.declared.request.Request.{Request};
 
+use super::words_of;
 use crate::{Outcome, run};
 use ports::{OpenGate, SureShelf, SureSink, SureSource, Text};
 use rel_base::{Limits, Name};
@@ -57,10 +58,7 @@ fn a_run_with_room_is_done(rt: HostRuntime) -> Result<(), Fail> {
         "ind,1.1,1.2\nind,1.1,2.1\nind,1.1,2.2\nind,1.2,2.2\n",
         "ind,2.1,1.1\nind,2.1,1.2\nind,2.1,2.2\nind,2.2,1.2\n",
     );
-    let mut words = Vec::new(alloc);
-    for word in ["depprof", "profile", "n.csv", "n.csv"] {
-        words.push(String::from_str(alloc, word)?)?;
-    }
+    let words = words_of(alloc, &["depprof", "profile", "n.csv", "n.csv"])?;
     let name = Name::of(String::from_str(alloc, "n.csv")?);
     let bytes = Text::of(Vec::from_slice(alloc, N.as_bytes())?);
     let mut shelf = SureShelf::of(vec![in alloc; (name, bytes)]?);

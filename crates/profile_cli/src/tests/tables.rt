@@ -1,13 +1,10 @@
 // What `normalize` writes, and that `demo` counts it.
-use super::{Case, R, R_REPORT, expect_all, words_of};
-use crate::{demo_relation, run};
-use ports::{MemShelf, OpenGate, SureSink, SureSource, Text};
-use rel_base::{Limits, Name};
+use super::{Case, Outside, R, R_REPORT, SURE, run_of};
+use crate::demo_relation;
+use rel_base::Limits;
 use report_text::table_file;
-use std::alloc::{AllocError, Global};
-use std::sync::Wait;
+use std::str;
 use std::test::Fail;
-use std::thread::Threads;
 
 pub const R_TABLES: &[(&str, &str)] = &[
     ("t1.csv", "id,city\n1,Berlin\n2,Berlin\n3,Potsdam\n"),
@@ -16,7 +13,7 @@ pub const R_TABLES: &[(&str, &str)] = &[
 
 pub const R_TABLE_LINES: &str = "table,1,1 2,1\ntable,2,2 3,2\nalternate,2,3\n";
 
-static NORMALIZED: [Case; 6] = [
+pub static NORMALIZED: [Case<'static>; 6] = [
     Case {
         words: &["depprof", "normalize", "--out", "t", "r.csv"],
         files: &[("r.csv", R)],
@@ -89,33 +86,6 @@ static NORMALIZED: [Case; 6] = [
     },
 ];
 
-#[test]
-fn tables_are_written_before_the_text(rt: HostRuntime) -> Result<(), Fail> {
-    expect_all(&rt, rt.alloc(), &NORMALIZED)?;
-    Ok(())
-}
-
-// What a run of these words writes, where the only file is the relation of the seed 1.
-fn of_seed<R: Threads + Wait + Sync>(
-    rt: &R,
-    alloc: Global,
-    words: &[&str],
-) -> Result<Vec<u8>, AllocError> {
-    let relation = demo_relation(alloc, 1)?;
-    let bytes = table_file(alloc, relation.names(), relation.rows())?;
-    let name = Name::of(String::from_str(alloc, "d.csv")?);
-    let held = vec![in alloc; (name, Text::of(bytes))]?;
-    let mut shelf = MemShelf::with(alloc, held, 12, 300_000, Vec::new(alloc), usize::MAX)?;
-    let mut input = SureSource::of(Vec::new(alloc));
-    let mut out = SureSink::with_room(alloc, 1_000_000)?;
-    let words = words_of(alloc, words)?;
-    let limits = Limits::standard();
-    run(
-        rt, alloc, words, &mut shelf, &mut input, &mut out, &OpenGate, limits,
-    );
-    Vec::from_slice(alloc, out.bytes())
-}
-
 // How many lines begin so.
 fn lines_of(text: &[u8], kind: &[u8]) -> usize {
     text.split(|byte| *byte == b'\n')
@@ -123,38 +93,47 @@ fn lines_of(text: &[u8], kind: &[u8]) -> usize {
         .count()
 }
 
-// The line that counts what `normalize` writes.
-fn counted(alloc: Global, text: &[u8]) -> Result<Vec<u8>, AllocError> {
-    let keys = lines_of(text, b"key,");
-    let fds = lines_of(text, b"fd,");
-    let inds = lines_of(text, b"ind,");
-    let tables = lines_of(text, b"table,");
-    let line = format!(in alloc; "demo,1,12,5000,{keys},{fds},{inds},{tables}\n")?;
-    Vec::from_slice(alloc, line.as_bytes())
-}
+// The words of `normalize` over the relation of the seed 1, and those of its `demo` with one worker and more.
+static OF_SEED: [&[&str]; 4] = [
+    &["depprof", "normalize", "--out", "t", "d.csv"],
+    &["depprof", "demo", "--workers", "1", "1"],
+    &["depprof", "demo", "--workers", "2", "1"],
+    &["depprof", "demo", "--workers", "16", "1"],
+];
 
 #[test]
 fn demo_counts_what_normalize_writes(rt: HostRuntime) -> Result<(), Fail> {
     let alloc = rt.alloc();
-    let text = of_seed(&rt, alloc, &["depprof", "normalize", "--out", "t", "d.csv"])?;
-    let line = counted(alloc, &text)?;
-    assert!(rt; lines_of(&text, b"table,") > 0);
-    for workers in ["1", "2", "16"] {
-        let demo = of_seed(&rt, alloc, &["depprof", "demo", "--workers", workers, "1"])?;
-        assert!(rt; demo.as_slice() == line.as_slice());
-    }
-    Ok(())
-}
-
-#[test]
-fn the_relation_of_a_seed_is_drawn(rt: HostRuntime) -> Result<(), Fail> {
-    let alloc = rt.alloc();
     let relation = demo_relation(alloc, 1)?;
-    let first = relation.rows().get(..1).ok_or("no row")?;
-    let text = table_file(alloc, relation.names(), first)?;
-    assert!(rt;
-        text.as_slice()
-            == b"c1,c2,c3,c4,c5,c6,c7,c8,c9,c10,c11,c12\n1,8,18,13,15,51,9,5,0,1,45,1\n".as_slice()
-    );
+    let bytes = table_file(alloc, relation.names(), relation.rows())?;
+    let file = str::from_utf8(&bytes)?;
+    let head = "c1,c2,c3,c4,c5,c6,c7,c8,c9,c10,c11,c12\n1,8,18,13,15,51,9,5,0,1,45,1\n";
+    assert!(rt; file.starts_with(head));
+    let wide = Outside {
+        room: 1_000_000,
+        ..SURE
+    };
+    let mut wanted = String::new(alloc);
+    for words in &OF_SEED {
+        let case = Case {
+            words,
+            files: &[("d.csv", file)],
+            input: "",
+            text: &[],
+            tables: &[],
+            status: 0,
+        };
+        let done = run_of(&rt, alloc, &case, &wide, Limits::standard())?;
+        if wanted.is_empty() {
+            let keys = lines_of(&done.text, b"key,");
+            let fds = lines_of(&done.text, b"fd,");
+            let inds = lines_of(&done.text, b"ind,");
+            let tables = lines_of(&done.text, b"table,");
+            assert!(rt; tables > 0);
+            wanted = format!(in alloc; "demo,1,12,5000,{keys},{fds},{inds},{tables}\n")?;
+        } else {
+            assert!(rt; done.text.as_slice() == wanted.as_bytes());
+        }
+    }
     Ok(())
 }

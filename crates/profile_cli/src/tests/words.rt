@@ -2,38 +2,10 @@
 use super::{Case, R, R_REPORT, expect};
 use crate::usage_line;
 use rel_base::Limits;
-use std::alloc::{AllocError, Global};
-use std::process::Abort;
-use std::sync::Wait;
 use std::test::Fail;
-use std::thread::Threads;
 
-const USAGE: &str =
+pub const USAGE: &str =
     "usage: depprof profile [--workers N] [--nulls equal|distinct] FILE.. | normalize [--workers N] --out PREFIX FILE | session [--workers N] [--nulls equal|distinct] FILE | demo [--workers N] SEED\n";
-
-static FILES: [(&str, &str); 1] = [("r.csv", R)];
-
-// Asserts what each of these words write and end with.
-fn expect_each<H: Threads + Wait + Sync + Abort>(
-    rt: &H,
-    alloc: Global,
-    words: &[&'static [&'static str]],
-    text: &'static [&'static str],
-    status: u8,
-) -> Result<(), AllocError> {
-    for words in words {
-        let case = Case {
-            words,
-            files: &FILES,
-            input: "",
-            text,
-            tables: &[],
-            status,
-        };
-        expect(rt, alloc, &case, Limits::standard())?;
-    }
-    Ok(())
-}
 
 static NO_COMMAND: [&[&str]; 31] = [
     &[],
@@ -85,13 +57,6 @@ static NO_COMMAND: [&[&str]; 31] = [
     &["depprof", "session", "--workers", "17", "r.csv"],
 ];
 
-#[test]
-fn other_words_are_answered_by_the_usage_line(rt: HostRuntime) -> Result<(), Fail> {
-    expect_each(&rt, rt.alloc(), &NO_COMMAND, &[USAGE], 2)?;
-    assert!(rt; usage_line() == USAGE.as_bytes());
-    Ok(())
-}
-
 static OPTIONS: [&[&str]; 8] = [
     &["depprof", "profile", "--workers", "3", "r.csv"],
     &["depprof", "profile", "--workers", "16", "r.csv"],
@@ -111,7 +76,22 @@ static OPTIONS: [&[&str]; 8] = [
 ];
 
 #[test]
-fn options_are_read_in_each_of_their_forms(rt: HostRuntime) -> Result<(), Fail> {
-    expect_each(&rt, rt.alloc(), &OPTIONS, &[R_REPORT], 0)?;
+fn words_are_read_in_each_of_their_forms_and_others_answered_by_the_usage_line(
+    rt: HostRuntime,
+) -> Result<(), Fail> {
+    for (forms, text, status) in [(&NO_COMMAND[..], USAGE, 2), (&OPTIONS[..], R_REPORT, 0)] {
+        for words in forms {
+            let case = Case {
+                words,
+                files: &[("r.csv", R)],
+                input: "",
+                text: &[text],
+                tables: &[],
+                status,
+            };
+            expect(&rt, rt.alloc(), &case, Limits::standard())?;
+        }
+    }
+    assert!(rt; usage_line() == USAGE.as_bytes());
     Ok(())
 }

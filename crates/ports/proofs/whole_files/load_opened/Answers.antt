@@ -16,4 +16,5 @@ loop-filled-preserved g c =
         moved = Moves-more _ _ _ c.loop-filled.bytes.items _ _ _ (read.front ∙ ap (take c.loop-filled.filled) c.as_mut_slice.ensures.value ∙ c.make_room.ensures.front) filled.moved read.moved.2;
       },
       ReadsOn-more shelf.opened _ _ _ _ _ _ _ _ c.loop-filled.invariant.1 read.opened read.content read.reads read.writes,
+      read.opens ∙ c.loop-filled.invariant.2,
     )

@@ -1,4 +1,4 @@
-use Rattle.std.proofs.Common.{rules}
+use Rattle.std.proofs.Common.{◌∙◌, refl, rules}
 use Rattle.std.proofs.lemmas.List.{take_rest}
 use Rattle.ports.proofs.Contents.{more-nil}
 use Rattle.ports.proofs.Shelves.{WritesOn-more}
@@ -13,6 +13,7 @@ loop-done-init g c = (
     reads = search rules;
     writes = search rules;
   },
+  refl,
 )
 
 pub loop-done-preserved : goal.loop-done-preserved
@@ -20,4 +21,4 @@ loop-done-preserved g c =
     let shelf = g.H.Shelf in
     let write = c.in-Took.ensures in
     let appended = rw take_rest at write.appended in
-    (search rules, WritesOn-more shelf.opened shelf.content _ _ _ _ _ _ _ c.args.bytes.now _ _ c.loop-done.invariant.1 write.opened appended.2 write.reads write.writes)
+    (search rules, WritesOn-more shelf.opened shelf.content _ _ _ _ _ _ _ c.args.bytes.now _ _ c.loop-done.invariant.1 write.opened appended.2 write.reads write.writes, write.opens ∙ c.loop-done.invariant.2)

@@ -1,4 +1,4 @@
-use Rattle.std.proofs.Common.{◌≡◌, ◌∙◌, ◌+◌, ◌++◌, ◌∷◌, ℕ, List, [], None, Some, Option, length, get_or, sym, ap, subst, refl}
+use Rattle.std.proofs.Common.{◌≡◌, ◌∙◌, ◌+◌, ◌++◌, ◌∷◌, ℕ, List, [], None, Some, Option, length, get_or, sym, ap, subst, refl, arith}
 use Rattle.std.specs.Prelude.{IfSome}
 use Rattle.std.proofs.lemmas.List.{length-append}
 use Rattle.ports.specs.Files.{Files, bytes_of}
@@ -18,6 +18,7 @@ loop-place-init g c =
       closed = c.requires;
       reads = SameFaults-refl H.read_faults H.read_last c.args.shelf.now;
       writes = SameFaults-refl H.write_faults H.write_last c.args.shelf.now;
+      opens = omega arith;
     }
 
 pub returns-in-Refused-clause-files : goal.returns-in-Refused-clause-files
@@ -50,4 +51,5 @@ loop-place-preserved g c =
       closed = c.in-Read.ensures.closed;
       reads = SameFaults-trans H.read_faults H.read_last c.args.shelf.now c.loop-place.shelf c.read_file.new.shelf c.loop-place.invariant.reads c.in-Read.ensures.reads;
       writes = SameFaults-trans H.write_faults H.write_last c.args.shelf.now c.loop-place.shelf c.read_file.new.shelf c.loop-place.invariant.writes c.in-Read.ensures.writes;
+      opens = let before = c.loop-place.invariant.opens in let more = c.in-Read.ensures.opens in omega arith;
     }

@@ -1,4 +1,4 @@
-use Rattle.std.proofs.Common.{◌≡◌, length, take, map, None}
+use Rattle.std.proofs.Common.{◌≡◌, ◌≤◌, ◌+◌, length, take, map, None}
 use Rattle.std.specs.Prelude.{IfSome}
 use Rattle.ports.specs.Faults.{SameFaults}
 use Rattle.ports.specs.Files.{Nothing, bytes_of}
@@ -16,4 +16,5 @@ invariant-loop-place g l =
       closed : H.opened l.shelf ≡ Nothing;
       reads : SameFaults H.read_faults H.read_last l.fn.shelf l.shelf;
       writes : SameFaults H.write_faults H.write_last l.fn.shelf l.shelf;
+      opens : H.opens l.shelf ≤ H.opens l.fn.shelf + l.place;
     }

@@ -1,4 +1,4 @@
-use Rattle.std.proofs.Common.{◌≡◌, ◌∙◌, ◌<◌, ◌⊎◌, inl, inr, ℕ, List, [], None, Some, Option, length, get_or, take, refl, sym, ap, subst}
+use Rattle.std.proofs.Common.{◌≡◌, ◌∙◌, ◌+◌, ◌<◌, ◌≤◌, ◌⊎◌, arith, inl, inr, ℕ, List, [], None, Some, Option, length, get_or, take, refl, sym, ap, subst}
 use Rattle.std.specs.Prelude.{IfSome}
 use Rattle.rel_base.specs.declared.limits.Limits.{Limits}
 use Rattle.rel_base.specs.declared.why.Why.{Why}
@@ -49,7 +49,7 @@ returns-in-Read-clause-refused g c =
     (subst (λ (names : List (List ℕ)). IfSome content (λ held. (first_refusal limits held names ≡ None) × (c.in-Read.relations.items ≡ contents_of held names))) c.files.ensures c.in-Read.ensures.files) in
     let shelf = SameFaults-trans H.read_faults H.read_last c.args.shelf.now c.read_files.new.shelf c.answer.new.shelf c.in-Read.ensures.reads c.answer.ensures.reads in
     IfRefused-map c.answer.result (λ file rec why. IsInputRefusal limits task.reads_input file rec why (I.left c.args.input.now) (I.left c.answer.new.input))
-    (λ file rec why. IsFileRefusal limits content task file rec why c.args.input.now c.answer.new.input
+    (λ file rec why. IsFileRefusal limits content task file rec why c.args.input.now c.answer.new.input (H.opens c.args.shelf.now) (H.opens c.answer.new.shelf)
     ⊎ (AreAccepted limits content task.reads H.read_faults H.read_last c.args.shelf.now c.answer.new.shelf × IsInputRefusal limits task.reads_input file rec why (I.left c.args.input.now) (I.left c.answer.new.input)))
     (λ file rec why x. inr (record { accepted = accepted; shelf = shelf }, x)) c.answer.ensures.refused
 
@@ -65,7 +65,7 @@ returns-in-Read-clause-read_fault g c =
     (subst (λ (names : List (List ℕ)). IfSome content (λ held. (first_refusal limits held names ≡ None) × (c.in-Read.relations.items ≡ contents_of held names))) c.files.ensures c.in-Read.ensures.files) in
     let shelf = SameFaults-trans H.read_faults H.read_last c.args.shelf.now c.read_files.new.shelf c.answer.new.shelf c.in-Read.ensures.reads c.answer.ensures.reads in
     IfReadFault-map c.answer.result (λ file. IsInputFault limits task.reads_input file (I.left c.args.input.now) (I.left c.answer.new.input) (I.faults c.args.input.now) (I.faults c.answer.new.input))
-    (λ file. IsFileFault limits content task file H.read_faults H.read_last c.args.shelf.now c.answer.new.shelf c.args.input.now c.answer.new.input
+    (λ file. IsFileFault limits content task file H.read_faults H.read_last c.args.shelf.now c.answer.new.shelf c.args.input.now c.answer.new.input (H.opens c.args.shelf.now) (H.opens c.answer.new.shelf)
     ⊎ (AreAccepted limits content task.reads H.read_faults H.read_last c.args.shelf.now c.answer.new.shelf
     × IsInputFault limits task.reads_input file (I.left c.args.input.now) (I.left c.answer.new.input) (I.faults c.args.input.now) (I.faults c.answer.new.input)))
     (λ file x. inr (record { accepted = accepted; shelf = shelf }, x)) c.answer.ensures.read_fault
@@ -81,6 +81,29 @@ returns-in-Read-clause-no_files g c none =
     let H = g.H.Shelf in
     let u = c.answer.ensures.no_files none in
     record { files = u.files ∙ c.in-Read.ensures.content; shelf = SameFaults-trans H.write_faults H.write_last c.args.shelf.now c.read_files.new.shelf c.answer.new.shelf c.in-Read.ensures.writes u.shelf }
+
+pub returns-in-Read-clause-opens : goal.returns-in-Read-clause-opens
+returns-in-Read-clause-opens g c =
+    let H = g.H.Shelf in
+    rw c.answer.ensures.opens
+    (subst (λ (names : List (List ℕ)). H.opens c.read_files.new.shelf ≤ H.opens c.args.shelf.now + length names) c.files.ensures c.in-Read.ensures.opens)
+
+pub returns-in-Refused-clause-opens : goal.returns-in-Refused-clause-opens
+returns-in-Refused-clause-opens g c =
+    let within = subst (λ (names : List (List ℕ)). c.in-Refused.place < length names) c.files.ensures c.in-Refused.ensures.places in
+    let opens = c.in-Refused.ensures.opens in
+    omega arith
+
+pub returns-in-Fault-clause-opens : goal.returns-in-Fault-clause-opens
+returns-in-Fault-clause-opens g c =
+    let within = subst (λ (names : List (List ℕ)). c.in-Fault.place < length names) c.files.ensures c.in-Fault.ensures.places in
+    let opens = c.in-Fault.ensures.opens in
+    omega arith
+
+pub returns-in-NoMemory-clause-opens : goal.returns-in-NoMemory-clause-opens
+returns-in-NoMemory-clause-opens g c =
+    let H = g.H.Shelf in
+    subst (λ (names : List (List ℕ)). H.opens c.read_files.new.shelf ≤ H.opens c.args.shelf.now + length names) c.files.ensures c.in-NoMemory.ensures.opens
 
 pub returns-in-Refused-clause-runs : goal.returns-in-Refused-clause-runs
 returns-in-Refused-clause-runs g c =
@@ -113,11 +136,11 @@ returns-in-Refused-clause-refused g c =
     let known = subst (λ (names : List (List ℕ)). UnderstandsAll' limits place c.in-Refused.rec c.in-Refused.why content names) c.files.ensures c.in-Refused.ensures.files in
     let within : place < length task.reads = subst (λ (names : List (List ℕ)). place < length names) c.files.ensures c.in-Refused.ensures.places in
     ends_put c.refuse.result (Refused file c.in-Refused.rec c.in-Refused.why) (file_line file c.in-Refused.rec c.in-Refused.why) (O.held c.args.out.now) (O.held c.refuse.new.out) (O.faults c.args.out.now) (O.faults c.refuse.new.out)
-    (λ x. IfRefused x (λ name rec why. IsFileRefusal limits content task name rec why c.args.input.now c.args.input.now
+    (λ x. IfRefused x (λ name rec why. IsFileRefusal limits content task name rec why c.args.input.now c.args.input.now (H.opens c.args.shelf.now) (H.opens c.read_files.new.shelf)
     ⊎ (AreAccepted limits content task.reads H.read_faults H.read_last c.args.shelf.now c.read_files.new.shelf × IsInputRefusal limits task.reads_input name rec why (I.left c.args.input.now) (I.left c.args.input.now))))
     c.refuse.ensures.ends (λ nothing. tt)
     (λ put. inl (record {
-      reached = record { place = place; within = within; name = sym c.into_file.ensures; accepted = IfSome-map content (λ held k. k.0) known };
+      reached = record { place = place; within = within; name = sym c.into_file.ensures; accepted = IfSome-map content (λ held k. k.0) known; opened = c.in-Refused.ensures.opens };
       refused = IfSome-map content (λ held k. ap (λ (name : List ℕ). refused_file limits (bytes_of held name)) c.into_file.ensures ∙ k.1) known;
       unread = refl;
     }))
@@ -150,12 +173,12 @@ returns-in-Fault-clause-read_fault g c =
     let rose : RoseAt file H.read_faults H.read_last c.args.shelf.now c.read_files.new.shelf =
     subst (λ (name : List ℕ). RoseAt name H.read_faults H.read_last c.args.shelf.now c.read_files.new.shelf) at c.in-Fault.ensures.reads in
     ends_put c.end_at_fault.result (ReadFault file) (fault_line file) (O.held c.args.out.now) (O.held c.end_at_fault.new.out) (O.faults c.args.out.now) (O.faults c.end_at_fault.new.out)
-    (λ x. IfReadFault x (λ name. IsFileFault limits content task name H.read_faults H.read_last c.args.shelf.now c.read_files.new.shelf c.args.input.now c.args.input.now
+    (λ x. IfReadFault x (λ name. IsFileFault limits content task name H.read_faults H.read_last c.args.shelf.now c.read_files.new.shelf c.args.input.now c.args.input.now (H.opens c.args.shelf.now) (H.opens c.read_files.new.shelf)
     ⊎ (AreAccepted limits content task.reads H.read_faults H.read_last c.args.shelf.now c.read_files.new.shelf
     × IsInputFault limits task.reads_input name (I.left c.args.input.now) (I.left c.args.input.now) (I.faults c.args.input.now) (I.faults c.args.input.now))))
     c.end_at_fault.ensures.ends (λ nothing. tt)
     (λ put. inl (record {
-      reached = record { place = place; within = within; name = sym c.into_file-in-Fault.ensures; accepted = known };
+      reached = record { place = place; within = within; name = sym c.into_file-in-Fault.ensures; accepted = known; opened = c.in-Fault.ensures.opens };
       shelf = rose;
       unread = refl;
     }))

@@ -1,11 +1,11 @@
-use Rattle.std.proofs.Common.{◌≡◌, ◌∙◌, ◌⊎◌, List, String, Some, sym, ap, subst, false}
+use Rattle.std.proofs.Common.{◌≡◌, ◌∙◌, ◌+◌, ◌≤◌, ◌⊎◌, List, String, Some, sym, ap, subst, false}
 use Rattle.std.specs.Prelude.{IfSome, IsSomeAnd}
 use Rattle.std.specs.declared.alloc.Global.{Global}
 use Rattle.profile_cli.specs.Command.{command, texts}
 use Rattle.profile_cli.specs.Ends.{AreAccepted, IsFileFault, IsFileRefusal, IsInputFault, IsInputRefusal, IsReadThrough, IsUnwritten, IsWhole, OnSources, OnTold, Runs, StopsAtFile, StopsAtSink}
 use Rattle.profile_cli.specs.Outcomes.{IfReadFault}
 use Rattle.profile_cli.specs.Output.{output, refusal}
-use Rattle.profile_cli.specs.Task.{task_of}
+use Rattle.profile_cli.specs.Task.{files_read, task_of}
 use Rattle.profile_cli.specs.declared.request.Request.{Request}
 use Rattle.profile_cli.proofs.Ends.{IfReadFault-map, IfRefused-map, OnDone-map, OnWriteFault-map, complete, done, lines, no_usage, none_is_some, not_accepted, sinks, some_same, write_fault}
 use Rattle.profile_cli.proofs.top_call.run.Goals as goal
@@ -158,10 +158,10 @@ returns-in-Ok-Some-clause-refused_at g c =
     let O = g.O.Sink in
     let request = c.in-Ok-Some.request in
     let are : Some request ≡ command (texts c.args.words.items) = sym c.in-Ok-Some.field-0-is ∙ c.in-Ok-Some.ensures.command ∙ ap (λ (ws : List (String Global)). command (texts ws)) c.as_slice.ensures.value in
-    IfRefused-map c.perform.result (λ file rec why. IsFileRefusal c.args.limits (H.content c.args.shelf.now) (task_of request) file rec why c.args.input.now c.perform.new.input
-    ⊎ (AreAccepted c.args.limits (H.content c.args.shelf.now) (task_of request).reads H.read_faults H.read_last c.args.shelf.now c.perform.new.shelf × IsInputRefusal c.args.limits (task_of request).reads_input file rec why (I.left c.args.input.now) (I.left c.perform.new.input))) (λ file rec why. IsSomeAnd (command (texts c.args.words.items)) (λ (r : Request). IsFileRefusal c.args.limits (H.content c.args.shelf.now) (task_of r) file rec why c.args.input.now c.perform.new.input
+    IfRefused-map c.perform.result (λ file rec why. IsFileRefusal c.args.limits (H.content c.args.shelf.now) (task_of request) file rec why c.args.input.now c.perform.new.input (H.opens c.args.shelf.now) (H.opens c.perform.new.shelf)
+    ⊎ (AreAccepted c.args.limits (H.content c.args.shelf.now) (task_of request).reads H.read_faults H.read_last c.args.shelf.now c.perform.new.shelf × IsInputRefusal c.args.limits (task_of request).reads_input file rec why (I.left c.args.input.now) (I.left c.perform.new.input))) (λ file rec why. IsSomeAnd (command (texts c.args.words.items)) (λ (r : Request). IsFileRefusal c.args.limits (H.content c.args.shelf.now) (task_of r) file rec why c.args.input.now c.perform.new.input (H.opens c.args.shelf.now) (H.opens c.perform.new.shelf)
     ⊎ (AreAccepted c.args.limits (H.content c.args.shelf.now) (task_of r).reads H.read_faults H.read_last c.args.shelf.now c.perform.new.shelf × IsInputRefusal c.args.limits (task_of r).reads_input file rec why (I.left c.args.input.now) (I.left c.perform.new.input))))
-    (λ file rec why. subst (λ o. IsSomeAnd o (λ (r : Request). IsFileRefusal c.args.limits (H.content c.args.shelf.now) (task_of r) file rec why c.args.input.now c.perform.new.input
+    (λ file rec why. subst (λ o. IsSomeAnd o (λ (r : Request). IsFileRefusal c.args.limits (H.content c.args.shelf.now) (task_of r) file rec why c.args.input.now c.perform.new.input (H.opens c.args.shelf.now) (H.opens c.perform.new.shelf)
     ⊎ (AreAccepted c.args.limits (H.content c.args.shelf.now) (task_of r).reads H.read_faults H.read_last c.args.shelf.now c.perform.new.shelf × IsInputRefusal c.args.limits (task_of r).reads_input file rec why (I.left c.args.input.now) (I.left c.perform.new.input)))) are) c.perform.ensures.refused
 
 pub returns-in-Ok-Some-clause-read_fault : goal.returns-in-Ok-Some-clause-read_fault
@@ -171,10 +171,10 @@ returns-in-Ok-Some-clause-read_fault g c =
     let O = g.O.Sink in
     let request = c.in-Ok-Some.request in
     let are : Some request ≡ command (texts c.args.words.items) = sym c.in-Ok-Some.field-0-is ∙ c.in-Ok-Some.ensures.command ∙ ap (λ (ws : List (String Global)). command (texts ws)) c.as_slice.ensures.value in
-    IfReadFault-map c.perform.result (λ file. IsFileFault c.args.limits (H.content c.args.shelf.now) (task_of request) file H.read_faults H.read_last c.args.shelf.now c.perform.new.shelf c.args.input.now c.perform.new.input
-    ⊎ (AreAccepted c.args.limits (H.content c.args.shelf.now) (task_of request).reads H.read_faults H.read_last c.args.shelf.now c.perform.new.shelf × IsInputFault c.args.limits (task_of request).reads_input file (I.left c.args.input.now) (I.left c.perform.new.input) (I.faults c.args.input.now) (I.faults c.perform.new.input))) (λ file. IsSomeAnd (command (texts c.args.words.items)) (λ (r : Request). IsFileFault c.args.limits (H.content c.args.shelf.now) (task_of r) file H.read_faults H.read_last c.args.shelf.now c.perform.new.shelf c.args.input.now c.perform.new.input
+    IfReadFault-map c.perform.result (λ file. IsFileFault c.args.limits (H.content c.args.shelf.now) (task_of request) file H.read_faults H.read_last c.args.shelf.now c.perform.new.shelf c.args.input.now c.perform.new.input (H.opens c.args.shelf.now) (H.opens c.perform.new.shelf)
+    ⊎ (AreAccepted c.args.limits (H.content c.args.shelf.now) (task_of request).reads H.read_faults H.read_last c.args.shelf.now c.perform.new.shelf × IsInputFault c.args.limits (task_of request).reads_input file (I.left c.args.input.now) (I.left c.perform.new.input) (I.faults c.args.input.now) (I.faults c.perform.new.input))) (λ file. IsSomeAnd (command (texts c.args.words.items)) (λ (r : Request). IsFileFault c.args.limits (H.content c.args.shelf.now) (task_of r) file H.read_faults H.read_last c.args.shelf.now c.perform.new.shelf c.args.input.now c.perform.new.input (H.opens c.args.shelf.now) (H.opens c.perform.new.shelf)
     ⊎ (AreAccepted c.args.limits (H.content c.args.shelf.now) (task_of r).reads H.read_faults H.read_last c.args.shelf.now c.perform.new.shelf × IsInputFault c.args.limits (task_of r).reads_input file (I.left c.args.input.now) (I.left c.perform.new.input) (I.faults c.args.input.now) (I.faults c.perform.new.input))))
-    (λ file. subst (λ o. IsSomeAnd o (λ (r : Request). IsFileFault c.args.limits (H.content c.args.shelf.now) (task_of r) file H.read_faults H.read_last c.args.shelf.now c.perform.new.shelf c.args.input.now c.perform.new.input
+    (λ file. subst (λ o. IsSomeAnd o (λ (r : Request). IsFileFault c.args.limits (H.content c.args.shelf.now) (task_of r) file H.read_faults H.read_last c.args.shelf.now c.perform.new.shelf c.args.input.now c.perform.new.input (H.opens c.args.shelf.now) (H.opens c.perform.new.shelf)
     ⊎ (AreAccepted c.args.limits (H.content c.args.shelf.now) (task_of r).reads H.read_faults H.read_last c.args.shelf.now c.perform.new.shelf × IsInputFault c.args.limits (task_of r).reads_input file (I.left c.args.input.now) (I.left c.perform.new.input) (I.faults c.args.input.now) (I.faults c.perform.new.input)))) are) c.perform.ensures.read_fault
 
 pub returns-in-Ok-Some-clause-write_fault : goal.returns-in-Ok-Some-clause-write_fault
@@ -201,6 +201,12 @@ returns-in-Ok-Some-clause-no_files g c =
     let are : Some request ≡ command (texts c.args.words.items) = sym c.in-Ok-Some.field-0-is ∙ c.in-Ok-Some.ensures.command ∙ ap (λ (ws : List (String Global)). command (texts ws)) c.as_slice.ensures.value in
     subst (λ o. IfSome o (λ (r : Request). (task_of r).writes_files ≡ false → IsUnwritten (H.content c.args.shelf.now) (H.content c.perform.new.shelf) H.write_faults H.write_last c.args.shelf.now c.perform.new.shelf)) are c.perform.ensures.no_files
 
+pub returns-in-Ok-Some-clause-opens : goal.returns-in-Ok-Some-clause-opens
+returns-in-Ok-Some-clause-opens g c =
+    let H = g.H.Shelf in
+    let are : Some c.in-Ok-Some.request ≡ command (texts c.args.words.items) = sym c.in-Ok-Some.field-0-is ∙ c.in-Ok-Some.ensures.command ∙ ap (λ (ws : List (String Global)). command (texts ws)) c.as_slice.ensures.value in
+    subst (λ o. H.opens c.perform.new.shelf ≤ H.opens c.args.shelf.now + files_read o) are c.perform.ensures.opens
+
 pub returns-in-Ok-Some-clause-input : goal.returns-in-Ok-Some-clause-input
 returns-in-Ok-Some-clause-input g c =
     let H = g.H.Shelf in
@@ -219,9 +225,9 @@ returns-in-Ok-Some-clause-complete g c other files bytes words told given none s
     let are : Some request ≡ command (texts c.args.words.items) = sym c.in-Ok-Some.field-0-is ∙ c.in-Ok-Some.ensures.command ∙ ap (λ (ws : List (String Global)). command (texts ws)) c.as_slice.ensures.value in
     let same : request ≡ other = some_same request other (are ∙ words) in
     complete (texts c.args.words.items) other c.args.limits (H.content c.args.shelf.now) (I.left c.args.input.now) words (H.content c.perform.new.shelf) (O.held c.args.out.now) (O.held c.perform.new.out) (O.faults c.args.out.now) (O.faults c.perform.new.out) H.write_faults H.write_last c.args.shelf.now c.perform.new.shelf
-    files bytes told given H.read_faults H.read_last c.args.input.now c.perform.new.input (I.left c.args.input.now) (I.left c.perform.new.input) (I.faults c.args.input.now) (I.faults c.perform.new.input) c.perform.result
+    files bytes told given H.read_faults H.read_last c.args.input.now c.perform.new.input (I.left c.args.input.now) (I.left c.perform.new.input) (I.faults c.args.input.now) (I.faults c.perform.new.input) (H.opens c.args.shelf.now) (H.opens c.perform.new.shelf) c.perform.result
     (subst (λ (r : Request). Runs (OnTold (task_of r) c.args.limits (H.content c.args.shelf.now) (I.left c.args.input.now)) c.perform.result (H.content c.args.shelf.now) (H.content c.perform.new.shelf) (O.held c.args.out.now) (O.held c.perform.new.out) (O.faults c.args.out.now) (O.faults c.perform.new.out) H.write_faults H.write_last c.args.shelf.now c.perform.new.shelf) same c.perform.ensures.runs)
-    (subst (λ (r : Request). IfReadFault c.perform.result (λ file. IsFileFault c.args.limits (H.content c.args.shelf.now) (task_of r) file H.read_faults H.read_last c.args.shelf.now c.perform.new.shelf c.args.input.now c.perform.new.input
+    (subst (λ (r : Request). IfReadFault c.perform.result (λ file. IsFileFault c.args.limits (H.content c.args.shelf.now) (task_of r) file H.read_faults H.read_last c.args.shelf.now c.perform.new.shelf c.args.input.now c.perform.new.input (H.opens c.args.shelf.now) (H.opens c.perform.new.shelf)
     ⊎ (AreAccepted c.args.limits (H.content c.args.shelf.now) (task_of r).reads H.read_faults H.read_last c.args.shelf.now c.perform.new.shelf × IsInputFault c.args.limits (task_of r).reads_input file (I.left c.args.input.now) (I.left c.perform.new.input) (I.faults c.args.input.now) (I.faults c.perform.new.input)))) same c.perform.ensures.read_fault)
     none shelf from writes sink
 
@@ -234,8 +240,8 @@ returns-in-Ok-Some-clause-not_accepted g c other files bytes file rec why words 
     let are : Some request ≡ command (texts c.args.words.items) = sym c.in-Ok-Some.field-0-is ∙ c.in-Ok-Some.ensures.command ∙ ap (λ (ws : List (String Global)). command (texts ws)) c.as_slice.ensures.value in
     let same : request ≡ other = some_same request other (are ∙ words) in
     not_accepted (texts c.args.words.items) other c.args.limits (H.content c.args.shelf.now) (I.left c.args.input.now) words (H.content c.perform.new.shelf) (O.held c.args.out.now) (O.held c.perform.new.out) (O.faults c.args.out.now) (O.faults c.perform.new.out) H.write_faults H.write_last c.args.shelf.now c.perform.new.shelf
-    files bytes told given H.read_faults H.read_last c.args.input.now c.perform.new.input (I.left c.args.input.now) (I.left c.perform.new.input) (I.faults c.args.input.now) (I.faults c.perform.new.input) c.perform.result file rec why
+    files bytes told given H.read_faults H.read_last c.args.input.now c.perform.new.input (I.left c.args.input.now) (I.left c.perform.new.input) (I.faults c.args.input.now) (I.faults c.perform.new.input) (H.opens c.args.shelf.now) (H.opens c.perform.new.shelf) c.perform.result file rec why
     (subst (λ (r : Request). Runs (OnTold (task_of r) c.args.limits (H.content c.args.shelf.now) (I.left c.args.input.now)) c.perform.result (H.content c.args.shelf.now) (H.content c.perform.new.shelf) (O.held c.args.out.now) (O.held c.perform.new.out) (O.faults c.args.out.now) (O.faults c.perform.new.out) H.write_faults H.write_last c.args.shelf.now c.perform.new.shelf) same c.perform.ensures.runs)
-    (subst (λ (r : Request). IfReadFault c.perform.result (λ file. IsFileFault c.args.limits (H.content c.args.shelf.now) (task_of r) file H.read_faults H.read_last c.args.shelf.now c.perform.new.shelf c.args.input.now c.perform.new.input
+    (subst (λ (r : Request). IfReadFault c.perform.result (λ file. IsFileFault c.args.limits (H.content c.args.shelf.now) (task_of r) file H.read_faults H.read_last c.args.shelf.now c.perform.new.shelf c.args.input.now c.perform.new.input (H.opens c.args.shelf.now) (H.opens c.perform.new.shelf)
     ⊎ (AreAccepted c.args.limits (H.content c.args.shelf.now) (task_of r).reads H.read_faults H.read_last c.args.shelf.now c.perform.new.shelf × IsInputFault c.args.limits (task_of r).reads_input file (I.left c.args.input.now) (I.left c.perform.new.input) (I.faults c.args.input.now) (I.faults c.perform.new.input)))) same c.perform.ensures.read_fault)
     some shelf from

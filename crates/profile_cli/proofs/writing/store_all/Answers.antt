@@ -1,4 +1,4 @@
-use Rattle.std.proofs.Common.{◌≡◌, ◌∙◌, ◌∷◌, ℕ, List, [], length, take, sym, subst, Option}
+use Rattle.std.proofs.Common.{◌≡◌, ◌∙◌, ◌∷◌, ℕ, List, [], length, take, refl, sym, subst, Option}
 use Rattle.std.specs.Option.{option_map}
 use Rattle.std.proofs.lemmas.List.{length-append}
 use Rattle.std.proofs.lemmas.Iterator.Adapters.{YieldsList-from_vec}
@@ -21,6 +21,7 @@ loop-name-init g c =
       closed = c.requires;
       writes = SameFaults-refl H.write_faults H.write_last c.args.shelf.now;
       reads = SameFaults-refl H.read_faults H.read_last c.args.shelf.now;
+      opens = refl;
     }
 
 pub loop-name-preserved : goal.loop-name-preserved
@@ -40,6 +41,7 @@ loop-name-preserved g c =
       closed = c.in-Stored.ensures.closed;
       writes = SameFaults-trans H.write_faults H.write_last c.args.shelf.now c.loop-name.shelf c.store_file.new.shelf c.loop-name.invariant.writes c.in-Stored.ensures.writes;
       reads = SameFaults-trans H.read_faults H.read_last c.args.shelf.now c.loop-name.shelf c.store_file.new.shelf c.loop-name.invariant.reads c.in-Stored.ensures.reads;
+      opens = c.in-Stored.ensures.opens ∙ c.loop-name.invariant.opens;
     }
 
 pub returns-in-Failed-clause-stored : goal.returns-in-Failed-clause-stored

@@ -13,4 +13,5 @@ invariant-loop-name g l =
       closed : H.opened l.shelf ≡ Nothing;
       writes : SameFaults H.write_faults H.write_last l.fn.shelf l.shelf;
       reads : SameFaults H.read_faults H.read_last l.fn.shelf l.shelf;
+      opens : H.opens l.shelf ≡ H.opens l.fn.shelf;
     }

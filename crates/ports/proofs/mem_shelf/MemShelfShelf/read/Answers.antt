@@ -2,7 +2,7 @@ use Rattle.std.proofs.Common.{◌≡◌, ◌<◌, ◌∙◌, ap, length, min, dr
 use Rattle.std.proofs.lemmas.List.{get_or_read}
 use Rattle.ports.specs.Lists.{file_at}
 use Rattle.ports.specs.Memory.{read_answer}
-use Rattle.ports.proofs.Moving.{ReadMoves-from, ReadMoves-wider, within-read}
+use Rattle.ports.proofs.Moving.{LeavesRest-front, ReadMoves-from, ReadMoves-wider, within-read}
 use Rattle.ports.proofs.Places.{place-lt}
 use Rattle.ports.proofs.mem_shelf.MemShelfShelf.read.Goals as goal
 
@@ -48,6 +48,11 @@ returns-clause-moved c =
     let room : 0 < length c.copy_from-count.new.buffer = search (rules, c.self.invariant.largest) in
     rw (c.reading_of.ensures, ← c.self.view_is, c.in-Reading.is)
     (ReadMoves-wider _ c.copy_from-count.new.buffer _ _ _ (ReadMoves-from s.at _ _ _ room (rw text at copied.count) (rw text at copied.copied)))
+
+pub returns-clause-rest : goal.returns-clause-rest
+returns-clause-rest c =
+    let copied = c.copy_from-count.ensures in
+    rw c.reading_of.ensures (LeavesRest-front c.copy_from-count.result c.min-most.result c.args.buffer.now c.copy_from-count.new.buffer (search rules) (search rules) copied.rest)
 
 pub returns-clause-answer : goal.returns-clause-answer
 returns-clause-answer c =

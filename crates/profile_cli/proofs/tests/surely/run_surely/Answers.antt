@@ -58,7 +58,7 @@ module _ (words : List Text) (request : Request) (limits : Limits) (old new : Su
 
   surely : (o : Outcome) → OnUsage o (command words ≡ None)
       → IfRefused o (λ file rec why. IsSomeAnd (command words) (λ r. OnSources (task_of r) (sure_content old) (Some input) (λ files all. refusal (task_of r) limits files all ≡ Some (file, rec, why))))
-      → IfReadFault o (λ file. IsSomeAnd (command words) (λ r. IsFileFault limits (sure_content old) (task_of r) file (λ (s : SureFiles). 0) (λ (s : SureFiles). None) old new input input'
+      → IfReadFault o (λ file. IsSomeAnd (command words) (λ r. IsFileFault limits (sure_content old) (task_of r) file (λ (s : SureFiles). 0) (λ (s : SureFiles). None) old new input input' old.opens new.opens
       ⊎ (AreAccepted limits (sure_content old) (task_of r).reads (λ (s : SureFiles). 0) (λ (s : SureFiles). None) old new × IsInputFault limits (task_of r).reads_input file (Some input) (Some input') 0 0)))
       → OnWriteFault o (IsSomeAnd (command words) (λ r. OnSources (task_of r) (sure_content old) (Some input) Stops)) → IsDoneOrNoMemory o
   surely Done usage refused read_fault write_fault = tt
@@ -66,10 +66,10 @@ module _ (words : List Text) (request : Request) (limits : Limits) (old new : Su
   surely (Refused file rec why) usage refused read_fault write_fault =
       let known = subst (λ c. IsSomeAnd c (λ r. OnSources (task_of r) (sure_content old) (Some input) (λ files all. refusal (task_of r) limits files all ≡ Some (file, rec, why)))) is refused in
       none_is_some (file, rec, why) (sym none ∙ at (task_of request).reads_input (Some input) bytes (λ all. refusal (task_of request) limits (look_up old.files) all ≡ Some (file, rec, why)) given known)
-  surely (ReadFault file) usage refused read_fault write_fault = failed (subst (λ c. IsSomeAnd c (λ r. IsFileFault limits (sure_content old) (task_of r) file (λ (s : SureFiles). 0) (λ (s : SureFiles). None) old new input input'
+  surely (ReadFault file) usage refused read_fault write_fault = failed (subst (λ c. IsSomeAnd c (λ r. IsFileFault limits (sure_content old) (task_of r) file (λ (s : SureFiles). 0) (λ (s : SureFiles). None) old new input input' old.opens new.opens
       ⊎ (AreAccepted limits (sure_content old) (task_of r).reads (λ (s : SureFiles). 0) (λ (s : SureFiles). None) old new × IsInputFault limits (task_of r).reads_input file (Some input) (Some input') 0 0))) is read_fault)
     where
-      failed : IsFileFault limits (sure_content old) (task_of request) file (λ (s : SureFiles). 0) (λ (s : SureFiles). None) old new input input'
+      failed : IsFileFault limits (sure_content old) (task_of request) file (λ (s : SureFiles). 0) (λ (s : SureFiles). None) old new input input' old.opens new.opens
           ⊎ (AreAccepted limits (sure_content old) (task_of request).reads (λ (s : SureFiles). 0) (λ (s : SureFiles). None) old new × IsInputFault limits (task_of request).reads_input file (Some input) (Some input') 0 0) → ⊥
       failed (inl x) = none_is_some file x.shelf.name_is
       failed (inr x) = let risen : 0 ≡ 18446744073709551615 = x.1.rose.risen refl in omega arith
