@@ -1,6 +1,6 @@
-use crate::words::{WordsFault, end_without};
 use crate::file_shelf::FileShelf;
 use crate::streams::{StandardIn, StandardOut, write_some};
+use crate::words::{WordsFault, end_without};
 use ports::{
     Closing, Creating, Loading, OpenGate, Reading, Shelf, Sink, Source, Storing, SureSink, Writing,
     load_file, store_file,

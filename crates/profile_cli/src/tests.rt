@@ -168,9 +168,11 @@ fn extent_on(
 
 // Whether a run wrote all that it is to.
 fn is_whole(alloc: Global, case: &Case<'_>, done: &Ran) -> Result<bool, AllocError> {
-    Ok(done.outcome.status() == case.status
-        && extent_of(&done.text, case.text) == Extent::Whole
-        && extent_on(alloc, &done.shelf, case.tables)? == Extent::Whole)
+    Ok(
+        done.outcome.status() == case.status
+            && extent_of(&done.text, case.text) == Extent::Whole
+            && extent_on(alloc, &done.shelf, case.tables)? == Extent::Whole,
+    )
 }
 
 // Asserts that a run writes what it is to.

@@ -4,7 +4,9 @@ ghost use Rattle.std.specs.Prelude.{◌<◌};
 use super::sessions::K;
 use super::tables::{R_TABLE_LINES, R_TABLES};
 use super::words::USAGE;
-use super::{Case, Extent, Outside, R, R_REPORT, Ran, SURE, extent_of, extent_on, is_whole, run_of};
+use super::{
+    Case, Extent, Outside, R, R_REPORT, Ran, SURE, extent_of, extent_on, is_whole, run_of,
+};
 use crate::Outcome;
 use ports::Kind;
 use rel_base::{Limits, Name, Why};
@@ -222,7 +224,9 @@ static ENDS: [(&[&str], End, u64); 3] = [
 ];
 
 #[test]
-fn an_end_has_its_file_record_and_cause_and_opens_none_behind_it(rt: HostRuntime) -> Result<(), Fail> {
+fn an_end_has_its_file_record_and_cause_and_opens_none_behind_it(
+    rt: HostRuntime,
+) -> Result<(), Fail> {
     for (words, end, opens) in &ENDS {
         let wanted = match end {
             End::Refused(file, rec, why) => Outcome::Refused {

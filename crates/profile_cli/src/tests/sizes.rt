@@ -225,7 +225,11 @@ static CELLS: [(&str, usize, &str); 3] = [
 ];
 
 // What `profile` comes to over a file with this text.
-fn profiled<H: Threads + Wait + Sync>(rt: &H, alloc: Global, text: &str) -> Result<Ran, AllocError> {
+fn profiled<H: Threads + Wait + Sync>(
+    rt: &H,
+    alloc: Global,
+    text: &str,
+) -> Result<Ran, AllocError> {
     let case = Case {
         words: &["depprof", "profile", "w.csv"],
         files: &[("w.csv", text)],
