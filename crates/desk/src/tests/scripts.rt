@@ -336,6 +336,34 @@ fn finishes(mut book: Book, key: ColSet, fds: &[Fd]) -> Result<bool, AllocError>
     Ok(keys.len() == 1 && keys[0] == key && found.fds() == fds)
 }
 
+// Whether these calls leave these candidates, one witness, and 5 as the next number.
+fn leaves<R: Wait + Abort>(
+    rt: &R,
+    alloc: Global,
+    number: u32,
+    turns: &[Turn],
+    wanted: &[Left],
+) -> Result<bool, AllocError> {
+    let book = book_after(rt, alloc, number, turns)?;
+    let is_noted = book.witnesses().len() == 1 && book.rows().next().number() == 5;
+    let found = candidates_of(rt, alloc, book)?;
+    Ok(is_noted && are_left(found.as_slice(), wanted))
+}
+
+// Where memory is refused to a draw, a refutation or a batch, the call is made again: each answers, and all of them leave, what
+// they do with memory to spare.
+#[test]
+fn calls_beside_a_batch_may_be_made_again(rt: HostRuntime) -> Result<(), Fail> {
+    assert!(rt; leaves(&rt, rt.alloc(), 2, &BESIDE, AFTER_RELEASE)?);
+    Ok(())
+}
+
+#[test]
+fn calls_before_late_jobs_may_be_made_again(rt: HostRuntime) -> Result<(), Fail> {
+    assert!(rt; leaves(&rt, rt.alloc(), 3, &LATE, BACK_MARKED)?);
+    Ok(())
+}
+
 #[test]
 fn a_closed_book_finds_its_covers(rt: HostRuntime) -> Result<(), Fail> {
     let book = book_after(&rt, rt.alloc(), 2, &BESIDE)?;
@@ -354,6 +382,8 @@ fn a_book_finds_its_covers_after_late_jobs(rt: HostRuntime) -> Result<(), Fail> 
 #[test]
 fn a_refused_batch_changes_nothing(rt: HostRuntime) -> Result<(), Fail> {
     let book = book_after(&rt, rt.alloc(), 2, &REFUSED)?;
-    assert!(rt; book.rows().next().number() == 4 && book.witnesses().len() == 1);
+    let rows = book.rows();
+    assert!(rt; rows.next().number() == 4 && rows.live_len() == 3);
+    assert!(rt; book.witnesses().len() == 1);
     Ok(())
 }
