@@ -1,7 +1,7 @@
 -- What the scripts of the tests keep.
-use Rattle.std.proofs.Common.{◌≡◌, ℕ, List, [], ◌∷◌, ◌++◌, refl, sym, ap, ◌∙◌, subst, inl, inr, ⊎_elim}
+use Rattle.std.proofs.Common.{◌≡◌, ℕ, List, [], ◌∷◌, ◌++◌, sym, ap, ◌∙◌, subst, ⊎_elim}
 use Rattle.std.specs.List.{All}
-use Rattle.col_set.specs.Lists.{Listed, Listed-append_cases}
+use Rattle.col_set.specs.Lists.{Listed-append_cases}
 use Rattle.rel_base.specs.JobParts.{JobParts}
 use Rattle.rel_base.proofs.States.{All-from, All-listed}
 use Rattle.cover_steps.specs.declared.step.Call.{Call}
