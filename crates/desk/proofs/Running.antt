@@ -1,5 +1,5 @@
 -- A legal history at the desk is a list of steps of the shared cover.
-use Rattle.std.proofs.Common.{◌≡◌, ℕ, None, List, [], ◌∷◌, ◌++◌, refl, sym, ap, ◌∙◌, subst}
+use Rattle.std.proofs.Common.{◌≡◌, ℕ, None, List, [], ◌∷◌, ◌++◌, refl, sym, subst}
 use Rattle.std.specs.List.{Contains}
 use Rattle.std.proofs.lemmas.List.{map-append}
 use Rattle.rel_base.specs.JobParts.{JobParts}
@@ -7,9 +7,8 @@ use Rattle.rel_base.specs.Covers.{CoverLists, covers}
 use Rattle.negative_cover.specs.declared.negative_cover.Witness.{Witness}
 use Rattle.cover_steps.specs.declared.step.Call.{Call}
 use Rattle.cover_steps.specs.declared.step.Call.TheVariants as calls
-use Rattle.cover_steps.specs.declared.step.Reply.{Reply as Answer}
 use Rattle.cover_steps.specs.Core.{Core, first_unfinished, witness_of}
-use Rattle.cover_steps.specs.Sound.{Sound, SoundWith, Fits}
+use Rattle.cover_steps.specs.Sound.{Sound, Fits}
 use Rattle.cover_steps.specs.Laws.{ready, booking, Stands, JobsOfTheSameRows, RowsAreAfter, WitnessesStay}
 use Rattle.cover_steps.specs.Histories.{Runs, rows_after, IsQuiet, Entry as Turn}
 use Rattle.cover_steps.proofs.Whole.{ready-exact}
@@ -22,7 +21,6 @@ use Rattle.cover_core.specs.declared.answers.Settling.TheVariants as settlings
 use Rattle.cover_core.specs.declared.answers.Refutation.TheVariants as refutations
 use Rattle.cover_core.specs.Replies.{IfJob, IfReady}
 use Rattle.desk_lock.specs.declared.history.Entry.{Entry}
-use Rattle.desk_lock.specs.declared.view.View.{View}
 use Rattle.desk_lock.specs.History.{entry, Begins, LegalFrom, Legal}
 use Rattle.desk_lock.specs.Passes.{view, IsEnd}
 use Rattle.desk_lock.proofs.Histories.{legal-begins}

@@ -8,7 +8,6 @@ use Rattle.rel_base.specs.declared.batch.Op.{Op}
 use Rattle.rel_base.specs.JobParts.{JobParts}
 use Rattle.rel_base.specs.RowState.{IsRowState, width}
 use Rattle.rel_base.specs.Batches.{IsAsWide}
-use Rattle.rel_base.specs.Laws.{Follows}
 use Rattle.rel_base.proofs.States.{All-from, All-listed}
 use Rattle.cover_steps.specs.declared.step.Call.{Call}
 use Rattle.cover_steps.specs.declared.step.Call.TheVariants.{Draw, Refute, Mark, Release, Apply, Settle}

@@ -1,5 +1,5 @@
 -- What every schedule of the threads comes to: laws of legal histories of the book.
-use Rattle.std.specs.Prelude.{◌≡◌, ℕ, None, List, [], ◌∷◌, ◌++◌}
+use Rattle.std.specs.Prelude.{◌≡◌, ℕ, None, [], ◌∷◌, ◌++◌}
 use Rattle.std.specs.List.{Contains}
 use Rattle.rel_base.specs.JobParts.{JobParts}
 use Rattle.rel_base.specs.Covers.{CoverLists, covers}

@@ -1,3 +1,4 @@
 pub mod Turns
 pub mod Desks
 pub mod Laws
+pub mod Tests

@@ -1,15 +1,18 @@
-// The calls of the desk on three small rows: by threads beside each other.
-ghost use Rattle.std.specs.Prelude.{◌≡◌, ◌<◌, ◌≤◌, IfOk};
+// The calls of the desk on three small rows: in scripts of two passes, and by threads beside each other.
+ghost use Rattle.std.specs.Prelude.{◌≡◌, ◌<◌, ◌≤◌, true, IfOk};
 ghost use Rattle.rel_base.specs.RowState.{width};
 ghost use Rattle.desk.specs.Desks.{opened_book, IsAt};
 ghost use Rattle.desk_lock.specs.Passes.{view};
 
+mod candidates;
+mod party;
+mod scripts;
 mod threads;
 
 use crate::{Desk, FeederPass, NoMemory};
 use cover_core::Book;
 use plain_base::relation_of;
-use rel_base::{Batch, Limits, Op, Row, RowNo};
+use rel_base::{Batch, ColSet, Limits, MOST_COLUMNS, Op, Row, RowNo};
 use std::alloc::{AllocError, Global};
 use std::process::Abort;
 
@@ -40,6 +43,22 @@ fn opened(rt: &impl Abort, alloc: Global, passes: u32) -> Result<(Desk, FeederPa
         Ok(both) => Ok(both),
         Err(NoMemory(again)) => Desk::open(alloc, again, passes).map_err(|_| AllocError),
     }
+}
+
+fn columns(list: &[u8]) -> ColSet {
+    let mut set = ColSet::empty();
+    for column in list {
+        if *column < MOST_COLUMNS {
+            set = set.with(*column);
+        }
+    }
+    set
+}
+
+// The batch that inserts a row of two cells.
+fn insertion(alloc: Global, k: &[u8], v: &[u8]) -> Result<Batch, AllocError> {
+    let row = Row::copied(alloc, &[k, v])?;
+    Ok(Batch::of(vec![in alloc; Op::Insert(row)]?))
 }
 
 // The batch that deletes a row.
