@@ -18,10 +18,12 @@ use crate::cand_list::CandList;
 use crate::draft::Draft;
 use crate::explore::explored;
 use crate::growth::choices;
+use crate::old_list::OldList;
 use crate::part::{Part, generalised, in_order, specialised};
 use rel_base::{ColSet, MOST_COLUMNS, RowNo, Steps, Target};
 use std::alloc::{AllocError, Global};
 use std::marker::Model;
+use std::mem;
 use std::sync::ledger::Ledger;
 
 /// For each target, which row it is and each of the columns, its candidates with their marks, in report order.
@@ -160,15 +162,17 @@ impl CandidateCover {
         Ok(Some(Part::of(made)))
     }
 
-    /// Makes the part the target's list.
-    pub fn put(&mut self, target: Target, part: Part)
+    /// Makes the part the target's list, and hands out the one that stood there, so that its caller chooses when to let go of it.
+    pub fn put(&mut self, target: Target, part: Part) -> OldList
         requires { IsColumnTarget (width self.old) target }
         ensures { self.new ≡ with_list self.old target part }
     {
         let list = part.into_list();
         match target {
-            Target::Col(column) => self.columns[column as usize] = list,
-            Target::RowId => self.rows = list,
+            Target::Col(column) => {
+                OldList::of(mem::replace(&mut self.columns[column as usize], list))
+            }
+            Target::RowId => OldList::of(mem::replace(&mut self.rows, list)),
         }
     }
 

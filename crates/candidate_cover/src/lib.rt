@@ -9,6 +9,7 @@ mod candidate_cover;
 mod draft;
 mod explore;
 mod growth;
+mod old_list;
 mod part;
 mod place;
 #[cfg(test)]
@@ -17,4 +18,5 @@ mod tests;
 pub use cand::{Cand, Marking};
 pub use candidate_cover::CandidateCover;
 pub use draft::Draft;
+pub use old_list::OldList;
 pub use part::Part;

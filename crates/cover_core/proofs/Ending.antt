@@ -1,6 +1,8 @@
 -- Which rows are live after a batch, and what the witnesses that are left leave.
 use Rattle.std.proofs.Common.{inl, inr, ◌≡◌, ◌⊎◌, ℕ, ◌+◌, ◌<◌, eqb, Bool, true, false, cond, not, ◌&&◌, ◌||◌, refl, sym, ap, ap₂, ◌∙◌, subst, arith, List, [], ◌∷◌, ◌++◌, length, get_or, take, Some, None, Result, Ok, Err}
 use Rattle.std.specs.List.{All, filter, list_any}
+use Rattle.std.specs.Prelude.{IsPermutation}
+use Rattle.std.proofs.lemmas.List.Sorted.{list_any-IsPermutation}
 use Rattle.std.proofs.lemmas.Bool.{true≢false, eq-eqb, ne_eqb, and_parts, cases_eq, false_from_ne_true}
 use Rattle.std.proofs.lemmas.List.{append-nil, length-append, take_more}
 use Rattle.col_set.specs.declared.target.Target.{Target}
@@ -21,7 +23,7 @@ use Rattle.rel_base.specs.Batches.{is_live, is_full, inserted, deleted, applied,
 use Rattle.rel_base.proofs.States.{All-listed, live_numbered}
 use Rattle.negative_cover.specs.declared.negative_cover.Witness.{Witness}
 use Rattle.cover_steps.specs.Core.{standing}
-use Rattle.negative_cover.specs.Witnesses.{sets_of}
+use Rattle.negative_cover.specs.Witnesses.{sets_of, has_dead, live_of}
 use Rattle.cover_steps.specs.Sound.{IsWitness}
 use Rattle.cover_steps.proofs.Exact.{least-same}
 use Rattle.cover_core.specs.EndedRows.{ended, ended_row}
@@ -221,3 +223,11 @@ ended-more_none ops k op rows l is e was = was ∙ sym (append-nil (ended (take 
     one (Insert new) e = refl
     one (Delete m) e = absurd (cc)
     one (Update m new) e = absurd (cc)
+
+-- ---- rows that end in another order
+has_dead-permuted : (xs ys : List ℕ) (w : Witness) → IsPermutation xs ys → has_dead ys w ≡ has_dead xs w
+has_dead-permuted xs ys w p = ap₂ (λ (a b : Bool). a || b) (sym (list_any-IsPermutation (λ d. eqb d w.i) xs ys p)) (sym (list_any-IsPermutation (λ d. eqb d w.j) xs ys p))
+
+-- the witnesses that stay, and those that go, are the same in whatever order the rows that end are listed
+pub live_of-permuted : (xs ys : List ℕ) (ws : List Witness) → IsPermutation xs ys → live_of ys ws ≡ live_of xs ws
+live_of-permuted xs ys ws p = filter_same (λ w. not (has_dead ys w)) (λ w. not (has_dead xs w)) ws (λ w l. ap not (has_dead-permuted xs ys w p))

@@ -1,4 +1,4 @@
-// The book.
+// One relation with its witnesses and candidates, and the calls on them.
 ghost use Rattle.std.specs.Prelude.{◌≡◌, ◌≢◌, ◌<◌, ◌^◌, ◌↔◌, true, false, None, IfOk, IsTrue, OnOk, OnErr};
 ghost use Rattle.std.specs.Bool.{OnTrue, OnFalse};
 ghost use Rattle.std.specs.List.{All};
@@ -26,6 +26,7 @@ use crate::cursor::{Cursors, Unfinished, is_late};
 use crate::evidence::{Evidence, is_told, news_of, push_evidence, recent};
 use crate::listed::listed;
 use crate::order::Order;
+use crate::outdated::Outdated;
 use crate::parts::{drafted, put_all, specialised};
 use crate::renewal::renewed_after;
 use crate::sampling::sampled;
@@ -38,6 +39,7 @@ use rel_base::{Batch, Covers, Job, Limits, Nulls, Relation, RowNo, Snapshot, Tar
 use row_log::{Applying, RowLog};
 use std::alloc::{AllocError, Global};
 use std::marker::{Brand, Model};
+use std::mem;
 use std::sync::Arc;
 use std::sync::ledger::Blank;
 use validator::Store;
@@ -67,6 +69,8 @@ pub struct Book {
     // That of the columns when the book was opened. It only decides which verdicts share groups of rows, and batches change it
     // little.
     order: Order,
+    // What the last refutation or batch put something else in place of, until it is asked for, or another one comes.
+    outdated: Outdated,
     alloc: Global,
 }
 
@@ -121,6 +125,7 @@ impl Book {
             cursors,
             first,
             order,
+            outdated: Outdated::nothing(alloc),
             alloc,
         })
     }
@@ -185,7 +190,7 @@ impl Book {
         }
         let parts = specialised(self.alloc, &self.candidates, agree, &concerned)?;
         self.witnesses.add(Witness { i, j, agree })?;
-        put_all(&mut self.candidates, parts);
+        self.outdated = Outdated::of_lists(put_all(&mut self.candidates, parts));
         let next = self.rows.next();
         move_both_back(&self.candidates, &concerned, &mut self.cursors, next);
         self.first = first_unfinished(&self.candidates, &mut self.cursors.unfinished, next);
@@ -257,9 +262,10 @@ impl Book {
         match made {
             Ok(made) => {
                 self.witnesses.withdraw(made.dead.as_slice());
-                put_all(&mut self.candidates, made.parts);
-                self.snapshot = made.snapshot;
-                self.store.renew(self.alloc, made.shared);
+                let lists = put_all(&mut self.candidates, made.parts);
+                let snapshot = mem::replace(&mut self.snapshot, made.snapshot);
+                let groups = self.store.renew(self.alloc, made.shared);
+                self.outdated = Outdated::of_batch(lists, groups, snapshot);
                 self.cursors = Cursors::start();
                 let next = self.rows.next();
                 self.first = first_unfinished(&self.candidates, &mut self.cursors.unfinished, next);
@@ -303,6 +309,14 @@ impl Book {
         self.first
     }
 
+    /// What the last refutation or batch put something else in place of. Where many share the book, letting go of it is for a time
+    /// when nobody waits; who does not ask has it let go of by the next such call, or by `finish`. It takes no memory.
+    pub fn take_outdated(&mut self) -> Outdated
+        ensures { self.new ≡ self.old }
+    {
+        mem::replace(&mut self.outdated, Outdated::nothing(self.alloc))
+    }
+
     /// Finds the covers of the rows (HyFD, Papenbrock and Naumann, 2016).
     ///
     /// It lets go of all candidates, so that none is held when it answers; jobs that are out may still come back. A book without
@@ -330,7 +344,7 @@ impl Book {
         self.covers()
     }
 
-    // Lets go of all candidates.
+    // Lets go of all candidates, and of what is outdated.
     fn free(&mut self)
         ensures free { All (λ e. e.1.held ≡ false) (entries self.new) }
         ensures settled { first_unfinished_of self.old ≡ None → first_unfinished_of self.new ≡ None }
@@ -338,6 +352,7 @@ impl Book {
         ensures witnesses { self.new.witnesses ≡ self.old.witnesses }
         ensures sound { Sound self.new }
     {
+        self.outdated = Outdated::nothing(self.alloc);
         self.candidates.free();
         self.cursors = Cursors::start();
         let next = self.rows.next();
@@ -467,7 +482,7 @@ impl Book {
         let news = news_of(alloc, &self.witnesses, &self.candidates, found)?;
         let parts = drafted(alloc, &self.candidates, &news.draft)?;
         self.witnesses.add_all(news.witnesses.as_slice())?;
-        put_all(&mut self.candidates, parts);
+        drop(put_all(&mut self.candidates, parts));
         self.cursors = Cursors::start();
         let next = self.rows.next();
         self.first = first_unfinished(&self.candidates, &mut self.cursors.unfinished, next);

@@ -1,12 +1,21 @@
 // The rows that a batch ends.
-ghost use Rattle.std.specs.Prelude.{◌≡◌, IfOk};
+ghost use Rattle.std.specs.Prelude.{◌≡◌, IfOk, IsPermutation};
 ghost use Rattle.cover_core.specs.EndedRows as spec;
 
 use rel_base::{Batch, Op, RowNo};
 use std::alloc::{AllocError, Global};
 
-// The numbers that are deleted or updated, in order.
+// The numbers that are deleted or updated, ascending, as witnesses are looked up in them.
 pub(crate) fn ended(alloc: Global, batch: &Batch) -> Result<Vec<RowNo>, AllocError>
+    ensures { IfOk result (λ rows. IsPermutation (spec.ended batch.now) rows.items) }
+{
+    let mut rows = ended_in_turn(alloc, batch)?;
+    rows.sort_unstable();
+    Ok(rows)
+}
+
+// The numbers that are deleted or updated, in order of the operations.
+fn ended_in_turn(alloc: Global, batch: &Batch) -> Result<Vec<RowNo>, AllocError>
     ensures { IfOk result (λ rows. rows.items ≡ spec.ended batch.now) }
 {
     let mut rows = Vec::new(alloc);

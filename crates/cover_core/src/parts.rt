@@ -11,16 +11,17 @@ ghost use Rattle.cover_core.specs.Concerning.{concerns, is_open, AreConcerned};
 ghost use Rattle.cover_core.specs.NewLists.{IsPart, AreParts};
 
 use crate::concerned::Concerned;
-use candidate_cover::{CandidateCover, Draft, Part};
+use candidate_cover::{CandidateCover, Draft, OldList, Part};
 use rel_base::{ColSet, MOST_COLUMNS, Steps, Target};
 use std::alloc::{AllocError, Global};
 use std::sync::ledger::Ledger;
 
-// A new list for each target that has one.
+// A new list for each target that has one, and room for the lists that they take the place of.
 #[derive(Drop)]
 pub(crate) struct Parts {
     pub(crate) rows: Option<Part>,
     pub(crate) columns: Vec<Option<Part>>,
+    pub(crate) old: Vec<OldList>,
 }
 
 // What a further agree set leaves of a target's candidates, where it concerns the target.
@@ -58,7 +59,8 @@ pub(crate) fn specialised(
         let part = specialised_part(alloc, candidates, target, agree, concerned)?;
         columns.push(part)?;
     }
-    Ok(Parts { rows, columns })
+    let old = Vec::with_capacity(alloc, columns.len().saturating_add(1))?;
+    Ok(Parts { rows, columns, old })
 }
 
 // Whether one of these agree sets lacks the target.
@@ -114,7 +116,8 @@ pub(crate) fn generalised<L: Ledger>(
         )?;
         columns.push(part)?;
     }
-    Ok(Parts { rows, columns })
+    let old = Vec::with_capacity(alloc, columns.len().saturating_add(1))?;
+    Ok(Parts { rows, columns, old })
 }
 
 // What a draft leaves of a target's candidates, where it has changed them.
@@ -147,23 +150,38 @@ pub(crate) fn drafted(
         let part = drafted_part(alloc, candidates, draft, Target::Col(column))?;
         columns.push(part)?;
     }
-    Ok(Parts { rows, columns })
+    let old = Vec::with_capacity(alloc, columns.len().saturating_add(1))?;
+    Ok(Parts { rows, columns, old })
 }
 
-// Puts the parts in place.
-pub(crate) fn put_all(candidates: &mut CandidateCover, parts: Parts)
+// Keeps a list that is to be let go of.
+fn keep(old: &mut Vec<OldList>, list: OldList) {
+    // There is room, since whoever made the parts made it.
+    let _kept = old.push(list);
+}
+
+// Puts the parts in place, and hands out the lists that stood there. It takes no memory.
+pub(crate) fn put_all(candidates: &mut CandidateCover, parts: Parts) -> Vec<OldList>
     requires { length parts.columns.items ≡ width candidates.old }
     ensures { (ws : List Columns) → AreParts (width candidates.old) ws candidates.old parts.rows parts.columns.items → candidates.new ≡ renewed (width candidates.old) ws candidates.old }
 {
-    let Parts { rows, mut columns } = parts;
+    let Parts {
+        rows,
+        mut columns,
+        mut old,
+    } = parts;
     // `columns` is called for its clause that there are at most `MOST_COLUMNS`.
     let _count = candidates.columns();
     if let Some(part) = rows {
-        candidates.put(Target::RowId, part);
+        keep(&mut old, candidates.put(Target::RowId, part));
     }
     while let Some(part) = columns.pop() {
         if let Some(part) = part {
-            candidates.put(Target::Col(columns.len() as u8), part);
+            keep(
+                &mut old,
+                candidates.put(Target::Col(columns.len() as u8), part),
+            );
         }
     }
+    old
 }

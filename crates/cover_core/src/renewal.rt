@@ -1,5 +1,5 @@
 // What a batch of changes makes of the book, made before the first change.
-ghost use Rattle.std.specs.Prelude.{◌≡◌, ◌<◌, IfOk};
+ghost use Rattle.std.specs.Prelude.{◌≡◌, ◌<◌, IfOk, IsPermutation};
 ghost use Rattle.rel_base.specs.CodeTable.{IsCodeTable};
 ghost use Rattle.rel_base.specs.Shows.{Shows};
 ghost use Rattle.candidate_cover.specs.Cands.{width};
@@ -18,7 +18,7 @@ use std::alloc::{AllocError, Global};
 use std::sync::Arc;
 use std::sync::ledger::{Blank, Ledger};
 
-// The new snapshot with two owners, the rows that end, and the new lists of candidates.
+// The new snapshot with two owners, the rows that end, ascending, and the new lists of candidates.
 #[derive(Drop)]
 pub(crate) struct Renewal {
     pub(crate) snapshot: Arc<Snapshot>,
@@ -43,7 +43,7 @@ pub(crate) fn renewed_after<L: Ledger>(
     ensures snapshot { IfOk result (λ made. Shows made.snapshot.value rows.now) }
     ensures table { IfOk result (λ made. IsCodeTable made.snapshot.value) }
     ensures shared { IfOk result (λ made. made.shared.value ≡ made.snapshot.value) }
-    ensures dead { IfOk result (λ made. made.dead.items ≡ rows_of.ended batch.now) }
+    ensures dead { IfOk result (λ made. IsPermutation (rows_of.ended batch.now) made.dead.items) }
     ensures parts { IfOk result (λ made. AreParts (width candidates.now) (sets_of (live_of (rows_of.ended batch.now) witnesses.now)) candidates.now made.parts.rows made.parts.columns.items) }
 {
     let snapshot = rows.snapshot(alloc)?;

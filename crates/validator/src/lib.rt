@@ -5,6 +5,7 @@ mod chain;
 mod judge;
 mod links;
 mod newer;
+mod old_groups;
 mod refined;
 mod shelf;
 mod store;
@@ -14,5 +15,6 @@ mod verdict;
 mod walk;
 
 pub use judge::validate;
+pub use old_groups::OldGroups;
 pub use store::Store;
 pub use verdict::Verdict;

@@ -96,13 +96,17 @@ fn add_link(links: &mut Vec<Link>, link: Option<Link>)
     }
 }
 
-// The snapshot of which chains are from now on, where a store that had this one goes over to a later one.
-pub(crate) fn kept_earlier(earlier: Option<Arc<Snapshot>>, last: Arc<Snapshot>) -> Arc<Snapshot>
-    ensures { result.value ≡ linked_of (λ e. e.value) last.value earlier }
+// The snapshot of which chains are from now on, where a store that had this one goes over to a later one, and the other one, which
+// is needed no more.
+pub(crate) fn kept_earlier(
+    earlier: Option<Arc<Snapshot>>,
+    last: Arc<Snapshot>,
+) -> (Arc<Snapshot>, Option<Arc<Snapshot>>)
+    ensures { result.0.value ≡ linked_of (λ e. e.value) last.value earlier }
 {
     match earlier {
-        Some(earlier) => earlier,
-        None => last,
+        Some(earlier) => (earlier, Some(last)),
+        None => (last, None),
     }
 }
 

@@ -10,6 +10,7 @@ ghost use Rattle.validator.specs.Verdicts.{AreApart, AreFound, IsFitting, IsVerd
 ghost use Rattle.validator.specs.declared.verdict.Verdict.TheVariants.{Holds, Broken};
 
 use crate::links::{self, Link};
+use crate::old_groups::OldGroups;
 use crate::shelf::{Asked, Shelf, lightest, no_weights};
 use crate::{Verdict, judge};
 use rel_base::{COLUMN_PLACES, Job, RowNo, Snapshot, Steps};
@@ -82,18 +83,22 @@ impl Store {
         }
     }
 
-    /// Goes over to another snapshot, mostly a later one of the same relation. It takes no memory, and some steps a column.
+    /// Goes over to another snapshot, mostly a later one of the same relation. It takes no memory, and some steps a column. What it
+    /// lets go of is handed out, so that its caller chooses when that takes its time.
     ///
     /// The partitions go. What look-ups of new rows made stays, and serves the new snapshot where the rows that both have are coded
     /// alike, as those of one row log are: the first look-up compares the codes of all rows in each column that look-ups go by, which
     /// takes little against making it anew.
-    pub fn renew(&mut self, alloc: Global, snapshot: Arc<Snapshot>)
+    pub fn renew(&mut self, alloc: Global, snapshot: Arc<Snapshot>) -> OldGroups
         ensures { self.new ≡ snapshot.value }
     {
         let rows = snapshot.to().number() as usize;
-        self.shelf = Shelf::of(alloc, rows, self.room, self.shelf.order);
+        let order = self.shelf.order;
+        let shelf = mem::replace(&mut self.shelf, Shelf::of(alloc, rows, self.room, order));
         let last = mem::replace(&mut self.snapshot, snapshot);
-        self.earlier = Some(links::kept_earlier(self.earlier.take(), last));
+        let (earlier, unneeded) = links::kept_earlier(self.earlier.take(), last);
+        self.earlier = Some(earlier);
+        OldGroups::of(shelf, unneeded)
     }
 
     /// Validates a job as `validate` does, with the same answer to whether the dependency holds, on the store's snapshot: one of the

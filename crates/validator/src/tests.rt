@@ -182,9 +182,9 @@ fn compare_left_sides(
     sample: &Sample,
     store: &mut Store,
 ) -> Result<(), AllocError> {
-    store.renew(alloc, sample.snapshot.clone()?);
+    let _old = store.renew(alloc, sample.snapshot.clone()?);
     compare_turns(alloc, rt, sample, store, (0, 48))?;
-    store.renew(alloc, sample.snapshot.clone()?);
+    let _old = store.renew(alloc, sample.snapshot.clone()?);
     compare_turns(alloc, rt, sample, store, (48, 64))?;
     assert!(rt; sample.weighs(&store.weights(alloc)?));
     Ok(())

@@ -1,7 +1,7 @@
 use Rattle.std.proofs.Common.{sym, ◌∙◌}
 use Rattle.cover_core.proofs.Ending.{ended-more_row, ended-more_none}
-use Rattle.cover_core.proofs.ended.ended.Goals as goal
-use Rattle.cover_core.proofs.ended.ended.Goals.{in-Some+in_ok-push, in_default}
+use Rattle.cover_core.proofs.ended.ended_in_turn.Goals as goal
+use Rattle.cover_core.proofs.ended.ended_in_turn.Goals.{in-Some+in_ok-push, in_default}
 
 pub loop-op-preserved : goal.loop-op-preserved
 loop-op-preserved c = elim c.match-ended_row.branch [

@@ -1,0 +1,29 @@
+// What a store needs no more.
+use crate::shelf::Shelf;
+use rel_base::Snapshot;
+use std::marker::Model;
+use std::sync::Arc;
+
+/// The groups of rows that a store had of the snapshot before, and that snapshot where nothing is kept of it.
+///
+/// There is nothing to be done with them but to let go of them, which takes time by their number: whoever had the store go over to
+/// another snapshot can do that when nobody waits. Contracts see nothing of them.
+#[derive(Drop)]
+pub struct OldGroups {
+    shelf: Shelf,
+    snapshot: Option<Arc<Snapshot>>,
+}
+
+impl Model for OldGroups {
+    ghost Value = { Unit {0} };
+
+    ghost view = { λ old. tt };
+
+    ghost invariant = { λ old. Unit {0} };
+}
+
+impl OldGroups {
+    pub(crate) fn of(shelf: Shelf, snapshot: Option<Arc<Snapshot>>) -> OldGroups {
+        OldGroups { shelf, snapshot }
+    }
+}
