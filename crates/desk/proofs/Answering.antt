@@ -56,11 +56,11 @@ module _ (v w : View Core Call Reply) (o : Core) where
   pub released_back : (job back : JobParts) (given : Release) → Turned booked allowed o v (calls.Release job) (replies.Released given back) w → Turned booked allowed o v (calls.Release job) (replies.Released given job) w
   released_back job back given t = subst (λ (b : JobParts). Turned booked allowed o v (calls.Release job) (replies.Released given b) w) (turned_to v w o (calls.Release job) (replies.Released given back) t) t
 
-  pub batch_back : (ops back : List Op) (applying : Applying) → Turned booked allowed o v (calls.Apply ops) (replies.Applied applying back) w → back ≡ ops
-  batch_back ops back applying t = turned_to v w o (calls.Apply ops) (replies.Applied applying back) t
+  pub batch_back : (ops back : List Op) (applying : Applying) → Turned booked allowed o v (calls.Apply ops) (replies.Applied applying back tt) w → back ≡ ops
+  batch_back ops back applying t = turned_to v w o (calls.Apply ops) (replies.Applied applying back tt) t
 
-  pub applied_back : (ops back : List Op) (applying : Applying) → Turned booked allowed o v (calls.Apply ops) (replies.Applied applying back) w → Turned booked allowed o v (calls.Apply ops) (replies.Applied applying ops) w
-  applied_back ops back applying t = subst (λ (b : List Op). Turned booked allowed o v (calls.Apply ops) (replies.Applied applying b) w) (batch_back ops back applying t) t
+  pub applied_back : (ops back : List Op) (applying : Applying) → Turned booked allowed o v (calls.Apply ops) (replies.Applied applying back tt) w → Turned booked allowed o v (calls.Apply ops) (replies.Applied applying ops tt) w
+  applied_back ops back applying t = subst (λ (b : List Op). Turned booked allowed o v (calls.Apply ops) (replies.Applied applying b tt) w) (batch_back ops back applying t) t
 
 module _ (desk : Desk) (before after : Place) where
   -- what was drawn stays drawn
@@ -105,8 +105,8 @@ draws_only (replies.Drawn draw) h f g = f draw refl
 draws_only replies.NoMemory h f g = g refl
 draws_only _ h f g = absurd h
 
-pub refutes_only : (i j : ℕ) (reply : Reply) → IsTo (calls.Refute i j) reply → ((refutation : Refutation) → reply ≡ replies.Refuted refutation → ⊥) → (reply ≡ replies.NoMemory → ⊥) → ⊥
-refutes_only i j (replies.Refuted refutation) h f g = f refutation refl
+pub refutes_only : (i j : ℕ) (reply : Reply) → IsTo (calls.Refute i j) reply → ((refutation : Refutation) (outdated : Unit {0}) → reply ≡ replies.Refuted refutation outdated → ⊥) → (reply ≡ replies.NoMemory → ⊥) → ⊥
+refutes_only i j (replies.Refuted refutation outdated) h f g = f refutation outdated refl
 refutes_only i j replies.NoMemory h f g = g refl
 refutes_only i j _ h f g = absurd h
 
@@ -118,8 +118,8 @@ pub releases_only : (job : JobParts) (reply : Reply) → IsTo (calls.Release job
 releases_only job (replies.Released release back) h f = f release back refl
 releases_only job _ h f = absurd h
 
-pub applies_only : (ops : List Op) (reply : Reply) → IsTo (calls.Apply ops) reply → ((applying : Applying) (back : List Op) → reply ≡ replies.Applied applying back → ⊥) → ⊥
-applies_only ops (replies.Applied applying back) h f = f applying back refl
+pub applies_only : (ops : List Op) (reply : Reply) → IsTo (calls.Apply ops) reply → ((applying : Applying) (back : List Op) (outdated : Unit {0}) → reply ≡ replies.Applied applying back outdated → ⊥) → ⊥
+applies_only ops (replies.Applied applying back outdated) h f = f applying back outdated refl
 applies_only ops _ h f = absurd h
 
 pub settles_only : (reply : Reply) → IsTo calls.Settle reply → ((settling : Settling) → reply ≡ replies.Settled settling → ⊥) → (reply ≡ replies.NoMemory → ⊥) → ⊥

@@ -115,7 +115,7 @@ witnesses_stand opened sound = record { there = there; booked = booked_stand }
         let stay : WitnessesStay (jobs_in past) x y = witnesses_stay (jobs_in past) x y p.keeps in
         stay.there (turns_of more) w (runs_from opened past x more y p m) listed stands
 
-    booked_stand : (y : Core) (before later : History) (e : Entry Call Reply) (i j : ℕ) → Legal booked allowed opened (before ++ e ∷ later) y → e.call ≡ calls.Refute i j → e.reply ≡ replies.Refuted refutations.Booked → Stands y.rows (witness_of (rows_after opened.rows (turns_of before)) i j) → Contains y.witnesses (witness_of (rows_after opened.rows (turns_of before)) i j)
+    booked_stand : (y : Core) (before later : History) (e : Entry Call Reply) (i j : ℕ) → Legal booked allowed opened (before ++ e ∷ later) y → e.call ≡ calls.Refute i j → e.reply ≡ replies.Refuted refutations.Booked tt → Stands y.rows (witness_of (rows_after opened.rows (turns_of before)) i j) → Contains y.witnesses (witness_of (rows_after opened.rows (turns_of before)) i j)
     booked_stand y before later e i j l called replied stands =
         let stay : WitnessesStay [] opened y = witnesses_stay [] opened y (sits_first opened sound).keeps in
         let is : turn_of e ≡ booking i j = λ k. record { call = called k; reply = answer (replied k) } in

@@ -80,7 +80,7 @@ reply_of_drawing (Ok draw) = Drawn draw
 reply_of_drawing (Err e) = NoMemory
 
 abbrev pub reply_of_refuting : {E : Type 0} → Result Refutation E → Reply
-reply_of_refuting (Ok refutation) = Refuted refutation
+reply_of_refuting (Ok refutation) = Refuted refutation tt
 reply_of_refuting (Err e) = NoMemory
 
 abbrev pub reply_of_settling : {E : Type 0} → Result Settling E → Reply
@@ -88,8 +88,8 @@ reply_of_settling (Ok settling) = Settled settling
 reply_of_settling (Err e) = NoMemory
 
 abbrev pub reply_of_applying : List Op → Result Applying (Refused (List Op)) → Reply
-reply_of_applying ops (Ok applying) = Applied applying ops
-reply_of_applying ops (Err refused) = Applied changes.NoMemory ops
+reply_of_applying ops (Ok applying) = Applied applying ops tt
+reply_of_applying ops (Err refused) = Applied changes.NoMemory ops tt
 
 -- what was seen ends with a settle, and these are the covers of the rows after the batches that were accepted before it
 pub record AreExact (desk : Desk) (place : Place) (found : CoverLists) : Type 0 where

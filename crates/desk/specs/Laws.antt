@@ -47,7 +47,7 @@ QuietTurnsKeepFinished = (opened x y : Core) (past quiet : History) → Sound op
 -- A witness whose two rows are live at the end is listed there: one that there was at some time, and one that was booked.
 pub record WitnessesStand (opened : Core) : Type 0 where
   pub there : (x y : Core) (past more : History) (w : Witness) → Legal booked allowed opened past x → LegalFrom booked allowed opened past x more y → Contains x.witnesses w → Stands y.rows w → Contains y.witnesses w
-  pub booked : (y : Core) (before later : History) (e : Entry Call Reply) (i j : ℕ) → Legal booked allowed opened (before ++ e ∷ later) y → e.call ≡ Refute i j → e.reply ≡ Refuted Booked → Stands y.rows (witness_of (rows_after opened.rows (turns_of before)) i j) → Contains y.witnesses (witness_of (rows_after opened.rows (turns_of before)) i j)
+  pub booked : (y : Core) (before later : History) (e : Entry Call Reply) (i j : ℕ) → Legal booked allowed opened (before ++ e ∷ later) y → e.call ≡ Refute i j → e.reply ≡ Refuted Booked tt → Stands y.rows (witness_of (rows_after opened.rows (turns_of before)) i j) → Contains y.witnesses (witness_of (rows_after opened.rows (turns_of before)) i j)
 
 abbrev pub WitnessesStay : Type 0
 WitnessesStay = (opened : Core) → Sound opened → WitnessesStand opened

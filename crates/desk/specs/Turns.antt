@@ -27,10 +27,10 @@ use Rattle.desk.specs.declared.turns.Reply.TheVariants.{Drawn, Refuted, Marked, 
 -- the reply as one of the shared cover
 abbrev pub answer : Reply → Answer
 answer (Drawn draw) = reply_of_draw draw
-answer (Refuted refutation) = reply_of_refutation refutation
+answer (Refuted refutation outdated) = reply_of_refutation refutation
 answer (Marked marking back) = reply_of_mark marking
 answer (Released given back) = reply_of_release given
-answer (Applied applying back) = reply_of_batch applying
+answer (Applied applying back outdated) = reply_of_batch applying
 answer (Settled settling) = reply_of_settle settling
 answer NoMemory = answers.NoMemory
 
@@ -38,11 +38,11 @@ answer NoMemory = answers.NoMemory
 abbrev pub IsTo : Call → Reply → Type 0
 IsTo Draw (Drawn draw) = Unit {0}
 IsTo Draw NoMemory = Unit {0}
-IsTo (Refute i j) (Refuted refutation) = Unit {0}
+IsTo (Refute i j) (Refuted refutation outdated) = Unit {0}
 IsTo (Refute i j) NoMemory = Unit {0}
 IsTo (Mark job) (Marked marking back) = back ≡ job
 IsTo (Release job) (Released given back) = back ≡ job
-IsTo (Apply ops) (Applied applying back) = back ≡ ops
+IsTo (Apply ops) (Applied applying back outdated) = back ≡ ops
 IsTo Settle (Settled settling) = Unit {0}
 IsTo Settle NoMemory = Unit {0}
 IsTo _ _ = ⊥

@@ -28,8 +28,8 @@ use std::sync::Wait;
 /// The book, shared by reference among threads, each with a pass of its own. `close` gives it back.
 ///
 /// Each call but `hire`, `split` and `join` takes one turn: it waits until all turns that were asked for before are over. So
-/// validate outside, between a `draw` and its `mark`. Jobs and batches that are handed in are let go of after the turn. A batch
-/// that is applied lets go of the old lists inside it, and of the old snapshot where no job has it.
+/// validate outside, between a `draw` and its `mark`. Jobs and batches that are handed in are let go of after the turn, and so are the
+/// lists, groups and snapshots that a refutation or a batch put others in place of.
 #[derive(Drop)]
 pub struct Desk {
     lock: Lock,
@@ -90,7 +90,7 @@ impl Desk {
         ensures drawn { (job : JobParts) → WasDrawn self.now (P.seat pass.old) job → WasDrawn self.now (P.seat pass.new) job }
     {
         match pass.turn(rt, &self.lock, Call::Refute(i, j)) {
-            Reply::Refuted(refutation) => Ok(refutation),
+            Reply::Refuted(refutation, _outdated) => Ok(refutation),
             Reply::NoMemory => Err(AllocError),
             _ => unreachable!(),
         }
@@ -161,7 +161,11 @@ impl Desk {
         ensures back { IfErr result (λ r. r.0 ≡ batch) }
         ensures drawn { (job : JobParts) → WasDrawn self.now pass.old.pass job → WasDrawn self.now pass.new.pass job }
     {
-        let Reply::Applied(applying, batch) = pass.turn(rt, &self.lock, Call::Apply(batch)) else {
+        let Reply::Applied(applying, batch, _outdated) = pass.turn(
+            rt,
+            &self.lock,
+            Call::Apply(batch),
+        ) else {
             unreachable!()
         };
         match applying {

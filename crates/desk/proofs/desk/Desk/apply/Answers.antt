@@ -10,7 +10,7 @@ pub unreachable-requires : goal.unreachable-requires
 unreachable-requires g c = applies_only c.args.batch _ (turned_to _ _ _ (calls.Apply c.args.batch) _ c.turn.ensures.turned) c.in_default.not-Applied
 
 pub returns-in-NoMemory-clause-turned : goal.returns-in-NoMemory-clause-turned
-returns-in-NoMemory-clause-turned g c = subst (λ (a : Applying). TookTurn c.args.self.now c.args.pass.now.pass (calls.Apply c.args.batch) (replies.Applied a c.args.batch) c.turn.new.self.pass) c.in-NoMemory.is (applied_back _ _ _ c.args.batch c.in-Applied.batch c.in-Applied.applying c.in-Applied.ensures.turned)
+returns-in-NoMemory-clause-turned g c = subst (λ (a : Applying). TookTurn c.args.self.now c.args.pass.now.pass (calls.Apply c.args.batch) (replies.Applied a c.args.batch tt) c.turn.new.self.pass) c.in-NoMemory.is (applied_back _ _ _ c.args.batch c.in-Applied.batch c.in-Applied.applying c.in-Applied.ensures.turned)
 
 pub returns-in-NoMemory-clause-back : goal.returns-in-NoMemory-clause-back
 returns-in-NoMemory-clause-back g c = batch_back _ _ _ c.args.batch c.in-Applied.batch c.in-Applied.applying c.in-Applied.ensures.turned
