@@ -71,6 +71,16 @@ key_of_value (p ∷ ps) x v e = by (eqb p.0 x) e (λ g. key_of_value ps x v g)
     by true e rest = refl
     by false e rest = rest e
 
+-- the candidate that has the value
+pub listed_value : (ps : List (ℕ × Mark)) (x : ℕ) (v : Mark) → Some v ≡ value_at ps x → (c : Cand) × Listed c (cands ps) × (c.left ≡ x) × (c.upto ≡ v.upto)
+listed_value [] x v e = absurd (none-some v (sym e))
+listed_value (p ∷ ps) x v e = by (eqb p.0 x) refl e (λ g. listed_value ps x v g)
+  where
+    by : (b : Bool) → eqb p.0 x ≡ b → Some v ≡ option_map (λ q. q.1) (cond b (Some p) (find (λ q. eqb q.0 x) ps)) → (Some v ≡ value_at ps x → (c : Cand) × Listed c (cands ps) × (c.left ≡ x) × (c.upto ≡ v.upto))
+        → (c : Cand) × Listed c (cands (p ∷ ps)) × (c.left ≡ x) × (c.upto ≡ v.upto)
+    by true i h rest = (cand p, inl refl, eqb-true p.0 x i, ap (λ (m : Mark). m.upto) (sym (same_Some v p.1 h)))
+    by false i h rest = let w = rest h in (w.0, inr w.1, w.2, w.3)
+
 pub no_key_of_none : (ps : List (ℕ × Mark)) (x : ℕ) → None ≡ value_at ps x → is_key ps x ≡ false
 no_key_of_none [] x e = refl
 no_key_of_none (p ∷ ps) x e = by (eqb p.0 x) e (λ g. no_key_of_none ps x g)

@@ -6,7 +6,7 @@ ghost use Rattle.col_set.specs.ColSet.{empty, report_cmp, size};
 ghost use Rattle.col_set.specs.Lists.{Rises};
 ghost use Rattle.candidate_cover.specs.Cands as words;
 ghost use Rattle.candidate_cover.specs.Cands.{from, all_free, kept_or_fresh};
-ghost use Rattle.candidate_cover.specs.AllMarked.{all_marked};
+ghost use Rattle.candidate_cover.specs.AllMarked.{all_marked, refreshed};
 ghost use Rattle.candidate_cover.specs.Marks.{cand, cands, fresh_mark};
 ghost use Rattle.candidate_cover.specs.Pairs.{pairs_of, AreEven, keys, is_key, value_at, with_value, toggled};
 ghost use Rattle.candidate_cover.specs.Pairs as pairs;
@@ -184,6 +184,24 @@ impl CandList {
     {
         free_all(&mut self.lists.helds);
         raise_all(&mut self.lists.uptos, to);
+    }
+
+    // A copy of the left sides, of which nothing is known and none of which is held.
+    pub(crate) fn refreshed(&self, alloc: Global) -> Result<CandList, AllocError>
+        ensures { IfOk result (λ made. cands made ≡ refreshed (cands self.now)) }
+    {
+        let sets = self.copied_sets(alloc)?;
+        let none = CandList::of(Lists::with_room(alloc, 0)?);
+        let made = none.with_lefts(alloc, sets)?;
+        Ok(made)
+    }
+
+    // A copy of the left sides.
+    fn copied_sets(&self, alloc: Global) -> Result<Vec<ColSet>, AllocError>
+        ensures sets { IfOk result (λ found. found.items ≡ keys self.now) }
+        ensures order { pairs.IsInOrder self.now }
+    {
+        self.sets().to_vec(alloc)
     }
 
     // A copy, in one piece a list.

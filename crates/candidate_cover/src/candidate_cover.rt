@@ -4,9 +4,10 @@ ghost use Rattle.std.specs.List.{All, find, filter};
 ghost use Rattle.col_set.specs.ColSet.{empty};
 ghost use Rattle.col_set.specs.Target.{IsColumnTarget, has_target};
 ghost use Rattle.col_set.specs.Evidence.{least};
+ghost use Rattle.col_set.specs.Lists.{Listed};
 ghost use Rattle.candidate_cover.specs.Cands as words;
 ghost use Rattle.candidate_cover.specs.Cands.{width, cands_of, with_list, lefts, is_listed, kept_or_fresh, marked, holding, all_free, freed, from, IsInOrder};
-ghost use Rattle.candidate_cover.specs.AllMarked.{marked_throughout};
+ghost use Rattle.candidate_cover.specs.AllMarked.{marked_throughout, refreshed_throughout};
 ghost use Rattle.candidate_cover.specs.Sizes.{is_between};
 ghost use Rattle.candidate_cover.specs.Drafts.{AreLeast};
 ghost use Rattle.candidate_cover.specs.Marks.{cand, cands};
@@ -218,6 +219,27 @@ impl CandidateCover {
         for place in 0..self.columns.len() {
             self.columns[place].mark_all(to);
         }
+    }
+
+    /// The same candidates, of which nothing is known and none of which is held. It takes a copy of them.
+    pub fn refreshed(&self, alloc: Global) -> Result<CandidateCover, AllocError>
+        ensures { IfOk result (λ made. made ≡ refreshed_throughout self.now) }
+    {
+        let rows = self.rows.refreshed(alloc)?;
+        let mut columns = Vec::with_capacity(alloc, self.columns.len())?;
+        for list in self.columns.as_slice() {
+            columns.push(list.refreshed(alloc)?)?;
+        }
+        Ok(CandidateCover { rows, columns })
+    }
+
+    /// The row below which a candidate is known to hold, where it is listed. It looks the candidate up.
+    pub fn upto(&self, target: Target, x: ColSet) -> Option<RowNo>
+        requires { IsColumnTarget (width self.now) target }
+        ensures { IfSome result (λ upto. (c : Cand) × Listed c (cands_of self.now target) × (c.left ≡ x) × (c.upto ≡ upto)) }
+    {
+        let mark = self.cand_list(target).get(x)?;
+        Some(mark.upto)
     }
 
     /// The first candidate of a target in report order that meets the test.
