@@ -17,3 +17,4 @@ pub mod Concerning
 pub mod Back
 pub mod AllPairs
 pub mod Complete
+pub mod Forgetting

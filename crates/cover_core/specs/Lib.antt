@@ -9,3 +9,4 @@ pub mod Past
 pub mod Replies
 pub mod Work
 pub mod Waiting
+pub mod Told

@@ -13,9 +13,11 @@ ghost use Rattle.cover_steps.specs.Core.{opened_core, entries, refutes_some, fir
 ghost use Rattle.cover_steps.specs.Steps as steps;
 ghost use Rattle.cover_steps.specs.Sound.{Sound, Fits, IsMarked};
 ghost use Rattle.negative_cover.specs.Witnesses.{sets_of};
+ghost use Rattle.candidate_cover.specs.Cands.{width as width_of};
 ghost use Rattle.candidate_cover.specs.Drafts.{is_news};
 ghost use Rattle.cover_core.specs.Evidences.{IsEvidence, IsAllTold};
 ghost use Rattle.cover_core.specs.Past.{IsFirst};
+ghost use Rattle.cover_core.specs.Told.{IsTrueOf};
 ghost use Rattle.cover_core.specs.Work.{Extends, work};
 ghost use Rattle.cover_core.specs.Replies.{reply_of_draw, reply_of_refutation, reply_of_mark, reply_of_release, reply_of_batch, reply_of_settle, IfJob, IfReady};
 
@@ -24,6 +26,7 @@ use crate::answers::{Draw, Refutation, Release, Settling};
 use crate::concerned::Concerned;
 use crate::cursor::{Cursors, Unfinished, is_late};
 use crate::evidence::{Evidence, is_told, news_of, push_evidence, recent};
+use crate::known::Known;
 use crate::listed::listed;
 use crate::order::Order;
 use crate::outdated::Outdated;
@@ -342,6 +345,40 @@ impl Book {
         while self.advance()? {}
         self.free();
         self.covers()
+    }
+
+    /// Seeks and books evidence as `finish` does, and answers what it saw to hold, but leaves each candidate to be drawn: nothing is
+    /// known of any, and none is held.
+    ///
+    /// So whoever draws the candidates finds most of them to be right, and knows most verdicts. It takes the time and the memory of
+    /// `finish`, and a copy of the candidates. After want of memory the rows are the same, and the book is sound, with all witnesses
+    /// that were booked so far.
+    pub fn seek(&mut self) -> Result<Known, AllocError>
+        ensures known { IfOk result (IsTrueOf self.new.rows) }
+        ensures wide { IfOk result (λ known. width_of known.candidates ≡ width self.new.rows) }
+        ensures rows { self.new.rows ≡ self.old.rows }
+        ensures witnesses { Extends self.old.witnesses self.new.witnesses }
+        ensures sound { Sound self.new }
+    {
+        self.free();
+        self.search()?;
+        self.forget()
+    }
+
+    // Hands out all candidates with their marks, in place of which it has them without.
+    fn forget(&mut self) -> Result<Known, AllocError>
+        ensures known { IfOk result (IsTrueOf self.new.rows) }
+        ensures wide { IfOk result (λ known. width_of known.candidates ≡ width self.new.rows) }
+        ensures rows { self.new.rows ≡ self.old.rows }
+        ensures witnesses { self.new.witnesses ≡ self.old.witnesses }
+        ensures sound { Sound self.new }
+    {
+        let next = self.rows.next();
+        let unmarked = self.candidates.refreshed(self.alloc)?;
+        let candidates = mem::replace(&mut self.candidates, unmarked);
+        self.cursors = Cursors::start();
+        self.first = first_unfinished(&self.candidates, &mut self.cursors.unfinished, next);
+        Ok(Known { candidates, next })
     }
 
     // Lets go of all candidates, and of what is outdated.

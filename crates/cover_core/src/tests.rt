@@ -9,6 +9,7 @@ mod covers;
 mod late_jobs;
 mod new_rows;
 mod script;
+mod seeking;
 
 use crate::{Applying, Book, Draw, Marking, Refutation};
 use plain_base::{are_as_wide, relation_of};

@@ -52,7 +52,7 @@ pub cand-marked : (s : Core) (t : Target) (c : Cand) → Sound s → IsColumnTar
 cand-marked s t c sound l h = All-listed (IsMarked s.rows t) c (cands s t) (sound.marks t l) h
 
 -- below the first number there is no row
-IsMarked-fresh : (r : RowState) (t : Target) (x : ℕ) → IsRowState r → IsMarked r t (fresh x)
+pub IsMarked-fresh : (r : RowState) (t : Target) (x : ℕ) → IsRowState r → IsMarked r t (fresh x)
 IsMarked-fresh r t x is = record {
   holds = record { each = λ i j h g l m ne w. absurd (let p = live_positive r i is (Listed-contained i r.live h) in omega arith) };
   first = omega arith;
