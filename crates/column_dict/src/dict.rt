@@ -3,7 +3,7 @@ ghost use Rattle.std.specs.Prelude.{◌≡◌, ◌<◌, [], Some, true, false, I
 ghost use Rattle.column_dict.specs.Coding.{IsCoding, IsCodeOf, coded, is_new};
 
 use crate::recent::{Recent, mark_of};
-use crate::table::{Known, add_fresh, add_known, entries_left, is_fresh, is_known_as, known_code};
+use crate::table::{Known, add_fresh, add_known, code_in, entries_left, is_fresh, is_known_as};
 use crate::text::Text;
 use rel_base::{Cell, Nulls};
 use std::alloc::{AllocError, Global};
@@ -14,12 +14,14 @@ use std::marker::Model;
 ///
 /// Two codes are equal exactly where their cells are, but that under `Nulls::Distinct` each NULL coded has a code of its own.
 /// A new cell is copied: one of at most 14 bytes into the table itself, a longer one beside it.
-/// A code costs about 45 bytes, a longer cell its bytes and some 50, a fresh NULL 4, and what is kept to guess by at most 256 KB.
+/// A code costs about 45 bytes, a longer cell its bytes and some 50, a fresh NULL 4, what is kept to guess by at most 256 KB, and
+/// the block that long cells are looked up in at most twice the bytes of the longest one.
 #[derive(Drop)]
 pub struct Dict {
     known: Known,
     places: Vec<u32>,
     null: Text,
+    scratch: Text,
     recent: Recent,
     alloc: Global,
     nulls: Nulls,
@@ -56,6 +58,7 @@ impl Dict {
             known: Known::with_hasher(alloc, BuildHasherDefault::new()),
             places: Vec::new(alloc),
             null: Text::null(),
+            scratch: Text::null(),
             recent: Recent::new(alloc),
             alloc,
             nulls,
@@ -64,7 +67,7 @@ impl Dict {
 
     /// The code of a cell.
     ///
-    /// A new cell is copied; to look up a long one takes memory for a copy, also where it is known.
+    /// A new cell is copied. A known one takes memory only where it is longer than 14 bytes and than each one looked up before.
     /// After want of memory the dictionary is as before.
     pub fn code(&mut self, cell: &Cell) -> Result<u32, AllocError>
         requires { length self.old.cells < u32.MAX }
@@ -129,10 +132,10 @@ impl Dict {
         if is_fresh(self.nulls, bytes) {
             return add_fresh(&mut self.places);
         }
-        let cell = Text::copied(self.alloc, bytes)?;
-        if let Some(code) = known_code(&self.known, &cell) {
+        if let Some(code) = code_in(&self.known, &mut self.scratch, self.alloc, bytes)? {
             return Ok(code);
         }
+        let cell = Text::copied(self.alloc, bytes)?;
         add_known(&mut self.known, &mut self.places, cell)
     }
 

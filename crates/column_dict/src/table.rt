@@ -7,11 +7,12 @@ ghost use Rattle.indexmap.specs.IndexMap.{get, IsUnique};
 ghost use Rattle.column_dict.specs.Coding as coding;
 ghost use Rattle.column_dict.specs.Layout.{nowhere};
 
-use crate::text::Text;
+use crate::text::{Text, is_short};
 use indexmap::IndexMap;
 use rel_base::Nulls;
 use std::alloc::{AllocError, Global};
 use std::hash::{BuildHasherDefault, DefaultHasher};
+use std::mem;
 
 /// Cells by order of first sight, each with its code. The hash is SipHash with a fixed key: cells that collide are not known without a search.
 pub type Known = IndexMap<Text, u32, BuildHasherDefault<DefaultHasher>>;
@@ -45,6 +46,26 @@ pub fn known_code(known: &Known, cell: &Text) -> Option<u32>
     // `len` is called for its clause that no cell stands twice.
     let _cells = known.len();
     known.get(cell).copied()
+}
+
+// The code of the cell of these bytes, where the map has it. A long one is written into this text to be looked up, so that it takes
+// memory only where it is longer than each one before.
+pub fn code_in(
+    known: &Known,
+    scratch: &mut Text,
+    alloc: Global,
+    bytes: &[u8],
+) -> Result<Option<u32>, AllocError>
+    ensures code { IfOk result (λ code. code ≡ get (pointwise nat_eq) known.now bytes.now) }
+    ensures unique { OnOk result (IsUnique (pointwise nat_eq) known.now) }
+{
+    if is_short(bytes) {
+        let cell = Text::copied(alloc, bytes)?;
+        return Ok(known_code(known, &cell));
+    }
+    let block = mem::replace(scratch, Text::null());
+    *scratch = block.refilled(alloc, bytes)?;
+    Ok(known_code(known, scratch))
 }
 
 // Gives a cell that the map lacks the next code.

@@ -1,7 +1,7 @@
 // The codes of a few cells under both readings of NULL.
 use crate::Dict;
 use rel_base::{Cell, Nulls};
-use std::alloc::AllocError;
+use std::alloc::{AllocError, Global};
 use std::process::Abort;
 use std::test::Fail;
 
@@ -87,5 +87,60 @@ fn cells_of_any_length_are_told_apart(rt: HostRuntime) -> Result<(), Fail> {
             "{length}"
         );
     }
+    Ok(())
+}
+
+// The lengths of cells of every kind of keeping, long ones among short ones.
+static LENGTHS: [usize; 10] = [41, 1, 65536, 14, 15, 300, 24, 25, 40, 4096];
+
+// A cell of this length, whose first and last bytes are those of every other.
+fn cell_of(alloc: Global, length: usize, middle: u8) -> Result<Vec<u8>, AllocError> {
+    let mut cell = vec![in alloc; b'z'; length]?;
+    let place = length / 2;
+    if place < length {
+        cell[place] = middle;
+    }
+    Ok(cell)
+}
+
+// The code of these bytes. Where memory is wanting the dictionary is as before, and they are coded once more.
+fn coded(rt: &impl Abort, dict: &mut Dict, bytes: &[u8]) -> Result<u32, AllocError> {
+    let codes = dict.len();
+    if let Ok(code) = code_of(rt, dict, bytes) {
+        return Ok(code);
+    }
+    assert!(rt; dict.len() == codes, "the dictionary is not as before");
+    code_of(rt, dict, bytes)
+}
+
+// Codes cells of each length, which differ from those of other middles alone in their middle. The first has the code `first`.
+fn code_each_length(
+    alloc: Global,
+    rt: &impl Abort,
+    dict: &mut Dict,
+    middle: u8,
+    first: u32,
+) -> Result<(), AllocError> {
+    let mut wanted = first;
+    for length in &LENGTHS {
+        let cell = cell_of(alloc, *length, middle)?;
+        assert!(rt; coded(rt, dict, &cell)? == wanted, "{length}");
+        assert!(rt; wanted < dict.len());
+        assert!(rt; dict.cell(wanted).bytes() == cell.as_slice(), "{length}");
+        wanted = wanted.wrapping_add(1);
+    }
+    Ok(())
+}
+
+#[test]
+fn long_cells_known_and_new_have_their_codes(rt: HostRuntime) -> Result<(), Fail> {
+    let alloc = rt.alloc();
+    let mut dict = Dict::new(alloc);
+    code_each_length(alloc, &rt, &mut dict, 0, 0)?;
+    code_each_length(alloc, &rt, &mut dict, 1, 10)?;
+    code_each_length(alloc, &rt, &mut dict, 0, 0)?;
+    code_each_length(alloc, &rt, &mut dict, 2, 20)?;
+    code_each_length(alloc, &rt, &mut dict, 1, 10)?;
+    assert!(rt; dict.len() == 30);
     Ok(())
 }

@@ -94,6 +94,21 @@ impl Text {
         Ok(Text { kept })
     }
 
+    // A long cell of these bytes, in the block of this text where that has room for them, and else in a larger one.
+    pub(crate) fn refilled(self, alloc: Global, bytes: &[u8]) -> Result<Text, AllocError>
+        ensures { IfOk result (λ text. text ≡ bytes.now) }
+    {
+        let mut block = match self.kept {
+            Kept::Long(block) => block,
+            _other => Box::new(alloc, Vec::new(alloc))?,
+        };
+        block.clear();
+        block.extend_from_slice(bytes)?;
+        Ok(Text {
+            kept: Kept::Long(block),
+        })
+    }
+
     /// The bytes.
     pub fn bytes(&self) -> &[u8]
         ensures { result.now ≡ self.now }
@@ -112,6 +127,11 @@ impl Text {
     {
         self.bytes().is_empty()
     }
+}
+
+// Whether a cell of these bytes takes no memory beside its own two words.
+pub(crate) fn is_short(bytes: &[u8]) -> bool {
+    bytes.len() <= MOST_SHORT
 }
 
 // These bytes, and zeros behind them.

@@ -1,5 +1,5 @@
 -- How the rows and live numbers of a row state are kept: the rows by column, the numbers as a flag a row.
-use Rattle.std.specs.Prelude.{◌≡◌, ◌<◌, ◌≤◌, ◌-◌, ◌++◌, ◌∷◌, ℕ, Bool, false, List, [], length, map, slice_index_or}
+use Rattle.std.specs.Prelude.{◌≡◌, ◌<◌, ◌≤◌, ◌+◌, ◌-◌, ◌++◌, ◌∷◌, ℕ, Bool, false, List, [], length, map, slice_index_or}
 use Rattle.std.specs.List.{All, filter, range_with_len}
 use Rattle.rel_base.specs.declared.nulls.Nulls.{Nulls}
 use Rattle.rel_base.specs.declared.nulls.Nulls.TheVariants.{Equal}
@@ -41,6 +41,11 @@ with_cell c row j = record { nulls = c.nulls; cells = c.cells ++ cell row j ∷ 
 -- the column with its cells of more rows, where it is the column at place j
 abbrev pub with_cells : ColumnCells → List Row → ℕ → ColumnCells
 with_cells c rows j = record { nulls = c.nulls; cells = c.cells ++ map (λ row. cell row j) rows }
+
+-- so many columns of these rows, from a place on
+pub record AreColumnsOf (nulls : Nulls) (rows : List Row) (from count : ℕ) (columns : List ColumnCells) : Type 0 where
+  pub long : length columns ≡ count
+  pub each : (j : ℕ) → j < count → column_at columns j ≡ record { nulls = nulls; cells = map (λ row. cell row (from + j)) rows }
 
 -- each column got its cell of this row
 pub record HasRow (old : List ColumnCells) (row : Row) (new : List ColumnCells) : Type 0 where

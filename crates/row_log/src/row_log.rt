@@ -2,6 +2,7 @@
 ghost use Rattle.std.specs.Prelude.{◌≡◌, ◌≢◌, ◌<◌, true, false, IfOk, OnOk, OnErr, length};
 ghost use Rattle.std.specs.List.{All};
 ghost use Rattle.rel_base.specs.Cells.{cell};
+ghost use Rattle.rel_base.specs.Relation.{IsContent};
 ghost use Rattle.rel_base.specs.RowState.{RowState, IsRowState, opened, width, next, row};
 ghost use Rattle.rel_base.specs.Validity.{agree_of};
 ghost use Rattle.rel_base.specs.Batches.{is_live, is_full, inserted, deleted, applied};
@@ -9,18 +10,21 @@ ghost use Rattle.rel_base.specs.Batches.{IsAsWide};
 ghost use Rattle.rel_base.specs.Shows.{Shows};
 ghost use Rattle.rel_base.specs.declared.batch.Op.TheVariants.{Insert, Delete, Update};
 ghost use Rattle.row_log.specs.Distinct.{AreDistinctCells};
+ghost use Rattle.row_log.specs.Table.{AreColumnsOf};
 ghost use Rattle.row_log.specs.Applying.{Answers, Outcome, IsBefore, LeadsFrom, IsFrom, CameLast, IsEnded};
 
 use crate::applying::{Applying, Halt};
 use crate::column::Column;
 use crate::table::{
-    agreement, append_live, columns_of, handed_codes, push_row, share_codes, truncate_rows,
+    agreement, append_live, columns_by, columns_of, handed_codes, push_row, share_codes,
+    truncate_rows,
 };
 use column_dict::Text;
 use rel_base::{Batch, ColSet, Limits, Nulls, Op, Relation, Row, RowNo, Snapshot, Why};
 use std::alloc::{AllocError, Global};
 use std::marker::Model;
 use std::sync::Arc;
+use std::thread::Threads;
 
 /// The rows of a relation under batches (DynFD, Schirmer and others, 2019).
 ///
@@ -72,7 +76,41 @@ impl RowLog {
         ensures { IfOk result (λ log. log ≡ opened nulls limits.rows relation) }
     {
         let (names, rows) = relation.into_parts();
-        let mut columns = columns_of(alloc, nulls, &rows, names.len())?;
+        let columns = columns_of(alloc, nulls, &rows, 0, names.len())?;
+        RowLog::coded(alloc, names, rows, columns, limits, nulls)
+    }
+
+    /// The same, where the columns are coded beside each other by so many workers at most. One worker is the thread of the caller
+    /// and no other. The codes are the same, however many there are.
+    pub fn open_by<R: Threads + Sync>(
+        rt: &R,
+        alloc: Global,
+        relation: Relation,
+        limits: Limits,
+        nulls: Nulls,
+        workers: u8,
+    ) -> Result<RowLog, AllocError>
+        ensures { IfOk result (λ log. log ≡ opened nulls limits.rows relation) }
+    {
+        let (names, rows) = relation.into_parts();
+        let columns = columns_by(rt, alloc, nulls, &rows, 0, names.len(), workers)?;
+        RowLog::coded(alloc, names, rows, columns, limits, nulls)
+    }
+
+    // The log of these rows, all live, whose columns these are. The rows are let go.
+    fn coded(
+        alloc: Global,
+        names: Row,
+        rows: Vec<Row>,
+        columns: Vec<Column>,
+        limits: Limits,
+        nulls: Nulls,
+    ) -> Result<RowLog, AllocError>
+        requires content { IsContent (record { names = names; rows = rows.items }) }
+        requires columns { AreColumnsOf nulls rows.items 0 (length names) columns.items }
+        ensures { IfOk result (λ log. log ≡ opened nulls limits.rows (record { names = names; rows = rows.items })) }
+    {
+        let mut columns = columns;
         let live = vec![in alloc; true; rows.len()]?;
         drop(rows);
         share_codes(alloc, &mut columns);

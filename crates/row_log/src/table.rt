@@ -1,20 +1,64 @@
 // The columns and the flags of the live rows.
-ghost use Rattle.std.specs.Prelude.{◌≡◌, ◌≢◌, ◌<◌, ◌≤◌, ◌+◌, ◌∷◌, [], ◌++◌, ℕ, true, OnOk, OnErr, IfOk, length, map, take, slice_index_or, vec_len, vec_capacity};
+ghost use Rattle.std.specs.Prelude.{◌≡◌, ◌≢◌, ◌<◌, ◌≤◌, ◌+◌, ◌^◌, ◌∷◌, [], ◌++◌, ℕ, true, OnOk, OnErr, IfOk, length, map, take, slice_index_or, vec_len, vec_capacity};
 ghost use Rattle.std.specs.List.{All};
 ghost use Rattle.rel_base.specs.Agreement.{agree};
 ghost use Rattle.rel_base.specs.Cells.{cell};
 ghost use Rattle.row_log.specs.Column.{AreCodes};
-ghost use Rattle.row_log.specs.Table.{row_at, HasRow, column_at, with_cells};
+ghost use Rattle.row_log.specs.Table.{row_at, HasRow, column_at, with_cells, AreColumnsOf};
+ghost use denote.Param.Send.{IsSync};
 
 use crate::column::Column;
 use agree_sets::agree_codes;
 use rel_base::{COLUMN_PLACES, Codes, ColSet, MOST_COLUMNS, MOST_ROWS, Nulls, Row};
 use std::alloc::{AllocError, Global};
+use std::thread::{Threads, join};
 
 // How many rows are coded together: so many stay in a processor's cache while the columns take their cells.
 const BLOCK: usize = 16384;
 
-/// The columns of these rows.
+/// So many columns of these rows, from a place on, made by so many workers at most: one is the thread of the caller and no other.
+///
+/// Each worker takes columns that stand side by side.
+pub fn columns_by<R: Threads + Sync>(
+    rt: &R,
+    alloc: Global,
+    nulls: Nulls,
+    rows: &[Row],
+    from: usize,
+    count: usize,
+    workers: u8,
+) -> Result<Vec<Column>, AllocError>
+    requires room { from + count < 2 ^ 64 }
+    requires wide { All (λ row. from + count ≤ length row) rows.now }
+    requires few { length rows.now ≤ MOST_ROWS }
+    ensures { IfOk result (λ columns. AreColumnsOf nulls rows.now from count columns.items) }
+{
+    if count < 2 || workers < 2 {
+        return columns_of(alloc, nulls, rows, from, count);
+    }
+    let low = count / 2;
+    let high = count - low;
+    let middle = from + low;
+    let few = workers / 2;
+    let others = workers - few;
+    let (first, second) = join(
+        rt,
+        move || -> Result<Vec<Column>, AllocError>
+            requires { IsSync R.row × (from + low < 2 ^ 64) × All (λ row. from + low ≤ length row) rows.now × (length rows.now ≤ MOST_ROWS) }
+            ensures { IfOk result (λ columns. AreColumnsOf nulls rows.entry.now from low columns.items) }
+        { columns_by(rt, alloc, nulls, rows, from, low, few) },
+        move || -> Result<Vec<Column>, AllocError>
+            requires { IsSync R.row × (middle + high < 2 ^ 64) × All (λ row. middle + high ≤ length row) rows.now × (length rows.now ≤ MOST_ROWS) }
+            ensures { IfOk result (λ columns. AreColumnsOf nulls rows.entry.now middle high columns.items) }
+        { columns_by(rt, alloc, nulls, rows, middle, high, others) },
+    );
+    let mut columns = first?;
+    let mut others = second?;
+    columns.append(&mut others)?;
+    Ok(columns)
+}
+
+/// So many columns of these rows, from a place on.
 ///
 /// Blocks of rows are coded column by column: a column's dictionary stays in the cache for a block, and each row is
 /// fetched once.
@@ -22,18 +66,19 @@ pub fn columns_of(
     alloc: Global,
     nulls: Nulls,
     rows: &[Row],
-    width: usize,
+    from: usize,
+    count: usize,
 ) -> Result<Vec<Column>, AllocError>
-    requires wide { All (λ row. length row ≡ width) rows.now }
+    requires room { from + count < 2 ^ 64 }
+    requires wide { All (λ row. from + count ≤ length row) rows.now }
     requires few { length rows.now ≤ MOST_ROWS }
-    ensures long { IfOk result (λ columns. length columns.items ≡ width) }
-    ensures each { IfOk result (λ columns. (j : ℕ) → j < width → column_at columns.items j ≡ record { nulls = nulls; cells = map (λ row. cell row j) rows.now }) }
+    ensures { IfOk result (λ columns. AreColumnsOf nulls rows.now from count columns.items) }
 {
-    let mut columns = empty_columns(alloc, nulls, rows.len(), width)?;
+    let mut columns = empty_columns(alloc, nulls, rows.len(), count)?;
     let mut left = rows;
     while !left.is_empty() {
         let (block, rest) = left.split_at(left.len().min(BLOCK));
-        push_rows(&mut columns, block)?;
+        push_rows(&mut columns, block, from)?;
         left = rest;
     }
     Ok(columns)
@@ -56,15 +101,17 @@ fn empty_columns(
     Ok(columns)
 }
 
-// Codes the cells of more rows. After want of memory some columns have the cells of more rows than others.
-fn push_rows(columns: &mut [Column], rows: &[Row]) -> Result<(), AllocError>
-    requires wide { All (λ row. length row ≡ length columns.old) rows.now }
+// Codes the cells of more rows, where the first column has those at a place. After want of memory some columns have the cells of
+// more rows than others.
+fn push_rows(columns: &mut [Column], rows: &[Row], from: usize) -> Result<(), AllocError>
+    requires room { from + length columns.old < 2 ^ 64 }
+    requires wide { All (λ row. from + length columns.old ≤ length row) rows.now }
     requires few { (j : ℕ) → j < length columns.old → length (column_at columns.old j).cells + length rows.now ≤ MOST_ROWS }
     ensures long { OnOk result (length columns.new ≡ length columns.old) }
-    ensures each { OnOk result ((j : ℕ) → j < length columns.old → column_at columns.new j ≡ with_cells (column_at columns.old j) rows.now j) }
+    ensures each { OnOk result ((j : ℕ) → j < length columns.old → column_at columns.new j ≡ with_cells (column_at columns.old j) rows.now (from + j)) }
 {
     for place in 0..columns.len() {
-        columns[place].extend(rows, place)?;
+        columns[place].extend(rows, from + place)?;
     }
     Ok(())
 }

@@ -4,7 +4,7 @@ ghost use Rattle.std.specs.Prelude.{◌≡◌};
 use crate::{Applying, RowLog};
 use plain_base::{PlainRows, Samples, agree, are_as_wide, relation_of};
 use rel_base::{Batch, ColSet, Limits, Nulls, Relation, Row, RowNo};
-use std::alloc::Global;
+use std::alloc::{AllocError, Global};
 use std::process::Abort;
 use std::test::Fail;
 
@@ -196,6 +196,36 @@ fn distinct_cells_are_the_parts_of_live_rows(rt: HostRuntime) -> Result<(), Fail
         let cells = log.distinct_cells(rt.alloc(), 0)?;
         let parts = rows.projection(rt.alloc(), ColSet::of_bits(1))?;
         assert!(rt; are_cells_of(&cells, &parts), "seed {seed}");
+    }
+    Ok(())
+}
+
+// Whether two logs have the same rows under the same codes.
+fn has_same_codes(alloc: Global, one: &RowLog, other: &RowLog) -> Result<bool, AllocError> {
+    let first = one.snapshot(alloc)?;
+    let second = other.snapshot(alloc)?;
+    if first.columns() != second.columns() || first.to() != second.to() {
+        return Ok(false);
+    }
+    for column in 0..first.columns() {
+        if first.column(column).parts() != second.column(column).parts() {
+            return Ok(false);
+        }
+    }
+    Ok(true)
+}
+
+#[test]
+fn columns_have_the_same_codes_however_many_workers_code_them(rt: HostRuntime) -> Result<(), Fail> {
+    let alloc = rt.alloc();
+    for seed in 0..4u64 {
+        let limits = Limits::standard();
+        let one = RowLog::open_with(alloc, drawn(alloc, seed)?, limits, Nulls::Distinct)?;
+        for workers in [0u8, 1, 2, 3, 16] {
+            let relation = drawn(alloc, seed)?;
+            let other = RowLog::open_by(&rt, alloc, relation, limits, Nulls::Distinct, workers)?;
+            assert!(rt; has_same_codes(alloc, &one, &other)?, "{workers} workers");
+        }
     }
     Ok(())
 }

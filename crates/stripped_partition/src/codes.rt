@@ -1,5 +1,5 @@
 // Codes of rows.
-ghost use Rattle.std.specs.Prelude.{◌≡◌, ◌<◌, ◌≤◌, ◌==◌, ℕ, nat_lt, length, vec_len, map, count_by, slice_index, slice_index_or, cond, option_map, find, replicate, IfOk, OnOk, ◌-◌, ◌^◌};
+ghost use Rattle.std.specs.Prelude.{◌≡◌, ◌<◌, ◌≤◌, ◌==◌, ◌++◌, ℕ, nat_lt, length, vec_len, map, count_by, slice_index, slice_index_or, cond, option_map, find, replicate, IfOk, OnOk, ◌-◌, ◌^◌};
 ghost use Rattle.std.specs.List.{All, list_any};
 ghost use Rattle.std.specs.List.Sorted.{IsNonDecreasing};
 ghost use Rattle.rel_base.specs.CodeTable.{code_at};
@@ -41,11 +41,35 @@ pub(crate) fn codes_of(
     requires column { column < length snapshot.now.codes }
     ensures { IfOk result (λ codes. codes.items ≡ map (λ row. code_at snapshot.now row column) rows.now) }
 {
-    let mut codes = Vec::with_capacity(alloc, rows.len())?;
-    for row in rows {
-        codes.push(snapshot.code(*row, column))?;
-    }
+    // `to` is called for its clause on the lengths of the lists.
+    let _to = snapshot.to();
+    let (shared, own) = snapshot.column(column).parts();
+    let mut codes = vec![in alloc; 0; rows.len()]?;
+    gather(&mut codes, shared, own, rows);
     Ok(codes)
+}
+
+// Writes the codes of these rows, where those of all rows stand in two lists of which the second goes on behind the first.
+fn gather(codes: &mut [u32], shared: &[u32], own: &[u32], rows: &[RowNo])
+    requires long { length codes.old ≡ length rows.now }
+    requires given { All (λ row. row ≤ length (shared.now ++ own.now)) rows.now }
+    ensures { codes.new ≡ map (λ row. slice_index (shared.now ++ own.now) (row - 1)) rows.now }
+{
+    for (k, row) in rows.iter().enumerate() {
+        codes[k] = code_in(shared, own, (row.number() - 1) as usize);
+    }
+}
+
+// The code at a place of two lists of which the second goes on behind the first.
+fn code_in(shared: &[u32], own: &[u32], place: usize) -> u32
+    requires { place < length (shared.now ++ own.now) }
+    ensures { result ≡ slice_index (shared.now ++ own.now) place }
+{
+    if place < shared.len() {
+        shared[place]
+    } else {
+        own[place - shared.len()]
+    }
 }
 
 // How many of the codes are smaller, for each of them.

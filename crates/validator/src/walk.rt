@@ -1,5 +1,5 @@
 // Comparisons of rows on a target, group by group.
-ghost use Rattle.std.specs.Prelude.{◌≡◌, ◌<◌, ◌≤◌, ◌+◌, ◌^◌, ◌++◌, ℕ, length, nat_le, not, vec_len, slice_index, true, false, IsTrue, IfOk, OnOk, cond};
+ghost use Rattle.std.specs.Prelude.{◌≡◌, ◌<◌, ◌≤◌, ◌+◌, ◌^◌, ◌++◌, ◌∷◌, [], ℕ, length, nat_le, not, vec_len, slice_index, true, false, IsTrue, IfOk, OnOk, cond};
 ghost use Rattle.std.specs.List.{All, count_by};
 ghost use Rattle.std.specs.Option.{ForSome, option_to_list};
 ghost use Rattle.std.specs.List.Sorted.{IsStrictlyIncreasing};
@@ -157,6 +157,32 @@ fn has_new(group: &[RowNo], from: RowNo) -> bool
     group[group.len() - 1].number() >= from.number()
 }
 
+// The same for two rows, the smaller number first, without slots.
+fn pair_of_two<L: Ledger>(
+    snapshot: &Snapshot,
+    question: &Question,
+    i: RowNo,
+    j: RowNo,
+    steps: &mut Steps<L>,
+) -> Option<(RowNo, RowNo)>
+    requires first { i < snapshot.now.to }
+    requires second { j < snapshot.now.to }
+    requires rising { i < j }
+    requires target { IsColumnTarget (length snapshot.now.codes) question.now.target }
+    requires column { ForSome question.now.by (λ column. column < length snapshot.now.codes) }
+    ensures pair { IsCompared snapshot.now question.now.by question.now.target question.now.from (i ∷ j ∷ []) result }
+    ensures steps { steps.new ≤ steps.old + cond (nat_le question.now.from j) 1 0 }
+{
+    let by = question.by;
+    if key(snapshot, by, i) != key(snapshot, by, j) {
+        return None;
+    }
+    if are_apart(snapshot, question.target, question.from, i, j, steps) {
+        return Some((i, j));
+    }
+    None
+}
+
 // The same for a group of which all may be old, and it clears the slots again.
 fn pair_of_group<L: Ledger>(
     group: &[RowNo],
@@ -178,6 +204,9 @@ fn pair_of_group<L: Ledger>(
 {
     if !has_new(group, question.from) {
         return Ok(None);
+    }
+    if group.len() == 2 {
+        return Ok(pair_of_two(snapshot, question, group[0], group[1], steps));
     }
     let pair = pair_in(group, snapshot, question, slots, steps)?;
     clear(slots, group, snapshot, question.by);

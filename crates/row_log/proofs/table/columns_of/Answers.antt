@@ -1,4 +1,4 @@
-use Rattle.std.proofs.Common.{◌≡◌, ◌<◌, ◌++◌, ℕ, List, length, map, take, ap, ap₂, ◌∙◌, sym, subst, arith}
+use Rattle.std.proofs.Common.{◌≡◌, ◌<◌, ◌≤◌, ◌+◌, ◌++◌, ℕ, List, length, map, take, ap, ap₂, ◌∙◌, sym, subst, arith}
 use Rattle.std.specs.List.{All}
 use Rattle.std.proofs.lemmas.List.{append_assoc, map-append}
 use Rattle.std.proofs.lemmas.List.Elements.{All-drop}
@@ -21,15 +21,15 @@ joined c block rest j =
     (append_assoc c.cells (map (λ row. cell row j) block) (map (λ row. cell row j) rest) ∙ ap (λ (xs : List (List ℕ)). c.cells ++ xs) (sym (map-append (λ row. cell row j) block rest)))
 
 -- one block more
-step : (nulls : Nulls) (w : ℕ) (rows left block rest : List Row) (columns seen new : List ColumnCells) → left ≡ block ++ rest → length columns ≡ w → seen ≡ columns
-    → ((j : ℕ) → j < length seen → column_at new j ≡ with_cells (column_at seen j) block j)
-    → ((j : ℕ) → j < w → with_cells (column_at columns j) left j ≡ whole nulls rows j)
-    → (j : ℕ) → j < w → with_cells (column_at new j) rest j ≡ whole nulls rows j
-step nulls w rows left block rest columns seen new cut long same each h j l =
+step : (nulls : Nulls) (from w : ℕ) (rows left block rest : List Row) (columns seen new : List ColumnCells) → left ≡ block ++ rest → length columns ≡ w → seen ≡ columns
+    → ((j : ℕ) → j < length seen → column_at new j ≡ with_cells (column_at seen j) block (from + j))
+    → ((j : ℕ) → j < w → with_cells (column_at columns j) left (from + j) ≡ whole nulls rows (from + j))
+    → (j : ℕ) → j < w → with_cells (column_at new j) rest (from + j) ≡ whole nulls rows (from + j)
+step nulls from w rows left block rest columns seen new cut long same each h j l =
     let s = ap length same in
-    ap (λ (x : ColumnCells). with_cells x rest j) (each j (omega (arith, l, s, long)))
-    ∙ joined (column_at seen j) block rest j
-    ∙ ap₂ (λ (cs : List ColumnCells) (rs : List Row). with_cells (column_at cs j) rs j) same (sym cut)
+    ap (λ (x : ColumnCells). with_cells x rest (from + j)) (each j (omega (arith, l, s, long)))
+    ∙ joined (column_at seen j) block rest (from + j)
+    ∙ ap₂ (λ (cs : List ColumnCells) (rs : List Row). with_cells (column_at cs j) rs (from + j)) same (sym cut)
     ∙ h j l
 
 settled : (n : ℕ) (new old : List ColumnCells) → length new ≡ n → take n (new ++ old) ≡ new
@@ -41,8 +41,8 @@ loop-left-preserved c =
     let same = ap length c.deref_mut.ensures.value in
     let whole_now = settled c.loop-left.columns.len c.push_rows.new.columns _ (c.in_ok-push_rows.ensures.long ∙ same ∙ sym c.loop-left.columns.ok.0) in (
       ap length whole_now ∙ c.in_ok-push_rows.ensures.long ∙ same ∙ old.0,
-      λ j l. ap (λ (cs : List ColumnCells). with_cells (column_at cs j) c.split_at.result.1.now j) whole_now
-          ∙ step c.args.nulls c.args.width c.args.rows.now c.loop-left.left.now c.split_at.result.0.now c.split_at.result.1.now c.loop-left.columns.items c.deref_mut.result.now c.push_rows.new.columns
+      λ j l. ap (λ (cs : List ColumnCells). with_cells (column_at cs j) c.split_at.result.1.now (c.args.from + j)) whole_now
+          ∙ step c.args.nulls c.args.from c.args.count c.args.rows.now c.loop-left.left.now c.split_at.result.0.now c.split_at.result.1.now c.loop-left.columns.items c.deref_mut.result.now c.push_rows.new.columns
           c.split_at.ensures.by_index.0 old.0 c.deref_mut.ensures.value c.in_ok-push_rows.ensures.each old.1 j l,
-      subst (All (λ row. length row ≡ c.args.width)) (sym c.split_at.ensures.back) (All-drop (λ row. length row ≡ c.args.width) c.min.result c.loop-left.left.now old.2),
+      subst (All (λ row. c.args.from + c.args.count ≤ length row)) (sym c.split_at.ensures.back) (All-drop (λ row. c.args.from + c.args.count ≤ length row) c.min.result c.loop-left.left.now old.2),
     )

@@ -2,12 +2,12 @@ use Rattle.std.proofs.Common.{◌≡◌, ℕ, List, ◌<◌, ◌++◌, ◌∷◌
 use Rattle.std.proofs.lemmas.Bool.{true≢false}
 use Rattle.rel_base.specs.Cells.{Cell}
 use Rattle.rel_base.specs.Agreement.{same_cell}
-use Rattle.column_dict.specs.Coding.{is_fresh, is_new}
+use Rattle.column_dict.specs.Coding.{Coding, is_fresh, is_new}
 use Rattle.column_dict.specs.Layout.{nowhere, cells_at, IsLaid}
 use Rattle.column_dict.proofs.Laid.{add-fresh, add-known}
 use Rattle.column_dict.proofs.Coded.{either, both, neither, on_ok, if_ok, fewer, room, fresh-new, missing-new, found-old, same, grown, grown-at, new-code-of, old-code-of}
 use Rattle.column_dict.proofs.dict.Dict.looked_up.Goals as goal
-use Rattle.column_dict.proofs.dict.Dict.looked_up.Goals.{After-add_fresh, Joined-cell, After-add_known}
+use Rattle.column_dict.proofs.dict.Dict.looked_up.Goals.{After-add_fresh, In-Some, After-add_known}
 use Rattle.std.specs.Map.{keys_of, lookup}
 
 is_fresh_null : (c : After-add_fresh) → is_fresh c.self.inside.nulls c.args.bytes.now ≡ true
@@ -46,23 +46,19 @@ returns-then-is_fresh-clause-agrees c =
     (λ v p k. new-code-of c.self.inside.nulls c.self.inside.known.entries c.self.inside.places.items c.args.self.now c.self.view_is c.args.bytes.now v
     (fresh-new c.self.inside.nulls c.self.inside.known.entries c.self.inside.places.items c.args.self.now c.self.view_is c.args.bytes.now (is_fresh_null c)) k)
 
--- a copy is looked up as the bytes are
-looked : (es : List (Cell × ℕ)) (copy bytes : Cell) → copy ≡ bytes → lookup (same_cell bytes) es ≡ lookup (same_cell copy) es
-looked es copy bytes e = ap (λ (x : Cell). lookup (same_cell x) es) (sym e)
-
 -- the cell was there
-there : (c : Joined-cell) → (is_new c.args.self.now c.args.bytes.now ≡ false) × (slice_get c.args.self.now.cells c.in-Some.code ≡ Some c.args.bytes.now)
+there : (c : In-Some) → (is_new c.args.self.now c.args.bytes.now ≡ false) × (slice_get c.args.self.now.cells c.in-Some.code ≡ Some c.args.bytes.now)
 there c =
     let old = c.self.invariant in
     found-old c.self.inside.nulls c.self.inside.known.entries c.self.inside.places.items c.args.self.now c.self.view_is c.args.bytes.now c.in-Some.code old.1
-    (looked c.self.inside.known.entries c.in_ok-cell.cell c.args.bytes.now c.in_ok-cell.ensures ∙ sym c.known_code.ensures.code ∙ c.in-Some.is) (sym c.is_fresh.ensures ∙ c.if-is_fresh.false)
+    (sym c.in_ok-code.ensures.code ∙ c.in-Some.is) (sym c.is_fresh.ensures ∙ c.if-is_fresh.false)
 
 pub returns-in-Some-clause-cell : goal.returns-in-Some-clause-cell
-returns-in-Some-clause-cell c = (there c).1
+returns-in-Some-clause-cell c = ap (λ (d : Coding). slice_get d.cells c.in-Some.code) c.self.view_is ∙ (there c).1
 
 pub returns-in-Some-clause-cells : goal.returns-in-Some-clause-cells
 returns-in-Some-clause-cells c =
-    same c.self.inside.nulls c.self.inside.known.entries c.self.inside.places.items c.args.self.now c.self.view_is c.args.bytes.now (there c).0
+    c.self.view_is ∙ same c.self.inside.nulls c.self.inside.known.entries c.self.inside.places.items c.args.self.now c.self.view_is c.args.bytes.now (there c).0
 
 pub returns-in-Some-clause-last : goal.returns-in-Some-clause-last
 returns-in-Some-clause-last c n = absurd (true≢false (sym n ∙ (there c).0))
@@ -71,7 +67,7 @@ pub returns-in-Some-clause-agrees : goal.returns-in-Some-clause-agrees
 returns-in-Some-clause-agrees c =
     let old = c.self.invariant in
     old-code-of c.self.inside.nulls c.self.inside.known.entries c.self.inside.places.items c.args.self.now c.self.view_is c.args.bytes.now c.in-Some.code old.1
-    c.known_code.ensures.unique (sym c.is_fresh.ensures ∙ c.if-is_fresh.false) (there c).1
+    c.in_ok-code.ensures.unique (sym c.is_fresh.ensures ∙ c.if-is_fresh.false) (there c).1
 
 -- the cell is new
 pub add_known-requires-clause-fewer : goal.add_known-requires-clause-fewer
@@ -98,7 +94,7 @@ is_new_cell : (c : After-add_known) → is_new c.args.self.now c.args.bytes.now 
 is_new_cell c =
     let old = c.self.invariant in
     missing-new c.self.inside.nulls c.self.inside.known.entries c.self.inside.places.items c.args.self.now c.self.view_is c.args.bytes.now old.1
-    (looked c.self.inside.known.entries c.in_ok-cell.cell c.args.bytes.now c.in_ok-cell.ensures ∙ sym c.known_code.ensures.code ∙ c.in_default.is) (not_fresh c)
+    (sym c.in_ok-code.ensures.code ∙ c.in_default.is) (not_fresh c)
 
 pub invariant_of-self-2 : goal.invariant_of-self-2
 invariant_of-self-2 c =

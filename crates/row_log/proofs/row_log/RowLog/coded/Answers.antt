@@ -1,0 +1,34 @@
+use Rattle.std.proofs.Common.{◌≡◌, ◌<◌, ◌+◌, ◌∙◌, ℕ, List, ap, length, map, refl, arith}
+use Rattle.rel_base.specs.Cells.{Row, cell}
+use Rattle.rel_base.specs.declared.nulls.Nulls.{Nulls}
+use Rattle.rel_base.specs.Relation.{Content}
+use Rattle.row_log.specs.Column.{ColumnCells}
+use Rattle.row_log.specs.Table.{column_at, AreColumnsOf}
+use Rattle.row_log.proofs.Log.{IsLog-opened, kept-opened}
+use Rattle.row_log.proofs.row_log.RowLog.coded.Goals as goal
+
+-- the columns as they are with their codes shared
+long_columns : (columns shared : List ColumnCells) (w : ℕ) → shared ≡ columns → length columns ≡ w → length shared ≡ w
+long_columns columns shared w e l = ap length e ∙ l
+
+each_column : (nulls : Nulls) (w : ℕ) (rows : List Row) (columns shared : List ColumnCells) → shared ≡ columns → AreColumnsOf nulls rows 0 w columns
+    → (j : ℕ) → j < w → column_at shared j ≡ record { nulls = nulls; cells = map (λ row. cell row j) rows }
+each_column nulls w rows columns shared e h j l =
+    ap (λ (cs : List ColumnCells). column_at cs j) e ∙ h.each j l
+    ∙ ap (λ (n : ℕ). let x : ColumnCells = record { nulls = nulls; cells = map (λ row. cell row n) rows } in x) (let z : 0 + j ≡ j = omega arith in z)
+
+pub invariant_of-result : goal.invariant_of-result
+invariant_of-result c =
+    let relation : Content = record { names = c.args.names; rows = c.args.rows.items } in
+    IsLog-opened relation c.requires.content c.args.names c.args.nulls c.args.limits.rows (length c.args.names) c.len.result c.len-2.result c.args.rows.items c.share_codes.new.columns.items c.in_ok-live.live.items
+    refl refl c.args.limits.few_rows (long_columns c.args.columns.items c.share_codes.new.columns.items (length c.args.names) c.share_codes.ensures c.requires.columns.long) refl
+    (each_column c.args.nulls (length c.args.names) c.args.rows.items c.args.columns.items c.share_codes.new.columns.items c.share_codes.ensures c.requires.columns)
+    (c.in_ok-live.ensures.items_if_clones_equal (λ y e. e)) (c.len.ensures ∙ c.args.rows.ok.0) (c.len-2.ensures ∙ c.in_ok-live.live.ok.0)
+
+pub returns : goal.returns
+returns c =
+    let relation : Content = record { names = c.args.names; rows = c.args.rows.items } in
+    kept-opened relation c.requires.content c.args.names c.args.nulls c.args.limits.rows (length c.args.names) c.len.result c.len-2.result c.args.rows.items c.share_codes.new.columns.items c.in_ok-live.live.items
+    refl refl c.args.limits.few_rows (long_columns c.args.columns.items c.share_codes.new.columns.items (length c.args.names) c.share_codes.ensures c.requires.columns.long) refl
+    (each_column c.args.nulls (length c.args.names) c.args.rows.items c.args.columns.items c.share_codes.new.columns.items c.share_codes.ensures c.requires.columns)
+    (c.in_ok-live.ensures.items_if_clones_equal (λ y e. e)) (c.len.ensures ∙ c.args.rows.ok.0) (c.len-2.ensures ∙ c.in_ok-live.live.ok.0)
