@@ -1,8 +1,9 @@
 -- The least sets from a chosen set on, by those with one more column and those without it.
-use Rattle.std.proofs.Common.{inl, inr, ◌≡◌, ◌⊎◌, ℕ, ◌+◌, ◌<◌, ◌≤◌, Bool, true, false, not, ◌&&◌, ◌||◌, eqb, refl, sym, ap, ◌∙◌, subst, List, [], ◌∷◌, ◌++◌, if◌then◌else◌, length, get_or, take, drop, arith}
+use Rattle.std.proofs.Common.{inl, inr, ◌≡◌, ◌⊎◌, ℕ, ◌+◌, ◌<◌, ◌≤◌, Bool, true, false, not, ◌&&◌, ◌||◌, eqb, refl, sym, ap, ap₂, ◌∙◌, subst, List, [], ◌∷◌, ◌++◌, if◌then◌else◌, cond, length, get_or, take, drop, arith}
 use Rattle.std.specs.List.{filter, list_any}
 use Rattle.std.proofs.lemmas.Bool.{true≢false, false≢true, and_parts, and_from, or_cases, or_left, or_right, not-true, not_from_false, false_from_ne_true, true_from_ne_false, eqb-true, eq-eqb, ne_eqb, cases_Bool}
-use Rattle.std.proofs.lemmas.List.{take_more, take_all, take-append-drop}
+use Rattle.std.proofs.lemmas.List.{append-nil, length-take-le, take-append-drop}
+use Rattle.std.proofs.lemmas.List.Elements.{filter-append}
 use Rattle.std.proofs.lemmas.List.Folds.{list_any-append}
 use Rattle.col_set.specs.declared.target.Target.{Target}
 use Rattle.col_set.specs.ColSet.{IsSubset, columns, has, with, without, union, inter, minus, subset}
@@ -14,9 +15,10 @@ use Rattle.col_set.specs.Members.{has-with, has-without, has-union, has-inter, h
 use Rattle.col_set.specs.Subsets.{IsSubset-refl, IsSubset-trans, IsSubset-antisymm, subset-true, true-subset}
 use Rattle.col_set.specs.Lists.{Listed, Listed-append_left, Listed-append_right, Listed-append_cases, Listed-filter, Listed-filter_parts, list_any_at, list_any_which}
 use Rattle.candidate_cover.proofs.Growing.{outside_of}
-use Rattle.candidate_cover.proofs.Splitting.{subset_minus}
+use Rattle.col_set.proofs.Places.{Listed-get_or}
+use Rattle.candidate_cover.proofs.Splitting.{subset_minus, filter_next, no_shorter, changed_end}
 use Rattle.candidate_cover.specs.Growth.{having, IsLeastAmong, ListsLeast}
-use Rattle.candidate_cover.specs.Branches.{covered, lacking, IsOwned, IsUnowned, IsLeastFrom, IsBranch, HasBranched, pruned}
+use Rattle.candidate_cover.specs.Branches.{covered, lacking, IsOwned, IsUnowned, IsLeastFrom, IsBranch, HasBranched, HasEnded, pruned}
 
 -- ---- sets that agree sets contain
 covered_at : (ws : List ℕ) (x w : ℕ) → Listed w ws → IsSubset x w → covered ws x ≡ true
@@ -136,7 +138,7 @@ module _ (ws : List ℕ) (s free : ℕ) (pending own : List ℕ) (b : IsBranch w
   -- ---- by a column
   module _ (c : ℕ) (choice : has free c ≡ true) where
     abbrev more : List ℕ
-    more = lacking c pending ++ having c own
+    more = having c own ++ lacking c pending
 
     fresh : has s c ≡ false
     fresh = false_from_ne_true _ (λ h. true≢false (sym choice ∙ b.apart c h))
@@ -158,7 +160,7 @@ module _ (ws : List ℕ) (s free : ℕ) (pending own : List ℕ) (b : IsBranch w
         at_c =
             let t : covered pending (without x c) ≡ true = b.tells (without x c) (inside_without s x c (IsSubset-trans (with_above s c) l.above) fresh) (IsSubset-trans (without_inside x c) (down x l).within) proper in
             let w = covered_which pending (without x c) t in
-            covered_at more (without x c) w.set (Listed-append_left w.set (lacking c pending) (having c own) (Listed-filter (λ w. not (has w c)) w.set pending w.listed (not_from_false _ (out w)))) w.inside
+            covered_at more (without x c) w.set (Listed-append_right w.set (having c own) (lacking c pending) (Listed-filter (λ w. not (has w c)) w.set pending w.listed (not_from_false _ (out w)))) w.inside
           where
             out : (w : Covers pending (without x c)) → has w.set c ≡ false
             out w = false_from_ne_true _ (λ i. true≢false (sym (covered_at ws x w.set (b.real w.set w.listed) (record {
@@ -172,20 +174,20 @@ module _ (ws : List ℕ) (s free : ℕ) (pending own : List ℕ) (b : IsBranch w
         elsewhere e =
             let h' : has s d ≡ true = elim (or_cases (has s d) (eqb d c) (sym (has-with s c d) ∙ h)) as (λ _. has s d ≡ true) [ inl g ↦ g | inr g ↦ absurd (true≢false (sym g ∙ e)) ] in
             let w = covered_which own (without x d) (b.own_all x (down x l) d h') in
-            covered_at more (without x d) w.set (Listed-append_right w.set (lacking c pending) (having c own) (Listed-filter (λ w. has w c) w.set own w.listed
+            covered_at more (without x d) w.set (Listed-append_left w.set (having c own) (lacking c pending) (Listed-filter (λ w. has w c) w.set own w.listed
             (w.inside.each c (without_keeps x d c in_x (λ i. true≢false (sym (eq-eqb d c (sym i)) ∙ e)))))) w.inside
 
     own_each : (w : ℕ) → Listed w more → Listed w ws
-    own_each w h = elim (Listed-append_cases w (lacking c pending) (having c own) h) as (λ _. Listed w ws) [
-      | inl g ↦ b.real w (Listed-filter_parts (λ w. not (has w c)) w pending g).0
-      | inr g ↦ b.own_real w (Listed-filter_parts (λ w. has w c) w own g).0
+    own_each w h = elim (Listed-append_cases w (having c own) (lacking c pending) h) as (λ _. Listed w ws) [
+      | inl g ↦ b.own_real w (Listed-filter_parts (λ w. has w c) w own g).0
+      | inr g ↦ b.real w (Listed-filter_parts (λ w. not (has w c)) w pending g).0
     ]
 
     -- an own set has all columns chosen but the one that it lacks
     own_less : (w : ℕ) → Listed w more → (d : ℕ) → has (with s c) d ≡ true → has w d ≡ false → IsSubset (without (with s c) d) w
-    own_less w h d i o = elim (Listed-append_cases w (lacking c pending) (having c own) h) as (λ _. IsSubset (without (with s c) d) w) [
-      | inl g ↦ let q = Listed-filter_parts (λ w. not (has w c)) w pending g in lately q.0 (not-true _ q.1)
-      | inr g ↦ let q = Listed-filter_parts (λ w. has w c) w own g in before q.0 q.1
+    own_less w h d i o = elim (Listed-append_cases w (having c own) (lacking c pending) h) as (λ _. IsSubset (without (with s c) d) w) [
+      | inl g ↦ let q = Listed-filter_parts (λ w. has w c) w own g in before q.0 q.1
+      | inr g ↦ let q = Listed-filter_parts (λ w. not (has w c)) w pending g in lately q.0 (not-true _ q.1)
     ]
       where
         split : (k : ℕ) → has (without (with s c) d) k ≡ true → ((has s k ≡ true) ⊎ (k ≡ c)) × (k ≡ d → ⊥)
@@ -312,8 +314,33 @@ module _ (ws : List ℕ) (s free : ℕ) (pending own : List ℕ) (b : IsBranch w
       ];
     }
 
-    pub branch_none : (d : ℕ) → has (with s c) d ≡ true → list_any (λ w. not (has w d)) more ≡ false → (old : List ℕ) → HasBranched ws (with s c) (without free c) old old
-    branch_none d h none old = record { each = λ x i. inl i; kept = λ x i. i; every = λ x l. absurd (branch_cut d h none x l) }
+    -- the own agree sets of the chosen columns, of those that have the column, are own ones of the branch with the column, and one that
+    -- lacks the column is there for the column itself
+    pub owned_with : IsOwned (having c own) s → list_any (λ w. not (has w c)) pending ≡ true → IsOwned more (with s c)
+    owned_with owned lacks = record {
+      each = λ d h. list_any-append (λ w. not (has w d)) (having c own) (lacking c pending) ∙ elim (or_cases (has s d) (eqb d c) (sym (has-with s c d) ∙ h)) as (λ _. (list_any (λ w. not (has w d)) (having c own) || list_any (λ w. not (has w d)) (lacking c pending)) ≡ true) [
+        | inl g ↦ or_left _ _ (owned.each d g)
+        | inr g ↦ or_right (list_any (λ w. not (has w d)) (having c own)) _ (subst (λ (k : ℕ). list_any (λ w. not (has w k)) (lacking c pending) ≡ true) (sym (eqb-true d c g)) at_c)
+      ];
+    }
+      where
+        at_c : list_any (λ w. not (has w c)) (lacking c pending) ≡ true
+        at_c = let w = list_any_which (λ w. not (has w c)) pending lacks in list_any_at (λ w. not (has w c)) w.0 (lacking c pending) (Listed-filter (λ w. not (has w c)) w.0 pending w.1 w.2) w.2
+
+    pub branch_none : IsUnowned (having c own) s → (old : List ℕ) → HasBranched ws (with s c) (without free c) old old
+    branch_none u old = record { each = λ x i. inl i; kept = λ x i. i; every = λ x l. absurd (branch_cut u.column ((with_above s c).each u.column u.chosen) none x l) }
+      where
+        held : list_any (λ w. not (has w u.column)) (lacking c pending) ≡ false
+        held = false_from_ne_true _ (λ h. let w = list_any_which (λ w. not (has w u.column)) (lacking c pending) h in true≢false (sym ((b.holds w.0 (Listed-filter_parts (λ w. not (has w c)) w.0 pending w.1).0).each u.column u.chosen) ∙ not-true _ w.2))
+
+        none : list_any (λ w. not (has w u.column)) more ≡ false
+        none = list_any-append (λ w. not (has w u.column)) (having c own) (lacking c pending) ∙ ap (λ d. d || list_any (λ w. not (has w u.column)) (lacking c pending)) u.none ∙ held
+
+-- the column is one that all pending agree sets lack: with it there is one least set
+ended_next : (ws : List ℕ) (s free : ℕ) (pending own : List ℕ) (b : IsBranch ws s free pending own) (c : ℕ) (choice : has free c ≡ true)
+    → having c pending ≡ [] → list_any (λ w. not (has w c)) pending ≡ true → (old mid : List ℕ) → IsOwned (having c own) s → mid ≡ old ++ with s c ∷ [] → HasBranched ws (with s c) (without free c) old mid
+ended_next ws s free pending own b c choice e lacks old mid owned made =
+    branch_done ws (with s c) (without free c) (having c pending) (having c own ++ lacking c pending) (branch_with ws s free pending own b c choice (owned_with ws s free pending own b c choice owned lacks)) e old mid made
 
 -- ---- the whole
 covered_refuted : (ws : List ℕ) (t : Target) (x : ℕ) → covered (filter (λ w. not (has_target w t)) ws) x ≡ refuted ws t x
@@ -366,6 +393,10 @@ branched_least free ws t vs xs e h = record {
     low : (x : ℕ) → IsSubset x (union 0 free) → IsSubset x free
     low x i = record { each = λ k g. elim (or_cases (has 0 k) (has free k) (sym (has-union 0 free k) ∙ i.each k g)) as (λ _. has free k ≡ true) [ inl f ↦ absurd (false≢true (sym (has-empty k) ∙ f)) | inr f ↦ f ] }
 
+pub some_sets : (xs : List ℕ) → eqb (length xs) 0 ≡ false → 0 < length xs
+some_sets [] e = absurd (true≢false e)
+some_sets (x ∷ xs) e = omega arith
+
 pub no_sets : (xs : List ℕ) → eqb (length xs) 0 ≡ true → xs ≡ []
 no_sets [] e = refl
 no_sets (x ∷ xs) e = absurd (let h = eqb-true (length (x ∷ xs)) 0 e in omega arith)
@@ -392,13 +423,12 @@ owned_none set found e = record { each = λ d. ap (λ (v : ℕ). has v d) e ∙ 
     and_false true = refl
     and_false false = refl
 
-pub owned_more : (own : List ℕ) (set found i w new : ℕ) → i < length own → w ≡ get_or own i w → OwnedSoFar (take i own) set found → new ≡ union found (minus set w) → OwnedSoFar (take (i + 1) own) set new
-owned_more own set found i w new l is s e = record {
+pub owned_also : (own : List ℕ) (set found w new : ℕ) → OwnedSoFar own set found → new ≡ union found (minus set w) → OwnedSoFar (own ++ w ∷ []) set new
+owned_also own set found w new s e = record {
   each = λ d.
-      ap (λ (v : ℕ). has v d) e ∙ has-union found (minus set w) d ∙ ap (λ b. b || has (minus set w) d) (s.each d) ∙ ap (λ b. (has set d && list_any (λ w. not (has w d)) (take i own)) || b) (has-minus set w d)
-      ∙ by (has set d) (list_any (λ w. not (has w d)) (take i own)) (not (has w d))
-      ∙ sym (ap (λ b. has set d && b) (ap (list_any (λ w. not (has w d))) (take_more own i w l ∙ ap (λ (y : ℕ). take i own ++ y ∷ []) (sym is)) ∙ list_any-append (λ w. not (has w d)) (take i own) (w ∷ [])
-      ∙ ap (λ b. list_any (λ w. not (has w d)) (take i own) || b) (or_false (not (has w d)))));
+      ap (λ (v : ℕ). has v d) e ∙ has-union found (minus set w) d ∙ ap (λ b. b || has (minus set w) d) (s.each d) ∙ ap (λ b. (has set d && list_any (λ w. not (has w d)) own) || b) (has-minus set w d)
+      ∙ by (has set d) (list_any (λ w. not (has w d)) own) (not (has w d))
+      ∙ sym (ap (λ b. has set d && b) (list_any-append (λ w. not (has w d)) own (w ∷ []) ∙ ap (λ b. list_any (λ w. not (has w d)) own || b) (or_false (not (has w d)))));
 }
   where
     by : (a b c : Bool) → ((a && b) || (a && c)) ≡ (a && (b || c))
@@ -409,11 +439,20 @@ owned_more own set found i w new l is s e = record {
     or_false true = refl
     or_false false = refl
 
-pub owned_yes : (own : List ℕ) (i set found : ℕ) → OwnedSoFar (take i own) set found → found ≡ set → IsOwned own set
-owned_yes own i set found s e = record {
+-- one agree set more of those that have the column, or of the others
+pub owned_more : (own : List ℕ) (c set found i w new : ℕ) → i < length own → w ≡ get_or own i w → has w c ≡ true → OwnedSoFar (having c (take i own)) set found → new ≡ union found (minus set w) → OwnedSoFar (having c (take (i + 1) own)) set new
+owned_more own c set found i w new l is h s e =
+    subst (λ vs. OwnedSoFar vs set new) (sym (filter_next 0 own i w l is (λ w. has w c) ∙ ap (λ d. having c (take i own) ++ cond d (w ∷ []) []) h)) (owned_also (having c (take i own)) set found w new s e)
+
+pub owned_same : (own : List ℕ) (c set found i w : ℕ) → i < length own → w ≡ get_or own i w → has w c ≡ false → OwnedSoFar (having c (take i own)) set found → OwnedSoFar (having c (take (i + 1) own)) set found
+owned_same own c set found i w l is h s =
+    subst (λ vs. OwnedSoFar vs set found) (sym (filter_next 0 own i w l is (λ w. has w c) ∙ ap (λ d. having c (take i own) ++ cond d (w ∷ []) []) h ∙ append-nil _)) s
+
+pub owned_yes : (own : List ℕ) (c i set found : ℕ) → OwnedSoFar (having c (take i own)) set found → found ≡ set → IsOwned (having c own) set
+owned_yes own c i set found s e = record {
   each = λ d h.
       let q = and_parts (has set d) _ (sym (s.each d) ∙ ap (λ (v : ℕ). has v d) e ∙ h) in
-      ap (list_any (λ w. not (has w d))) (sym (take-append-drop i own)) ∙ list_any-append (λ w. not (has w d)) (take i own) (drop i own) ∙ or_left _ _ q.1;
+      ap (list_any (λ w. not (has w d))) (sym (ap (having c) (take-append-drop i own)) ∙ filter-append (λ w. has w c) (take i own) (drop i own)) ∙ list_any-append (λ w. not (has w d)) (having c (take i own)) (having c (drop i own)) ∙ or_left _ _ q.1;
 }
 
 pub owned_no : (own : List ℕ) (set found : ℕ) → OwnedSoFar own set found → (found ≡ set → ⊥) → IsUnowned own set
@@ -426,37 +465,108 @@ owned_no own set found s n = elim (cases_Bool (subset set found)) as (λ _. IsUn
   }
 ]
 
--- the fewest free columns that one of the agree sets lacks
+-- what one of the agree sets lacks of the free columns
 pub record FewestSoFar (pending : List ℕ) (free fewest : ℕ) : Type 0 where
-  pub low : IsSubset fewest free
-  pub none : fewest ≡ 0 → (free ≡ 0) ⊎ (covered pending free ≡ true)
+  pub set : ℕ
+  pub listed : Listed set pending
+  pub is : fewest ≡ minus free set
 
-pub fewest_first : (free fewest : ℕ) → fewest ≡ free → FewestSoFar [] free fewest
-fewest_first free fewest e = record { low = subst (λ (v : ℕ). IsSubset v free) (sym e) (IsSubset-refl free); none = λ f. inl (sym e ∙ f) }
+pub fewest_at : (pending : List ℕ) (free fewest i w : ℕ) → i < length pending → w ≡ get_or pending i w → fewest ≡ minus free w → FewestSoFar pending free fewest
+fewest_at pending free fewest i w l is e = record { set = w; listed = subst (λ (v : ℕ). Listed v pending) (sym is) (Listed-get_or pending i w l); is = e }
 
-covered_more : (pending : List ℕ) (i w x : ℕ) → i < length pending → w ≡ get_or pending i w → covered (take (i + 1) pending) x ≡ (covered (take i pending) x || subset x w)
-covered_more pending i w x l is =
-    ap (λ vs. covered vs x) (take_more pending i w l ∙ ap (λ (y : ℕ). take i pending ++ y ∷ []) (sym is)) ∙ list_any-append (λ w. subset x w) (take i pending) (w ∷ []) ∙ ap (λ b. covered (take i pending) x || b) (or_false (subset x w))
+module _ (pending : List ℕ) (free fewest : ℕ) (f : FewestSoFar pending free fewest) where
+  pub fewest_low : IsSubset fewest free
+  fewest_low = subst (λ (v : ℕ). IsSubset v free) (sym f.is) (record { each = λ k h. (and_parts (has free k) _ (sym (has-minus free f.set k) ∙ h)).0 })
+
+  pub fewest_lacks : (k : ℕ) → has fewest k ≡ true → list_any (λ w. not (has w k)) pending ≡ true
+  fewest_lacks k h = list_any_at (λ w. not (has w k)) f.set pending f.listed ((and_parts (has free k) _ (sym (has-minus free f.set k) ∙ ap (λ (v : ℕ). has v k) (sym f.is) ∙ h)).1)
+
+  pub fewest_none : fewest ≡ 0 → covered pending free ≡ true
+  fewest_none e = covered_at pending free f.set f.listed (subset-true (sym (subset_minus free f.set) ∙ eq-eqb (minus free f.set) 0 (sym f.is ∙ e)))
+
+-- the free columns that none of the agree sets has
+pub record LackedSoFar (pending : List ℕ) (free lacked : ℕ) : Type 0 where
+  pub low : IsSubset lacked free
+  pub none : (k : ℕ) → has lacked k ≡ true → having k pending ≡ []
+
+pub lacked_first : (free : ℕ) → LackedSoFar [] free free
+lacked_first free = record { low = IsSubset-refl free; none = λ k h. refl }
+
+pub lacked_more : (pending : List ℕ) (free lacked i w new : ℕ) → i < length pending → w ≡ get_or pending i w → LackedSoFar (take i pending) free lacked → new ≡ minus lacked w → LackedSoFar (take (i + 1) pending) free new
+lacked_more pending free lacked i w new l is s e = record {
+  low = record { each = λ k h. s.low.each k (parts k h).0 };
+  none = λ k h. filter_next 0 pending i w l is (λ w. has w k) ∙ ap (λ d. having k (take i pending) ++ cond d (w ∷ []) []) (not-true _ (parts k h).1) ∙ append-nil _ ∙ s.none k (parts k h).0;
+}
   where
-    or_false : (b : Bool) → (b || false) ≡ b
-    or_false true = refl
-    or_false false = refl
+    parts : (k : ℕ) → has new k ≡ true → (has lacked k ≡ true) × (not (has w k) ≡ true)
+    parts k h = and_parts (has lacked k) _ (sym (has-minus lacked w k) ∙ ap (λ (v : ℕ). has v k) (sym e) ∙ h)
 
-pub fewest_same : (pending : List ℕ) (free fewest i w : ℕ) → i < length pending → w ≡ get_or pending i w → FewestSoFar (take i pending) free fewest → FewestSoFar (take (i + 1) pending) free fewest
-fewest_same pending free fewest i w l is s = record {
-  low = s.low;
-  none = λ e. elim (s.none e) as (λ _. (free ≡ 0) ⊎ (covered (take (i + 1) pending) free ≡ true)) [ inl f ↦ inl f | inr f ↦ inr (covered_more pending i w free l is ∙ or_left _ _ f) ];
-}
+-- ---- the ends
+-- What is known while columns that all pending agree sets lack are gone through: those that are left are free still.
+pub record EndsSoFar (s free lacked rest left : ℕ) (own old mid : List ℕ) : Type 0 where
+  pub open_ones : IsSubset rest left
+  pub among : IsSubset rest lacked
+  pub low : IsSubset left free
+  pub ended : (ws pending : List ℕ) → IsBranch ws s free pending own → 0 < length pending → ((k : ℕ) → has lacked k ≡ true → having k pending ≡ []) → HasEnded ws s free left pending own old mid
 
-pub fewest_new : (pending : List ℕ) (free i w new : ℕ) → i < length pending → w ≡ get_or pending i w → new ≡ minus free w → FewestSoFar (take (i + 1) pending) free new
-fewest_new pending free i w new l is e = record {
-  low = subst (λ (v : ℕ). IsSubset v free) (sym e) (record { each = λ k h. (and_parts (has free k) _ (sym (has-minus free w k) ∙ h)).0 });
-  none = λ f. inr (covered_more pending i w free l is ∙ or_right (covered (take i pending) free) _ (sym (subset_minus free w) ∙ eq-eqb (minus free w) 0 (sym e ∙ f)));
-}
+pub ends_first : (s free lacked : ℕ) (own old : List ℕ) → IsSubset lacked free → EndsSoFar s free lacked lacked free own old old
+ends_first s free lacked own old i = record { open_ones = i; among = IsSubset-refl lacked; low = IsSubset-refl free; ended = λ ws pending b l f. record { branch = b; whole = λ new h. h } }
 
-pub fewest_all : (pending : List ℕ) (free fewest i : ℕ) → length pending ≤ i → FewestSoFar (take i pending) free fewest → fewest ≡ 0 → 0 < length pending → covered pending free ≡ true
-fewest_all [] free fewest i l s e b = absurd (omega arith)
-fewest_all (w ∷ ws) free fewest i l s e b = elim (s.none e) as (λ _. covered (w ∷ ws) free ≡ true) [
-  | inl f ↦ or_left _ _ (true-subset (subst (λ (v : ℕ). IsSubset v w) (sym f) (record { each = λ k h. absurd (false≢true (sym (has-empty k) ∙ h)) })))
-  | inr f ↦ ap (λ vs. covered vs free) (sym (take_all i (w ∷ ws) l)) ∙ f
-]
+-- where none of some agree sets has the column, one lacks it
+one_lacks : (pending : List ℕ) (c : ℕ) → 0 < length pending → having c pending ≡ [] → list_any (λ w. not (has w c)) pending ≡ true
+one_lacks [] c l e = absurd (omega arith)
+one_lacks (w ∷ ws) c l e = or_left _ _ (by (has w c) e)
+  where
+    by : (d : Bool) → cond d (w ∷ having c ws) (having c ws) ≡ [] → not d ≡ true
+    by true f = cc
+    by false f = refl
+
+module _ (s free lacked rest left : ℕ) (own old mid : List ℕ) (e : EndsSoFar s free lacked rest left own old mid) (c : ℕ) (had : has rest c ≡ true) where
+  next : (new : List ℕ) → ((ws pending : List ℕ) → IsBranch ws s left pending own → having c pending ≡ [] → list_any (λ w. not (has w c)) pending ≡ true → HasBranched ws (with s c) (without left c) mid new)
+      → EndsSoFar s free lacked (without rest c) (without left c) own old new
+  next new first = record {
+    open_ones = without_less rest left c e.open_ones;
+    among = IsSubset-trans (without_inside rest c) e.among;
+    low = IsSubset-trans (without_inside left c) e.low;
+    ended = λ ws pending b l f.
+        let h = e.ended ws pending b l f in
+        let none = f c (e.among.each c had) in
+        record {
+          branch = branch_whole ws s left pending own h.branch c (e.open_ones.each c had);
+          whole = λ last g. h.whole last (branch_both ws s left pending own h.branch c (e.open_ones.each c had) mid new last (first ws pending h.branch none (one_lacks pending c l none)) g);
+        };
+  }
+
+  pub ends_more : IsOwned (having c own) s → (new : List ℕ) → new ≡ mid ++ with s c ∷ [] → EndsSoFar s free lacked (without rest c) (without left c) own old new
+  ends_more owned new made = next new (λ ws pending b none lacks. ended_next ws s left pending own b c (e.open_ones.each c had) none lacks mid new owned made)
+
+  pub ends_same : IsUnowned (having c own) s → (new : List ℕ) → new ≡ mid → EndsSoFar s free lacked (without rest c) (without left c) own old new
+  ends_same u new made = next new (λ ws pending b none lacks. subst (HasBranched ws (with s c) (without left c) mid) (sym made) (branch_none ws s left pending own b c (e.open_ones.each c had) u mid))
+
+pub ends_as : (s free lacked rest rest' left left' : ℕ) (own old mid : List ℕ) → rest' ≡ rest → left' ≡ left → EndsSoFar s free lacked rest left own old mid → EndsSoFar s free lacked rest' left' own old mid
+ends_as s free lacked rest rest' left left' own old mid f g e = subst (λ (v : ℕ). EndsSoFar s free lacked v left' own old mid) (sym f) (subst (λ (v : ℕ). EndsSoFar s free lacked rest v own old mid) (sym g) e)
+
+-- ---- the branches of a frame, after its ends
+pub branch_by : (ws : List ℕ) (s free left : ℕ) (pending own old mid : List ℕ) (e : HasEnded ws s free left pending own old mid) (k : ℕ) → has left k ≡ true → (between new : List ℕ)
+    → HasBranched ws (with s k) (without left k) mid between → HasBranched ws s (without left k) between new → HasBranched ws s free old new
+branch_by ws s free left pending own old mid e k choice between new first second = e.whole new (branch_both ws s left pending own e.branch k choice mid between new first second)
+
+-- ---- what is left of the pending agree sets
+pub pruned_end : (from k free free' : ℕ) (old joined new : List ℕ) → from ≤ length old → joined ≡ old → free' ≡ free → (new ≡ joined) ⊎ (new ≡ take from joined ++ pruned k free' (drop from joined)) → (drop from new ≡ drop from old) ⊎ (drop from new ≡ pruned k free (drop from old))
+pruned_end from k free free' old joined new le e f (inl g) = inl (ap (drop from) (g ∙ e))
+pruned_end from k free free' old joined new le e f (inr g) = inr (changed_end from joined (pruned k free' (drop from joined)) new (subst (λ (vs : List ℕ). from ≤ length vs) (sym e) le) g ∙ ap₂ (λ (v : ℕ) (vs : List ℕ). pruned k v (drop from vs)) f e)
+
+pub pruned_long : (from : ℕ) (old joined new ys : List ℕ) → from ≤ length old → joined ≡ old → (new ≡ joined) ⊎ (new ≡ take from joined ++ ys) → from ≤ length new
+pruned_long from old joined new ys le e (inl g) = subst (λ (vs : List ℕ). from ≤ length vs) (sym (g ∙ e)) le
+pruned_long from old joined new ys le e (inr g) = no_shorter (take from joined) ys new from g (sym (length-take-le from joined (subst (λ (vs : List ℕ). from ≤ length vs) (sym e) le)))
+
+pub branch_on : (ws : List ℕ) (s free : ℕ) (pending own : List ℕ) (b : IsBranch ws s free pending own) (k : ℕ) → has free k ≡ true → (rest : List ℕ) → (rest ≡ pending) ⊎ (rest ≡ pruned k (without free k) pending) → IsBranch ws s (without free k) rest own
+branch_on ws s free pending own b k choice rest (inl e) = subst (λ (vs : List ℕ). IsBranch ws s (without free k) vs own) (sym e) (branch_whole ws s free pending own b k choice)
+branch_on ws s free pending own b k choice rest (inr e) = subst (λ (vs : List ℕ). IsBranch ws s (without free k) vs own) (sym e) (branch_without ws s free pending own b k choice)
+
+-- what the ends leave, where the lists are known by other names
+pub ended_as : (ws : List ℕ) (s free left lacked : ℕ) (pending pending' own own' old mid : List ℕ) → pending' ≡ pending → own' ≡ own → 0 < length pending'
+    → ((k : ℕ) → has lacked k ≡ true → having k pending' ≡ []) → IsBranch ws s free pending own
+    → ((vs ps : List ℕ) → IsBranch vs s free ps own' → 0 < length ps → ((k : ℕ) → has lacked k ≡ true → having k ps ≡ []) → HasEnded vs s free left ps own' old mid) → HasEnded ws s free left pending own old mid
+ended_as ws s free left lacked pending pending' own own' old mid e f l none b ended =
+    subst (λ (vs : List ℕ). HasEnded ws s free left vs own old mid) e (subst (λ (vs : List ℕ). HasEnded ws s free left pending' vs old mid) f (ended ws pending' (branch_as ws s s free free pending pending' own own' refl refl e f b) l none))

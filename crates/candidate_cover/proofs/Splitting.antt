@@ -1,8 +1,10 @@
 -- A list of column sets, split in place by how they lie to a set.
-use Rattle.std.proofs.Common.{◌≡◌, ℕ, ◌+◌, ◌<◌, ◌≤◌, Bool, true, false, cond, not, eqb, sym, ap, ◌∙◌, subst, arith, List, [], ◌∷◌, ◌++◌, length, get_or, set, take, append_assoc}
+use Rattle.std.proofs.Common.{◌≡◌, ℕ, ◌+◌, ◌<◌, ◌≤◌, Bool, true, false, cond, not, eqb, sym, ap, ◌∙◌, subst, arith, List, [], ◌∷◌, ◌++◌, ◌-◌, length, get_or, set, take, drop, append_assoc, length-append, length-drop}
 use Rattle.std.specs.List.{filter}
 use Rattle.std.proofs.lemmas.Bool.{true≢false, and_parts, and_from, not-true, not_from_false, false_from_ne_true, true_from_ne_false, eqb-true, eq-eqb, ne_eqb}
-use Rattle.std.proofs.lemmas.List.{append-nil, drop_more}
+use borrow.Rule.Slice.PartMut.{post_of}
+use Rattle.std.proofs.Math.Seq.{take-append-add}
+use Rattle.std.proofs.lemmas.List.{append-nil, drop_all, drop_at, drop_more, length-take-le, take_at, take_rest, take-take, length-set, take-set-le, drop-set-lt}
 use Rattle.std.proofs.lemmas.List.Elements.{filter_more, filter-append}
 use Rattle.std.proofs.lemmas.List.Filters.{FiltersInPlace, FiltersInPlace-more_no, FiltersInPlace-more_set, FiltersInPlace-more_here}
 use Rattle.col_set.specs.ColSet.{has, subset, minus, size}
@@ -87,3 +89,51 @@ pub kept_next : (p : ℕ → Bool) (xs : List ℕ) (i x : ℕ) → i < length xs
 kept_next p xs i x l is old now e b f =
     ap (λ (ys : List ℕ). ys ++ cond b (x ∷ []) []) e ∙ append_assoc old (filter p (take i xs)) (cond b (x ∷ []) [])
     ∙ ap (λ (ys : List ℕ). old ++ ys) (sym (filter_next 0 xs i x l is p ∙ ap (λ c. filter p (take i xs) ++ cond c (x ∷ []) []) f))
+
+-- ---- lists in place
+-- a set that does not stay, and is written nonetheless over one that was moved or does not stay
+pub passed_in_place : {p : ℕ → Bool} {xs ys : List ℕ} {k i : ℕ} {x : ℕ} → FiltersInPlace p xs ys k i → i < length ys → p x ≡ false → x ≡ get_or ys i x → FiltersInPlace p xs (set ys k x) k (i + 1)
+passed_in_place {p} {xs} {ys} {k} {i} {x} h lt e is =
+    let n : FiltersInPlace p xs ys k (i + 1) = FiltersInPlace-more_no h lt e is in
+    record {
+      front = take-set-le k ys k x (omega arith) ∙ n.front;
+      rest = drop-set-lt (i + 1) ys k x (let b = h.behind in omega arith) ∙ n.rest;
+      behind = n.behind;
+      within = n.within;
+      long = length-set ys k x ∙ n.long;
+    }
+
+-- the end of a slice
+pub slice_rest : (now xs : List ℕ) (from : ℕ) → now ≡ xs → take (length now - from) (drop from now) ≡ drop from xs
+slice_rest now xs from e = take_rest now from ∙ ap (drop from) e
+
+-- what is left of a list, where the first k of the part from a place on are kept
+module _ (e k n : ℕ) (xs part : List ℕ) (le : e ≤ length xs) (long : length xs ≤ n) (few : k ≤ length part) where
+  front_of_same : length part ≡ length xs - e → take (e + k) (take n ((take e xs ++ (part ++ post_of e (length xs - e) xs)) ++ drop (length (take e xs ++ (part ++ post_of e (length xs - e) xs))) xs)) ≡ take e xs ++ take k part
+  front_of_same same =
+      let start : length (take e xs) ≡ e = length-take-le e xs le in
+      let none : post_of e (length xs - e) xs ≡ [] = drop_all (length xs - e) (drop e xs) (omega (arith, length-drop e xs)) in
+      let whole : length (take e xs ++ part) ≡ length xs = omega (arith, length-append (take e xs) part, start, same) in
+      let gone : drop (length (take e xs ++ part)) xs ≡ [] = drop_all (length (take e xs ++ part)) xs (omega (arith, whole)) in
+      rw (none, append-nil, gone, append-nil)
+      (take-take (e + k) n (take e xs ++ part) (omega (arith, few, same)) ∙ subst (λ (v : ℕ). take (v + k) (take e xs ++ part) ≡ take e xs ++ take k part) start (take-append-add (take e xs) part k))
+
+  pub front_of_part : (now : List ℕ) → now ≡ xs → length part ≡ length (take (length now - e) (drop e now))
+      → take (e + k) (take n ((take e now ++ (part ++ post_of e (length now - e) now)) ++ drop (length (take e now ++ (part ++ post_of e (length now - e) now))) xs)) ≡ take e xs ++ take k part
+  front_of_part now is same =
+      subst (λ (v : List ℕ). take (e + k) (take n ((take e v ++ (part ++ post_of e (length v - e) v)) ++ drop (length (take e v ++ (part ++ post_of e (length v - e) v))) xs)) ≡ take e xs ++ take k part) (sym is)
+      (front_of_same (same ∙ ap length (slice_rest now xs e is) ∙ length-drop e xs))
+
+-- a list with more at its end
+pub no_shorter : (xs ys zs : List ℕ) (n : ℕ) → zs ≡ xs ++ ys → n ≡ length xs → n ≤ length zs
+no_shorter xs ys zs n e f = omega (arith, ap length e, length-append xs ys)
+
+pub new_end : (xs ys zs : List ℕ) (n : ℕ) → zs ≡ xs ++ ys → n ≡ length xs → drop n zs ≡ ys
+new_end xs ys zs n e f = ap (drop n) e ∙ drop_at xs ys n (sym f)
+
+pub old_front : (xs ys zs : List ℕ) (n : ℕ) → zs ≡ xs ++ ys → n ≡ length xs → take n zs ≡ xs
+old_front xs ys zs n e f = ap (take n) e ∙ take_at xs ys n (sym f)
+
+-- the end of a list whose end was changed
+pub changed_end : (e : ℕ) (xs ys zs : List ℕ) → e ≤ length xs → zs ≡ take e xs ++ ys → drop e zs ≡ ys
+changed_end e xs ys zs le i = new_end (take e xs) ys zs e i (sym (length-take-le e xs le))

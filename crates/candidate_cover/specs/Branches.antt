@@ -47,6 +47,12 @@ pub record HasBranched (ws : List Columns) (s free : Columns) (old new : List Co
   pub kept : (x : Columns) → Listed x old → Listed x new
   pub every : (x : Columns) → IsLeastFrom ws s free x → Listed x new
 
+-- The sets with some of the free columns are among the new ones. What is left to look for are those with none of these columns, and
+-- with them the list is whole.
+pub record HasEnded (ws : List Columns) (s free left : Columns) (pending own old mid : List Columns) : Type 0 where
+  pub branch : IsBranch ws s left pending own
+  pub whole : (new : List Columns) → HasBranched ws s left mid new → HasBranched ws s free old new
+
 -- the agree sets without those that have the column and lie, as far as the free columns go, inside one that lacks it
 abbrev pub pruned : ℕ → Columns → List Columns → List Columns
 pruned k free ws = filter (λ w. not (has w k && list_any (λ v. subset (inter w free) v) (lacking k ws))) ws

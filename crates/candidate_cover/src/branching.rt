@@ -1,16 +1,25 @@
 // The least column sets that no agree set contains, split by a column: those with it and those without it.
-ghost use Rattle.std.specs.Prelude.{◌≡◌, ◌<◌, ◌++◌, ◌⊎◌, ◌&&◌, [], not, Bool, true, false, None, ℕ, List, length, IfOk, OnOk, IfSome};
+ghost use Rattle.std.specs.Prelude.{◌≡◌, ◌≤◌, ◌<◌, ◌++◌, ◌⊎◌, ◌&&◌, [], not, Bool, true, false, None, ℕ, List, length, take, drop, IfOk, OnOk, IfSome};
 ghost use Rattle.std.specs.List.{filter, list_any};
 ghost use Rattle.col_set.specs.ColSet.{IsSubset, empty, has, without, inter, subset};
 ghost use Rattle.col_set.specs.Target.{IsColumnTarget, has_target};
-ghost use Rattle.candidate_cover.specs.Branches.{covered, lacking, IsOwned, IsUnowned, IsBranch, HasBranched, pruned};
+ghost use Rattle.candidate_cover.specs.Branches.{covered, lacking, IsOwned, IsUnowned, IsBranch, HasBranched, HasEnded, pruned};
 ghost use Rattle.candidate_cover.specs.Growth.{having, ListsLeast};
 
 use rel_base::{ColSet, MOST_COLUMNS, Target};
 use std::alloc::{AllocError, Global};
 
 // Of more agree sets than these the ones that lie inside others are not looked for, which takes a step a pair.
-const MANY: usize = 512;
+const MANY: usize = 32_768;
+
+// The lists of the frames that stand, those of one behind those of another, in the same memory.
+//
+// A frame's lists are the ends of these: the agree sets that contain what it has chosen, and those that lack just one column of it.
+#[derive(Drop)]
+struct Frames {
+    pending: Vec<ColSet>,
+    own: Vec<ColSet>,
+}
 
 // How many of the agree sets lack the column.
 fn lacking_count(pending: &[ColSet], column: u8) -> usize
@@ -25,12 +34,26 @@ fn lacking_count(pending: &[ColSet], column: u8) -> usize
     count
 }
 
+// The free columns that all of the agree sets lack.
+fn lacked_by_all(free: ColSet, pending: &[ColSet]) -> ColSet
+    ensures low { IsSubset result free }
+    ensures none { (k : ℕ) → has result k ≡ true → having k pending.now ≡ [] }
+{
+    let mut lacked = free;
+    for w in pending {
+        lacked = lacked.minus(*w);
+    }
+    lacked
+}
+
 // Of the agree sets the one that lacks the fewest of the free columns: those that it lacks.
 fn fewest_lacked(free: ColSet, pending: &[ColSet]) -> ColSet
+    requires { 0 < length pending.now }
     ensures low { IsSubset result free }
-    ensures none { result ≡ empty → 0 < length pending.now → covered pending.now free ≡ true }
+    ensures lacks { (k : ℕ) → has result k ≡ true → list_any (λ w. not (has w k)) pending.now ≡ true }
+    ensures none { result ≡ empty → covered pending.now free ≡ true }
 {
-    let mut fewest = free;
+    let mut fewest = free.minus(pending[0]);
     for w in pending {
         let lacked = free.minus(*w);
         if lacked.len() < fewest.len() {
@@ -63,60 +86,100 @@ fn most_lacked(columns: ColSet, pending: &[ColSet]) -> Option<u8>
     Some(best)
 }
 
-// The agree sets that have the column.
-fn having_column(alloc: Global, column: u8, sets: &[ColSet]) -> Result<Vec<ColSet>, AllocError>
+// Moves the agree sets that have the column to the front, in their order: how many these are. Each set is written, so that what
+// the column is does not decide which way the code goes.
+fn move_having(sets: &mut [ColSet], column: u8) -> usize
     requires { column < MOST_COLUMNS }
-    ensures { IfOk result (λ found. found.items ≡ having column sets.now) }
+    ensures kept { take result sets.new ≡ having column sets.old }
+    ensures bound { result ≤ length sets.old }
 {
-    let mut found = Vec::new(alloc);
-    for w in sets {
+    let mut kept = 0;
+    for place in 0..sets.len() {
+        let w = sets[place];
+        sets[kept] = w;
         if w.has(column) {
-            found.push(*w)?;
+            kept += 1;
         }
     }
-    Ok(found)
+    kept
 }
 
-// The agree sets that lack the column.
-fn lacking_column(alloc: Global, column: u8, sets: &[ColSet]) -> Result<Vec<ColSet>, AllocError>
-    requires { column < MOST_COLUMNS }
-    ensures { IfOk result (λ found. found.items ≡ lacking column sets.now) }
+// Of the agree sets from a place on, keeps those that have the column.
+fn keep_having(sets: &mut Vec<ColSet>, from: usize, column: u8)
+    requires column { column < MOST_COLUMNS }
+    requires from { from ≤ length sets.old.items }
+    ensures { sets.new.items ≡ take from sets.old.items ++ having column (drop from sets.old.items) }
 {
-    let mut found = Vec::new(alloc);
+    let kept = move_having(&mut sets[from..], column);
+    sets.truncate(from + kept);
+}
+
+// Adds those of the agree sets from a place on that have the column.
+fn push_having(sets: &mut Vec<ColSet>, from: usize, column: u8) -> Result<(), AllocError>
+    requires column { column < MOST_COLUMNS }
+    requires from { from ≤ length sets.old.items }
+    ensures { OnOk result (sets.new.items ≡ sets.old.items ++ having column (drop from sets.old.items)) }
+{
+    let end = sets.len();
+    sets.extend_from_within(from..)?;
+    keep_having(sets, end, column);
+    Ok(())
+}
+
+// Adds the agree sets that lack the column.
+fn push_lacking(found: &mut Vec<ColSet>, column: u8, sets: &[ColSet]) -> Result<(), AllocError>
+    requires { column < MOST_COLUMNS }
+    ensures { OnOk result (found.new.items ≡ found.old.items ++ lacking column sets.now) }
+{
     for w in sets {
         if !w.has(column) {
-            found.push(*w)?;
-        }
-    }
-    Ok(found)
-}
-
-// Adds the agree sets that have the column.
-fn push_having(found: &mut Vec<ColSet>, column: u8, sets: &[ColSet]) -> Result<(), AllocError>
-    requires { column < MOST_COLUMNS }
-    ensures { OnOk result (found.new.items ≡ found.old.items ++ having column sets.now) }
-{
-    for w in sets {
-        if w.has(column) {
             found.push(*w)?;
         }
     }
     Ok(())
 }
 
-// Whether for each column of the set one of the agree sets lacks it.
-fn is_owned(own: &[ColSet], set: ColSet) -> bool
-    ensures yes { result ≡ true → IsOwned own.now set }
-    ensures no { result ≡ false → IsUnowned own.now set }
+// Whether for each column of the set one of the agree sets that have the further column lacks it.
+fn is_owned(own: &[ColSet], column: u8, set: ColSet) -> bool
+    requires { column < MOST_COLUMNS }
+    ensures yes { result ≡ true → IsOwned (having column own.now) set }
+    ensures no { result ≡ false → IsUnowned (having column own.now) set }
 {
     let mut found = ColSet::empty();
     for w in own {
-        found = found.union(set.minus(*w));
-        if found == set {
-            return true;
+        if w.has(column) {
+            found = found.union(set.minus(*w));
+            if found == set {
+                return true;
+            }
         }
     }
     found == set
+}
+
+// Adds the chosen columns with each one more that all pending agree sets lack: no such set is refuted, and it is one of the least
+// where each chosen column keeps an agree set of its own. These columns are free no longer.
+fn push_ends(
+    found: &mut Vec<ColSet>,
+    chosen: ColSet,
+    free: ColSet,
+    lacked: ColSet,
+    own: &[ColSet],
+) -> Result<ColSet, AllocError>
+    requires { IsSubset lacked free }
+    ensures low { IfOk result (λ left. IsSubset left free) }
+    ensures ended { IfOk result (λ left. (ws pending : List ℕ) → IsBranch ws chosen free pending own.now → 0 < length pending → ((k : ℕ) → has lacked k ≡ true → having k pending ≡ []) → HasEnded ws chosen free left pending own.now found.old.items found.new.items) }
+{
+    let mut left = free;
+    let mut rest = lacked;
+    while let Some(column) = rest.first() {
+        if is_owned(own, column, chosen) {
+            found.push(chosen.with(column))?;
+        }
+        left = left.without(column);
+        rest = rest.without(column);
+    }
+    Ok(left)
 }
 
 // Whether an agree set lies, as far as the free columns go, inside one of the others.
@@ -135,69 +198,122 @@ fn goes(others: &[ColSet], column: u8, free: ColSet, w: ColSet) -> bool
     w.has(column) && is_inside(others, free, w)
 }
 
-// The agree sets but those that go.
-fn pruned_sets(
-    alloc: Global,
-    others: &[ColSet],
-    column: u8,
-    free: ColSet,
-    pending: &[ColSet],
-) -> Result<Vec<ColSet>, AllocError>
+// Moves the agree sets but those that go to the front, in their order: how many these are.
+fn move_kept(sets: &mut [ColSet], others: &[ColSet], column: u8, free: ColSet) -> usize
     requires { column < MOST_COLUMNS }
-    ensures { IfOk result (λ found. found.items ≡ filter (λ w. not (has w column && list_any (λ v. subset (inter w free) v) others.now)) pending.now) }
+    ensures kept { take result sets.new ≡ filter (λ w. not (has w column && list_any (λ v. subset (inter w free) v) others.now)) sets.old }
+    ensures bound { result ≤ length sets.old }
 {
-    let mut found = Vec::new(alloc);
-    for w in pending {
-        if !goes(others, column, free, *w) {
-            found.push(*w)?;
+    let mut kept = 0;
+    for place in 0..sets.len() {
+        let w = sets[place];
+        if !goes(others, column, free, w) {
+            sets[kept] = w;
+            kept += 1;
         }
     }
-    Ok(found)
+    kept
+}
+
+// Of the agree sets from a place on, keeps all but those that go.
+fn keep_standing(sets: &mut Vec<ColSet>, from: usize, others: &[ColSet], column: u8, free: ColSet)
+    requires column { column < MOST_COLUMNS }
+    requires from { from ≤ length sets.old.items }
+    ensures { sets.new.items ≡ take from sets.old.items ++ filter (λ w. not (has w column && list_any (λ v. subset (inter w free) v) others.now)) (drop from sets.old.items) }
+{
+    let kept = move_kept(&mut sets[from..], others, column, free);
+    sets.truncate(from + kept);
+}
+
+impl Frames {
+    // Adds the lists of the frame that chooses the column too: the pending agree sets that have it, and as own ones those of the own
+    // ones that have it and the pending ones that lack it.
+    fn enter(&mut self, pending_from: usize, own_from: usize, column: u8) -> Result<(), AllocError>
+        requires column { column < MOST_COLUMNS }
+        requires pending_from { pending_from ≤ length self.old.pending.items }
+        requires own_from { own_from ≤ length self.old.own.items }
+        ensures pending { OnOk result (self.new.pending.items ≡ self.old.pending.items ++ having column (drop pending_from self.old.pending.items)) }
+        ensures own { OnOk result (self.new.own.items ≡ self.old.own.items ++ (having column (drop own_from self.old.own.items) ++ lacking column (drop pending_from self.old.pending.items))) }
+    {
+        push_having(&mut self.own, own_from, column)?;
+        push_lacking(&mut self.own, column, &self.pending[pending_from..])?;
+        push_having(&mut self.pending, pending_from, column)
+    }
+
+    // Takes those of the pending agree sets out that have the column and lie, as far as the free columns go, inside one that lacks it.
+    // Of too many none goes. The memory behind the own ones is used.
+    fn prune(&mut self, pending_from: usize, column: u8, free: ColSet) -> Result<(), AllocError>
+        requires column { column < MOST_COLUMNS }
+        requires from { pending_from ≤ length self.old.pending.items }
+        ensures pending { OnOk result ((self.new.pending.items ≡ self.old.pending.items) ⊎ (self.new.pending.items ≡ take pending_from self.old.pending.items ++ pruned column free (drop pending_from self.old.pending.items))) }
+        ensures own { OnOk result (self.new.own.items ≡ self.old.own.items) }
+    {
+        if self.pending.len() - pending_from > MANY {
+            return Ok(());
+        }
+        let own_end = self.own.len();
+        push_lacking(&mut self.own, column, &self.pending[pending_from..])?;
+        keep_standing(
+            &mut self.pending,
+            pending_from,
+            &self.own[own_end..],
+            column,
+            free,
+        );
+        self.own.truncate(own_end);
+        Ok(())
+    }
 }
 
 // Adds the least sets that have all of the chosen columns and else free ones.
 //
-// `pending` are the agree sets that contain the chosen columns, `own` those that lack just one of them. Where a chosen column has no
-// agree set of its own, no least set has all chosen ones. The column to go by is one of the fewest that an pending set lacks, which
-// bounds the branches by what any order needs; at most a frame for each column stands at a time.
+// Where a chosen column has no agree set of its own, no least set has all chosen ones. The column to go by is one of the fewest that
+// a pending set lacks, which bounds the branches by what any order needs; at most a frame for each column stands at a time. The
+// frame's pending sets are gone at the end.
 fn branch(
-    alloc: Global,
+    frames: &mut Frames,
     chosen: ColSet,
     free: ColSet,
-    pending: &[ColSet],
-    own: &[ColSet],
+    pending_from: usize,
+    own_from: usize,
     found: &mut Vec<ColSet>,
 ) -> Result<(), AllocError>
-    ensures { OnOk result ((ws : List ℕ) → IsBranch ws chosen free pending.now own.now → HasBranched ws chosen free found.old.items found.new.items) }
+    requires pending_from { pending_from ≤ length frames.old.pending.items }
+    requires own_from { own_from ≤ length frames.old.own.items }
+    ensures pending { OnOk result (frames.new.pending.items ≡ take pending_from frames.old.pending.items) }
+    ensures own { OnOk result (frames.new.own.items ≡ frames.old.own.items) }
+    ensures found { OnOk result ((ws : List ℕ) → IsBranch ws chosen free (drop pending_from frames.old.pending.items) (drop own_from frames.old.own.items) → HasBranched ws chosen free found.old.items found.new.items) }
 {
+    let pending = &frames.pending[pending_from..];
     if pending.is_empty() {
         found.push(chosen)?;
         return Ok(());
     }
-    match most_lacked(fewest_lacked(free, pending), pending) {
-        None => Ok(()),
+    let lacked = lacked_by_all(free, pending);
+    let left = push_ends(found, chosen, free, lacked, &frames.own[own_from..])?;
+    match most_lacked(fewest_lacked(left, pending), pending) {
+        None => {
+            frames.pending.truncate(pending_from);
+            Ok(())
+        }
         Some(column) => {
-            let left = free.without(column);
-            let lacking = lacking_column(alloc, column, pending)?;
-            let mut more = Vec::with_capacity(alloc, lacking.len())?;
-            more.extend_from_slice(lacking.as_slice())?;
-            push_having(&mut more, column, own)?;
-            if is_owned(more.as_slice(), chosen.with(column)) {
-                let having = having_column(alloc, column, pending)?;
+            let rest = left.without(column);
+            if is_owned(&frames.own[own_from..], column, chosen) {
+                let pending_end = frames.pending.len();
+                let own_end = frames.own.len();
+                frames.enter(pending_from, own_from, column)?;
                 branch(
-                    alloc,
+                    frames,
                     chosen.with(column),
-                    left,
-                    having.as_slice(),
-                    more.as_slice(),
+                    rest,
+                    pending_end,
+                    own_end,
                     found,
                 )?;
+                frames.own.truncate(own_end);
             }
-            if pending.len() > MANY {
-                return branch(alloc, chosen, left, pending, own, found);
-            }
-            let rest = pruned_sets(alloc, lacking.as_slice(), column, left, pending)?;
-            branch(alloc, chosen, left, rest.as_slice(), own, found)
+            frames.prune(pending_from, column, rest)?;
+            branch(frames, chosen, rest, pending_from, own_from, found)
         }
     }
 }
@@ -218,14 +334,11 @@ pub(crate) fn least(
             pending.push(*w)?;
         }
     }
+    let mut frames = Frames {
+        pending,
+        own: Vec::new(alloc),
+    };
     let mut found = Vec::new(alloc);
-    branch(
-        alloc,
-        ColSet::empty(),
-        columns,
-        pending.as_slice(),
-        &[],
-        &mut found,
-    )?;
+    branch(&mut frames, ColSet::empty(), columns, 0, 0, &mut found)?;
     Ok(found)
 }

@@ -1,97 +1,118 @@
-use Rattle.std.proofs.Common.{◌≡◌, ◌∙◌, ◌++◌, ◌&&◌, [], ◌<◌, not, true, ℕ, List, length, refl, sym, ap, ap₂, subst, arith, rules}
-use Rattle.std.specs.List.{filter, list_any}
+use Rattle.std.proofs.Common.{◌≡◌, ◌∙◌, ◌++◌, [], ◌≤◌, not, true, ℕ, List, length, drop, take, refl, sym, ap, subst, arith}
+use Rattle.std.specs.List.{list_any}
 use Rattle.std.proofs.lemmas.Result.{on_ok_weaker}
-use Rattle.col_set.specs.ColSet.{has, with, without, inter, subset}
+use Rattle.col_set.specs.ColSet.{has, with, without}
+use Rattle.col_set.specs.Subsets.{IsSubset-le}
 use Rattle.col_set.proofs.EachColumn.{without-lt}
 use Rattle.candidate_cover.specs.Growth.{having}
-use Rattle.candidate_cover.specs.Branches.{lacking, IsOwned, IsUnowned, HasBranched, pruned}
-use Rattle.candidate_cover.proofs.Branches.{branch_done, branch_dead, branch_with, branch_without, branch_whole, branch_both, branch_none, branch_as, branched_as, no_sets}
+use Rattle.candidate_cover.specs.Branches.{lacking, covered, IsOwned, IsUnowned, HasBranched, HasEnded}
+use Rattle.candidate_cover.proofs.Splitting.{slice_rest, no_shorter, new_end, old_front}
+use Rattle.candidate_cover.proofs.Branches.{branch_done, branch_dead, branch_with, owned_with, branch_on, branch_by, branch_none, branch_as, branched_as, ended_as, pruned_end, pruned_long, no_sets, some_sets}
 use Rattle.candidate_cover.proofs.branching.+branch.Goals as goal
-use Rattle.candidate_cover.proofs.branching.+branch.Goals.{then-is_owned+in_ok-having-in-Some+in_ok-branch-in-Some, else-is_owned}
+use Rattle.candidate_cover.proofs.branching.+branch.Goals.{then-is_owned+in_ok-enter-in-Some+in_ok-branch-in-Some, else-is_owned}
 
-pub returns-then-is_empty : goal.returns-then-is_empty
-returns-then-is_empty d c = λ ws b.
-    let none : c.args.pending.now ≡ [] = no_sets c.args.pending.now (sym c.if-is_empty.ensures) in
-    branch_done ws c.args.chosen c.args.free c.args.pending.now c.args.own.now b none c.args.found.now.items c.push.new.self.items c.in_ok-push.ensures.items
+pub returns-then-is_empty-clause-found : goal.returns-then-is_empty-clause-found
+returns-then-is_empty-clause-found d c = λ ws b.
+    let pending : List ℕ = drop c.args.pending_from c.args.frames.now.pending.items in
+    let none : pending ≡ [] = sym (slice_rest c.deref.result.now c.args.frames.now.pending.items c.args.pending_from c.deref.ensures.value) ∙ no_sets _ (sym c.is_empty.ensures ∙ c.if-is_empty.true) in
+    branch_done ws c.args.chosen c.args.free pending (drop c.args.own_from c.args.frames.now.own.items) b none c.args.found.now.items c.push.new.self.items c.in_ok-push.ensures.items
 
-pub branch-alloc-requires : goal.branch-alloc-requires
-branch-alloc-requires d c =
-    let a = without-lt c.args.free c.in-Some.column (c.fewest_lacked.ensures.low.each c.in-Some.column c.in-Some.ensures.some) in
-    let e = c.without-left.ensures in
-    (omega (arith, a, e), tt)
+pub branch-frames-requires : goal.branch-frames-requires
+branch-frames-requires d c =
+    let a = without-lt c.in_ok-left.left c.in-Some.column (c.fewest_lacked.ensures.low.each c.in-Some.column c.in-Some.ensures.some) in
+    let e = c.without-rest.ensures in
+    let l = IsSubset-le {x = c.in_ok-left.left} {y = c.args.free} c.in_ok-left.ensures.low in (
+      omega (arith, a, e, l),
+      (
+        no_shorter c.args.frames.now.pending.items _ c.enter.new.self.pending.items c.len-pending_end.result c.in_ok-enter-in-Some.ensures.pending (c.len-pending_end.ensures ∙ c.args.frames.now.pending.ok.0),
+        no_shorter c.args.frames.now.own.items _ c.enter.new.self.own.items c.len-own_end.result c.in_ok-enter-in-Some.ensures.own (c.len-own_end.ensures ∙ c.args.frames.now.own.ok.0),
+      ),
+    )
 
-pub branch-alloc-requires-in-Some : goal.branch-alloc-requires-in-Some
-branch-alloc-requires-in-Some d c =
-    let a = without-lt c.args.free c.in-Some.column (c.fewest_lacked.ensures.low.each c.in-Some.column c.in-Some.ensures.some) in
-    let e = c.without-left.ensures in
-    (omega (arith, a, e), tt)
+pub branch-frames-requires-in-Some : goal.branch-frames-requires-in-Some
+branch-frames-requires-in-Some d c =
+    let a = without-lt c.in_ok-left.left c.in-Some.column (c.fewest_lacked.ensures.low.each c.in-Some.column c.in-Some.ensures.some) in
+    let e = c.without-rest.ensures in
+    let l = IsSubset-le {x = c.in_ok-left.left} {y = c.args.free} c.in_ok-left.ensures.low in
+    let same_pending : c.if-is_owned.frames.pending.items ≡ c.args.frames.now.pending.items = elim c.if-is_owned.branch [
+      | then-is_owned+in_ok-enter-in-Some+in_ok-branch-in-Some w ↦
+          ap (λ v. v.pending.items) w.frames-is ∙ w.in_ok-branch-in-Some.ensures.pending
+          ∙ old_front c.args.frames.now.pending.items _ w.enter.new.self.pending.items w.len-pending_end.result w.in_ok-enter-in-Some.ensures.pending (w.len-pending_end.ensures ∙ c.args.frames.now.pending.ok.0)
+      | else-is_owned w ↦ ap (λ v. v.pending.items) w.frames-is
+    ] in
+    let same_own : c.if-is_owned.frames.own.items ≡ c.args.frames.now.own.items = elim c.if-is_owned.branch [
+      | then-is_owned+in_ok-enter-in-Some+in_ok-branch-in-Some w ↦
+          ap (λ v. v.own.items) w.frames-is ∙ w.truncate-then-is_owned.ensures.items ∙ ap (take w.len-own_end.result) w.in_ok-branch-in-Some.ensures.own
+          ∙ old_front c.args.frames.now.own.items _ w.enter.new.self.own.items w.len-own_end.result w.in_ok-enter-in-Some.ensures.own (w.len-own_end.ensures ∙ c.args.frames.now.own.ok.0)
+      | else-is_owned w ↦ ap (λ v. v.own.items) w.frames-is
+    ] in (
+      omega (arith, a, e, l),
+      (
+        pruned_long c.args.pending_from c.args.frames.now.pending.items c.if-is_owned.frames.pending.items c.prune.new.self.pending.items _ c.requires.pending_from same_pending c.in_ok-prune-in-Some.ensures.pending,
+        subst (λ (vs : List ℕ). c.args.own_from ≤ length vs) (sym (c.in_ok-prune-in-Some.ensures.own ∙ same_own)) c.requires.own_from,
+      ),
+    )
 
-pub returns-in-None : goal.returns-in-None
-returns-in-None d c = λ ws b.
-    let some : 0 < length c.args.pending.now = search rules in
-    branch_dead ws c.args.chosen c.args.free c.args.pending.now c.args.own.now b (c.fewest_lacked.ensures.none (c.in-None.ensures.none refl) some) c.args.found.now.items
+pub returns-in-None-clause-found : goal.returns-in-None-clause-found
+returns-in-None-clause-found d c = λ ws b.
+    let pending : List ℕ = drop c.args.pending_from c.args.frames.now.pending.items in
+    let own : List ℕ = drop c.args.own_from c.args.frames.now.own.items in
+    let left = c.in_ok-left.left in
+    let given = slice_rest c.deref.result.now c.args.frames.now.pending.items c.args.pending_from c.deref.ensures.value in
+    let ended : HasEnded ws c.args.chosen c.args.free left pending own c.args.found.now.items c.push_ends.new.found.items
+    = ended_as ws c.args.chosen c.args.free left c.lacked_by_all-lacked.result pending _ own _ c.args.found.now.items c.push_ends.new.found.items given
+    (slice_rest c.deref-2.result.now c.args.frames.now.own.items c.args.own_from c.deref-2.ensures.value) (some_sets _ (sym c.is_empty.ensures ∙ c.if-is_empty.false)) c.lacked_by_all-lacked.ensures.none b c.in_ok-left.ensures.ended in
+    ended.whole c.push_ends.new.found.items (branch_dead ws c.args.chosen left pending own ended.branch
+    (subst (λ (vs : List ℕ). covered vs left ≡ true) given (c.fewest_lacked.ensures.none (c.in-None.ensures.none refl))) c.push_ends.new.found.items)
 
-pub returns-in_ok-rest-in-Some : goal.returns-in_ok-rest-in-Some
-returns-in_ok-rest-in-Some d c = on_ok_weaker c.branch-alloc-in-Some.result (λ second ws b.
+pub returns-in_ok-prune-in-Some-clause-found : goal.returns-in_ok-prune-in-Some-clause-found
+returns-in_ok-prune-in-Some-clause-found d c = on_ok_weaker c.branch-frames-in-Some.result (λ second ws b.
     let s = c.args.chosen in
     let k = c.in-Some.column in
-    let pending = c.args.pending.now in
-    let own = c.args.own.now in
-    let choice : has c.args.free k ≡ true = c.fewest_lacked.ensures.low.each k c.in-Some.ensures.some in
-    let lacks : c.in_ok-lacking-in-Some.lacking.items ≡ lacking k pending = c.in_ok-lacking-in-Some.ensures in
-    let more : c.push_having.new.found.items ≡ lacking k pending ++ having k own
-    = c.in_ok-push_having-in-Some.ensures ∙ ap (λ (vs : List ℕ). vs ++ having k own) (c.in_ok-extend_from_slice-in-Some.ensures.items ∙ ap₂ (λ (us vs : List ℕ). us ++ vs) c.in_ok-more-in-Some.ensures.items (c.as_slice.ensures.value ∙ lacks)) in
-    let first : HasBranched ws (with s k) (without c.args.free k) c.args.found.now.items c.if-is_owned.found.items
-    = elim c.if-is_owned.branch [
-      | then-is_owned+in_ok-having-in-Some+in_ok-branch-in-Some w ↦
-          branched_as ws (with s k) w.with-then-is_owned.result (without c.args.free k) c.without-left.result c.args.found.now.items w.branch-alloc.new.found.items c.if-is_owned.found.items w.with-then-is_owned.ensures c.without-left.ensures (ap (λ v. v.items) w.found-is)
-          (w.in_ok-branch-in-Some.ensures ws (branch_as ws (with s k) w.with-then-is_owned.result (without c.args.free k) c.without-left.result (having k pending) w.as_slice-then-is_owned.result.now (lacking k pending ++ having k own) w.as_slice-then-is_owned-2.result.now
-          w.with-then-is_owned.ensures c.without-left.ensures (w.as_slice-then-is_owned.ensures.value ∙ w.in_ok-having-in-Some.ensures) (w.as_slice-then-is_owned-2.ensures.value ∙ more)
-          (branch_with ws s c.args.free pending own b k choice
-          (subst (λ (v : ℕ). IsOwned (lacking k pending ++ having k own) v) c.with.ensures (subst (λ (vs : List ℕ). IsOwned vs c.with.result) (c.as_slice-in-Some.ensures.value ∙ more) (w.if-is_owned.ensures.yes refl))))))
-      | else-is_owned w ↦
-          let u : IsUnowned (lacking k pending ++ having k own) (with s k) = subst (λ (v : ℕ). IsUnowned (lacking k pending ++ having k own) v) c.with.ensures (subst (λ (vs : List ℕ). IsUnowned vs c.with.result) (c.as_slice-in-Some.ensures.value ∙ more) (w.if-is_owned.ensures.no refl)) in
-          branched_as ws (with s k) (with s k) (without c.args.free k) (without c.args.free k) c.args.found.now.items c.args.found.now.items c.if-is_owned.found.items refl refl (ap (λ v. v.items) w.found-is)
-          (branch_none ws s c.args.free pending own b k choice u.column u.chosen u.none c.args.found.now.items)
+    let xs = c.args.frames.now.pending.items in
+    let ys = c.args.frames.now.own.items in
+    let pending : List ℕ = drop c.args.pending_from xs in
+    let own : List ℕ = drop c.args.own_from ys in
+    let left = c.in_ok-left.left in
+    let old = c.args.found.now.items in
+    let mid = c.push_ends.new.found.items in
+    let between = c.if-is_owned.found.items in
+    let given = slice_rest c.deref.result.now xs c.args.pending_from c.deref.ensures.value in
+    let owned_given = slice_rest c.deref-in-Some.result.now ys c.args.own_from c.deref-in-Some.ensures.value in
+    let ended : HasEnded ws s c.args.free left pending own old mid
+    = ended_as ws s c.args.free left c.lacked_by_all-lacked.result pending _ own _ old mid given (slice_rest c.deref-2.result.now ys c.args.own_from c.deref-2.ensures.value) (some_sets _ (sym c.is_empty.ensures ∙ c.if-is_empty.false))
+    c.lacked_by_all-lacked.ensures.none b c.in_ok-left.ensures.ended in
+    let choice : has left k ≡ true = c.fewest_lacked.ensures.low.each k c.in-Some.ensures.some in
+    let lacks : list_any (λ w. not (has w k)) pending ≡ true = subst (λ (vs : List ℕ). list_any (λ w. not (has w k)) vs ≡ true) given (c.fewest_lacked.ensures.lacks k c.in-Some.ensures.some) in
+    let same_pending : c.if-is_owned.frames.pending.items ≡ xs = elim c.if-is_owned.branch [
+      | then-is_owned+in_ok-enter-in-Some+in_ok-branch-in-Some w ↦
+          ap (λ v. v.pending.items) w.frames-is ∙ w.in_ok-branch-in-Some.ensures.pending
+          ∙ old_front xs _ w.enter.new.self.pending.items w.len-pending_end.result w.in_ok-enter-in-Some.ensures.pending (w.len-pending_end.ensures ∙ c.args.frames.now.pending.ok.0)
+      | else-is_owned w ↦ ap (λ v. v.pending.items) w.frames-is
     ] in
-    let left : c.as_slice-in-Some-3.result.now ≡ pruned k (without c.args.free k) pending
-    = c.as_slice-in-Some-3.ensures.value ∙ c.in_ok-rest-in-Some.ensures
-    ∙ ap₂ (λ (others : List ℕ) (f : ℕ). filter (λ w. not (has w k && list_any (λ v. subset (inter w f) v) others)) pending) (c.as_slice-in-Some-2.ensures.value ∙ lacks) c.without-left.ensures in
-    branch_both ws s c.args.free pending own b k choice c.args.found.now.items c.if-is_owned.found.items c.branch-alloc-in-Some.new.found.items first
-    (branched_as ws s s (without c.args.free k) c.without-left.result c.if-is_owned.found.items c.branch-alloc-in-Some.new.found.items c.branch-alloc-in-Some.new.found.items refl c.without-left.ensures refl
-    (second ws (branch_as ws s s (without c.args.free k) c.without-left.result (pruned k (without c.args.free k) pending) c.as_slice-in-Some-3.result.now own own refl c.without-left.ensures left refl (branch_without ws s c.args.free pending own b k choice))))
-    ) c.branch-alloc-in-Some.ensures
-
-pub branch-alloc-requires-then-pending-gt-MANY : goal.branch-alloc-requires-then-pending-gt-MANY
-branch-alloc-requires-then-pending-gt-MANY d c =
-    let a = without-lt c.args.free c.in-Some.column (c.fewest_lacked.ensures.low.each c.in-Some.column c.in-Some.ensures.some) in
-    let e = c.without-left.ensures in
-    (omega (arith, a, e), tt)
-
-pub returns-then-pending-gt-MANY : goal.returns-then-pending-gt-MANY
-returns-then-pending-gt-MANY d c = on_ok_weaker c.branch-alloc-then-pending-gt-MANY.result (λ second ws b.
-    let s = c.args.chosen in
-    let k = c.in-Some.column in
-    let pending = c.args.pending.now in
-    let own = c.args.own.now in
-    let choice : has c.args.free k ≡ true = c.fewest_lacked.ensures.low.each k c.in-Some.ensures.some in
-    let lacks : c.in_ok-lacking-in-Some.lacking.items ≡ lacking k pending = c.in_ok-lacking-in-Some.ensures in
-    let more : c.push_having.new.found.items ≡ lacking k pending ++ having k own
-    = c.in_ok-push_having-in-Some.ensures ∙ ap (λ (vs : List ℕ). vs ++ having k own) (c.in_ok-extend_from_slice-in-Some.ensures.items ∙ ap₂ (λ (us vs : List ℕ). us ++ vs) c.in_ok-more-in-Some.ensures.items (c.as_slice.ensures.value ∙ lacks)) in
-    let first : HasBranched ws (with s k) (without c.args.free k) c.args.found.now.items c.if-is_owned.found.items
-    = elim c.if-is_owned.branch [
-      | then-is_owned+in_ok-having-in-Some+in_ok-branch-in-Some w ↦
-          branched_as ws (with s k) w.with-then-is_owned.result (without c.args.free k) c.without-left.result c.args.found.now.items w.branch-alloc.new.found.items c.if-is_owned.found.items w.with-then-is_owned.ensures c.without-left.ensures (ap (λ v. v.items) w.found-is)
-          (w.in_ok-branch-in-Some.ensures ws (branch_as ws (with s k) w.with-then-is_owned.result (without c.args.free k) c.without-left.result (having k pending) w.as_slice-then-is_owned.result.now (lacking k pending ++ having k own) w.as_slice-then-is_owned-2.result.now
-          w.with-then-is_owned.ensures c.without-left.ensures (w.as_slice-then-is_owned.ensures.value ∙ w.in_ok-having-in-Some.ensures) (w.as_slice-then-is_owned-2.ensures.value ∙ more)
-          (branch_with ws s c.args.free pending own b k choice
-          (subst (λ (v : ℕ). IsOwned (lacking k pending ++ having k own) v) c.with.ensures (subst (λ (vs : List ℕ). IsOwned vs c.with.result) (c.as_slice-in-Some.ensures.value ∙ more) (w.if-is_owned.ensures.yes refl))))))
-      | else-is_owned w ↦
-          let u : IsUnowned (lacking k pending ++ having k own) (with s k) = subst (λ (v : ℕ). IsUnowned (lacking k pending ++ having k own) v) c.with.ensures (subst (λ (vs : List ℕ). IsUnowned vs c.with.result) (c.as_slice-in-Some.ensures.value ∙ more) (w.if-is_owned.ensures.no refl)) in
-          branched_as ws (with s k) (with s k) (without c.args.free k) (without c.args.free k) c.args.found.now.items c.args.found.now.items c.if-is_owned.found.items refl refl (ap (λ v. v.items) w.found-is)
-          (branch_none ws s c.args.free pending own b k choice u.column u.chosen u.none c.args.found.now.items)
+    let same_own : c.if-is_owned.frames.own.items ≡ ys = elim c.if-is_owned.branch [
+      | then-is_owned+in_ok-enter-in-Some+in_ok-branch-in-Some w ↦
+          ap (λ v. v.own.items) w.frames-is ∙ w.truncate-then-is_owned.ensures.items ∙ ap (take w.len-own_end.result) w.in_ok-branch-in-Some.ensures.own
+          ∙ old_front ys _ w.enter.new.self.own.items w.len-own_end.result w.in_ok-enter-in-Some.ensures.own (w.len-own_end.ensures ∙ c.args.frames.now.own.ok.0)
+      | else-is_owned w ↦ ap (λ v. v.own.items) w.frames-is
     ] in
-    branch_both ws s c.args.free pending own b k choice c.args.found.now.items c.if-is_owned.found.items c.branch-alloc-then-pending-gt-MANY.new.found.items first
-    (branched_as ws s s (without c.args.free k) c.without-left.result c.if-is_owned.found.items c.branch-alloc-then-pending-gt-MANY.new.found.items c.branch-alloc-then-pending-gt-MANY.new.found.items refl c.without-left.ensures refl
-    (second ws (branch_as ws s s (without c.args.free k) c.without-left.result pending pending own own refl c.without-left.ensures refl refl (branch_whole ws s c.args.free pending own b k choice))))
-    ) c.branch-alloc-then-pending-gt-MANY.ensures
+    let first : HasBranched ws (with s k) (without left k) mid between = elim c.if-is_owned.branch [
+      | then-is_owned+in_ok-enter-in-Some+in_ok-branch-in-Some w ↦
+          branched_as ws (with s k) w.with.result (without left k) c.without-rest.result mid w.branch-frames.new.found.items between w.with.ensures c.without-rest.ensures (ap (λ v. v.items) w.found-is)
+          (w.in_ok-branch-in-Some.ensures.found ws (branch_as ws (with s k) w.with.result (without left k) c.without-rest.result (having k pending) (drop w.len-pending_end.result w.enter.new.self.pending.items)
+          (having k own ++ lacking k pending) (drop w.len-own_end.result w.enter.new.self.own.items) w.with.ensures c.without-rest.ensures
+          (new_end xs _ w.enter.new.self.pending.items w.len-pending_end.result w.in_ok-enter-in-Some.ensures.pending (w.len-pending_end.ensures ∙ c.args.frames.now.pending.ok.0))
+          (new_end ys _ w.enter.new.self.own.items w.len-own_end.result w.in_ok-enter-in-Some.ensures.own (w.len-own_end.ensures ∙ c.args.frames.now.own.ok.0))
+          (branch_with ws s left pending own ended.branch k choice (owned_with ws s left pending own ended.branch k choice
+          (subst (λ (vs : List ℕ). IsOwned (having k vs) s) owned_given (c.is_owned.ensures.yes w.if-is_owned.true)) lacks))))
+      | else-is_owned w ↦
+          branched_as ws (with s k) (with s k) (without left k) (without left k) mid mid between refl refl (ap (λ v. v.items) w.found-is)
+          (branch_none ws s left pending own ended.branch k choice (subst (λ (vs : List ℕ). IsUnowned (having k vs) s) owned_given (c.is_owned.ensures.no w.if-is_owned.false)) mid)
+    ] in
+    branch_by ws s c.args.free left pending own old mid ended k choice between c.branch-frames-in-Some.new.found.items first
+    (branched_as ws s s (without left k) c.without-rest.result between c.branch-frames-in-Some.new.found.items c.branch-frames-in-Some.new.found.items refl c.without-rest.ensures refl
+    (second ws (branch_as ws s s (without left k) c.without-rest.result (drop c.args.pending_from c.prune.new.self.pending.items) (drop c.args.pending_from c.prune.new.self.pending.items) own (drop c.args.own_from c.prune.new.self.own.items)
+    refl c.without-rest.ensures refl (ap (drop c.args.own_from) (c.in_ok-prune-in-Some.ensures.own ∙ same_own))
+    (branch_on ws s left pending own ended.branch k choice (drop c.args.pending_from c.prune.new.self.pending.items)
+    (pruned_end c.args.pending_from k (without left k) c.without-rest.result xs c.if-is_owned.frames.pending.items c.prune.new.self.pending.items c.requires.pending_from same_pending c.without-rest.ensures c.in_ok-prune-in-Some.ensures.pending)))))
+    ) c.branch-frames-in-Some.ensures.found

@@ -10,7 +10,7 @@ pub returns : goal.returns
 returns c =
     let vs = c.loop-w.pending.items in
     let whole : vs ≡ filter (λ w. not (has_target w c.args.target)) c.args.agree_sets.now = c.loop-w.invariant ∙ ap (filter (λ w. not (has_target w c.args.target))) (take_all c.loop-w.w-index c.args.agree_sets.now c.loop-w-test.false) in
-    branched_least c.args.columns c.args.agree_sets.now c.args.target vs c.branch-alloc.new.found.items whole
-    (subst (λ (s : ℕ). HasBranched vs s c.args.columns [] c.branch-alloc.new.found.items) c.empty.ensures
-    (subst (λ (old : List ℕ). HasBranched vs c.empty.result c.args.columns old c.branch-alloc.new.found.items) c.new-found.ensures.items
-    (c.in_ok-branch.ensures vs (branch_as vs 0 c.empty.result c.args.columns c.args.columns vs c.as_slice.result.now [] [] c.empty.ensures refl c.as_slice.ensures.value refl (branch_opening vs c.args.columns)))))
+    branched_least c.args.columns c.args.agree_sets.now c.args.target vs c.branch-frames.new.found.items whole
+    (subst (λ (s : ℕ). HasBranched vs s c.args.columns [] c.branch-frames.new.found.items) c.empty.ensures
+    (subst (λ (old : List ℕ). HasBranched vs c.empty.result c.args.columns old c.branch-frames.new.found.items) c.new-found.ensures.items
+    (c.in_ok-branch.ensures.found vs (branch_as vs 0 c.empty.result c.args.columns c.args.columns vs vs [] c.new.result.items c.empty.ensures refl refl c.new.ensures.items (branch_opening vs c.args.columns)))))

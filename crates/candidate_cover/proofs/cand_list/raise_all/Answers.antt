@@ -1,5 +1,4 @@
-use Rattle.std.proofs.Common.{◌<◌, ◌∙◌, ℕ, max, length, sym, ap, subst, set, ◌≡◌, ◌++◌, List, map, take, drop, rules}
-use Rattle.std.proofs.lemmas.List.{get_or_default}
+use Rattle.std.proofs.Common.{◌<◌, ◌∙◌, ℕ, max, length, ap, set, rules}
 use Rattle.std.proofs.lemmas.List.Edits.{map_over_more}
 use Rattle.candidate_cover.proofs.cand_list.raise_all.Goals as goal
 

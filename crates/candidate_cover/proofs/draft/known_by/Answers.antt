@@ -1,7 +1,6 @@
-use Rattle.std.proofs.Common.{◌≡◌, ℕ, ◌+◌, ◌&&◌, ◌∙◌, sym, ap, true, cond, take}
+use Rattle.std.proofs.Common.{◌≡◌, ℕ, ◌+◌, ◌&&◌, ◌∙◌, sym, ap, true, cond}
 use Rattle.std.proofs.lemmas.Bool.{and_parts}
 use Rattle.col_set.specs.ColSet.{subset, minus, union, all}
-use Rattle.candidate_cover.specs.declared.draft.Known.{Known}
 use Rattle.candidate_cover.proofs.Drafting.{KnownSoFar, known_none, known_next, known_enough}
 use Rattle.candidate_cover.proofs.draft.known_by.Goals as goal
 

@@ -1,4 +1,4 @@
-use Rattle.std.proofs.Common.{◌≡◌, ◌<◌, ◌≤◌, ◌&&◌, ◌∙◌, ◌++◌, ◌∷◌, [], ℕ, Bool, true, false, leb, length, get_or, sym, ap, subst, List, rules}
+use Rattle.std.proofs.Common.{◌≡◌, ◌<◌, ◌≤◌, ◌&&◌, ◌∙◌, ◌++◌, ◌∷◌, [], ℕ, leb, length, get_or, sym, ap, subst, rules}
 use Rattle.std.specs.List.{filter}
 use Rattle.std.proofs.lemmas.List.{take_all}
 use Rattle.col_set.specs.ColSet.{size}

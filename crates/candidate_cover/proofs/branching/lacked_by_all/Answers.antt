@@ -1,0 +1,16 @@
+use Rattle.std.proofs.Common.{subst}
+use Rattle.std.proofs.lemmas.List.{take_all}
+use Rattle.candidate_cover.proofs.Branches.{LackedSoFar, lacked_first, lacked_more}
+use Rattle.candidate_cover.proofs.branching.lacked_by_all.Goals as goal
+
+pub loop-w-init : goal.loop-w-init
+loop-w-init c = lacked_first c.args.free
+
+pub loop-w-preserved : goal.loop-w-preserved
+loop-w-preserved c = lacked_more c.args.pending.now c.args.free c.loop-w.lacked c.loop-w.w-index c.w-item.result c.minus-lacked.result c.loop-w-test.true c.w-item.is c.loop-w.invariant c.minus-lacked.ensures
+
+pub returns-clause-low : goal.returns-clause-low
+returns-clause-low c = c.loop-w.invariant.low
+
+pub returns-clause-none : goal.returns-clause-none
+returns-clause-none c = let all = subst (λ ws. LackedSoFar ws c.args.free c.loop-w.lacked) (take_all c.loop-w.w-index c.args.pending.now c.loop-w-test.false) c.loop-w.invariant in all.none
