@@ -7,3 +7,4 @@ pub mod Sizes
 pub mod Grouping
 pub mod Reaching
 pub mod Siding
+pub mod Filing

@@ -1,4 +1,5 @@
 pub mod Determined
 pub mod Closure
+pub mod Blocks
 pub mod Keys
 pub mod Laws

@@ -1,6 +1,7 @@
 use crate::{LeftSides, closure, determines, shrink_key};
 use rel_base::{ColSet, Covers, Fd, MOST_COLUMNS};
 use std::alloc::{AllocError, Global};
+use std::cmp::Ordering;
 use std::test::Fail;
 
 fn set(columns: &[u8]) -> ColSet {
@@ -74,5 +75,58 @@ fn left_sides_tell_what_their_covers_tell(rt: HostRuntime) -> Result<(), Fail> {
         sides.determines(set(&[2]), set(&[3, 9])) && !sides.determines(set(&[1]), set(&[0]))
     );
     assert!(rt; sides.shrink_key(set(&[2, 3, 9])) == set(&[2]));
+    Ok(())
+}
+
+// How dependencies stand in covers.
+fn order(one: &Fd, other: &Fd) -> Ordering {
+    match one.right.cmp(&other.right) {
+        Ordering::Equal => one.left.cmp_report(other.left),
+        unequal => unequal,
+    }
+}
+
+// Covers of many dependencies, whose left sides fill several blocks, some of them with several columns beside them.
+fn many_covers(alloc: Global) -> Result<Covers, AllocError> {
+    let mut list = Vec::new(alloc);
+    for seed in 0..400u32 {
+        let columns = [
+            (seed % 11) as u8,
+            (seed * 7 % 13 + 3) as u8,
+            (seed * 5 % 17 + 5) as u8,
+        ];
+        list.push(Fd {
+            left: set(&columns),
+            right: (seed % 29 + 60) as u8,
+        })?;
+        list.push(Fd {
+            left: set(&columns),
+            right: (seed % 31 + 97) as u8,
+        })?;
+    }
+    list.sort_unstable_by(order);
+    Ok(Covers::of(Vec::new(alloc), list))
+}
+
+#[test]
+fn blocks_of_left_sides_tell_what_the_lists_tell(rt: HostRuntime) -> Result<(), Fail> {
+    let covers = many_covers(rt.alloc())?;
+    let sides = LeftSides::of(rt.alloc(), &covers)?;
+    let mut reached = 0u32;
+    for seed in 0..60u32 {
+        let x = set(&[
+            (seed % 11) as u8,
+            (seed * 3 % 13 + 3) as u8,
+            (seed * 7 % 11) as u8,
+            (seed * 11 % 17 + 5) as u8,
+            (seed * 5 % 17 + 5) as u8,
+            (seed * 2 % 13 + 3) as u8,
+        ]);
+        assert!(rt; sides.closure(x) == closure(&covers, x));
+        if sides.closure(x) != x {
+            reached = reached.wrapping_add(1);
+        }
+    }
+    assert!(rt; reached > 20);
     Ok(())
 }

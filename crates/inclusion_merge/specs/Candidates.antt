@@ -3,6 +3,7 @@ use Rattle.std.specs.Prelude.{◌≡◌, ◌≢◌, ◌⊎◌, ◌<◌, ℕ, ◌
 use Rattle.std.specs.List.{flat_map}
 use Rattle.col_set.specs.ColSet.{upto}
 use Rattle.rel_base.specs.Cells.{Cell}
+use Rattle.inclusion_merge.specs.Sharing.{list_at}
 use Rattle.inclusion_merge.specs.WideSet.{has_wide}
 use Rattle.inclusion_merge.specs.declared.candidates.Candidates.{Candidates}
 
@@ -10,13 +11,13 @@ use Rattle.inclusion_merge.specs.declared.candidates.Candidates.{Candidates}
 abbrev pub may : Candidates → ℕ → ℕ → Bool
 may c dependent referenced = has_wide (drop (dependent * c.parts) c.kept.items) referenced
 
--- no inclusion of a column or in it is left, but in itself
-abbrev pub IsSettled : Candidates → ℕ → Type 0
-IsSettled c column = (other : ℕ) → other < c.columns → other ≢ column → (may c column other ≡ false) × (may c other column ≡ false)
+-- what is left of a column's list tells nothing more: the column is included in no other, and nothing is left of those that may be included in it
+abbrev pub IsSettled : Candidates → List (List Cell) → ℕ → Type 0
+IsSettled c rests column = (other : ℕ) → other < c.columns → other ≢ column → (may c column other ≡ false) × ((may c other column ≡ false) ⊎ (list_at rests other ≡ []))
 
 -- a column's list stays as it was, or nothing is left of it and the column is settled
-abbrev pub IsSameOrSettled : Candidates → ℕ → List Cell → List Cell → Type 0
-IsSameOrSettled c column old new = (new ≡ old) ⊎ ((new ≡ []) × IsSettled c column)
+abbrev pub IsSameOrSettled : Candidates → List (List Cell) → ℕ → List Cell → List Cell → Type 0
+IsSameOrSettled c rests column old new = (new ≡ old) ⊎ ((new ≡ []) × IsSettled c rests column)
 
 -- whether two columns differ, and the first may still be included in the second
 abbrev pub is_left : Candidates → ℕ × ℕ → Bool

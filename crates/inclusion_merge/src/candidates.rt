@@ -1,5 +1,5 @@
 // Which inclusions are still possible.
-ghost use Rattle.std.specs.Prelude.{◌≡◌, ◌≢◌, ◌&&◌, ◌||◌, ◌<◌, ◌≤◌, ◌+◌, ◌*◌, ℕ, true, length, slice_index, IfOk, IsTrue, vec_len};
+ghost use Rattle.std.specs.Prelude.{◌≡◌, ◌≢◌, ◌&&◌, ◌<◌, ◌≤◌, ◌+◌, ◌*◌, ℕ, true, length, slice_index, IfOk, vec_len};
 ghost use Rattle.col_set.specs.ColSet.{inter};
 ghost use Rattle.col_set.specs.declared.col_set.TheConstants.{COLUMN_PLACES};
 ghost use Rattle.inclusion_merge.specs.WideSet.{has_wide};
@@ -20,7 +20,7 @@ pub(crate) struct Candidates {
 }
 
 impl Candidates {
-    ghost use Rattle.inclusion_merge.specs.Candidates.{IsSettled, may};
+    ghost use Rattle.inclusion_merge.specs.Candidates.{may};
 
     /// All inclusions among so many columns.
     pub(crate) fn all(alloc: Global, columns: usize) -> Result<Candidates, AllocError>
@@ -62,28 +62,6 @@ impl Candidates {
         ensures { result ≡ may self.now dependent referenced }
     {
         has_wide(&self.kept[dependent * self.parts..], referenced)
-    }
-
-    /// Whether no inclusion of the column or in it is left, but in itself.
-    pub(crate) fn is_settled(&self, column: usize) -> bool
-        requires { column < self.now.columns }
-        ensures { IsTrue result → IsSettled self.now column }
-    {
-        for other in 0..self.columns {
-            if other != column && self.has_either(column, other) {
-                return false;
-            }
-        }
-        true
-    }
-
-    // Whether one of the two may still be included in the other.
-    fn has_either(&self, one: usize, other: usize) -> bool
-        requires one { one < self.now.columns }
-        requires other { other < self.now.columns }
-        ensures { result ≡ (may self.now one other || may self.now other one) }
-    {
-        self.has(one, other) || self.has(other, one)
     }
 
     /// The column may be included in these columns alone, of those that are left.

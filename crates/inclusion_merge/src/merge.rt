@@ -1,7 +1,7 @@
 // Lists of values merged, all at once.
-ghost use Rattle.std.specs.Prelude.{◌≡◌, ◌<◌, ◌≤◌, ◌+◌, ◌*◌, ◌&&◌, if◌then◌else◌, ℕ, Bool, true, false, length, map, slice_index_or, IfOk, MatchBool, vec_len};
+ghost use Rattle.std.specs.Prelude.{◌≡◌, ◌<◌, ◌≤◌, ◌+◌, ◌*◌, ◌&&◌, ◌⊎◌, if◌then◌else◌, ℕ, Bool, [], true, false, length, map, slice_index_or, IfOk, IsTrue, MatchBool, vec_len};
 ghost use Rattle.std.specs.Prelude.{drop};
-ghost use Rattle.inclusion_merge.specs.Candidates.{IsSameOrSettled, may};
+ghost use Rattle.inclusion_merge.specs.Candidates.{IsSameOrSettled, IsSettled, may};
 ghost use Rattle.inclusion_merge.specs.WideSet.{has_wide};
 ghost use Rattle.inclusion_merge.specs.Sharing.{AllRise, AllEnded, IsFirstOf, LeastSoFar, SharesLeast, TellsParts, list_at, lists_of, values_behind};
 
@@ -65,24 +65,62 @@ impl Turns {
 // Where it is time, takes all that is left off the lists that are no longer needed.
 fn settle(rests: &mut [&[Value]], kept: &Candidates, turns: &mut Turns)
     requires { kept.now.columns ≡ length rests.old }
-    ensures { (place : ℕ) → place < length rests.old → IsSameOrSettled kept.now place (list_at (lists_of rests.old) place) (list_at (lists_of rests.new) place) }
+    ensures { (place : ℕ) → place < length rests.old
+        → IsSameOrSettled kept.now (lists_of rests.new) place (list_at (lists_of rests.old) place) (list_at (lists_of rests.new) place) }
 {
     if turns.is_due() {
         for place in 0..rests.len() {
-            rests[place] = rest_if_needed(rests[place], kept, place);
+            rests[place] = rest_if_needed(rests, kept, place);
         }
     }
 }
 
-fn rest_if_needed<'a, 'b>(rest: &'a [Value<'b>], kept: &Candidates, place: usize) -> &'a [Value<'b>]
-    requires { place < kept.now.columns }
-    ensures { IsSameOrSettled kept.now place rest.now result.now }
+fn rest_if_needed<'a, 'b>(
+    rests: &[&'a [Value<'b>]],
+    kept: &Candidates,
+    place: usize,
+) -> &'a [Value<'b>]
+    requires columns { kept.now.columns ≡ length rests.now }
+    requires place { place < kept.now.columns }
+    ensures { IsSameOrSettled kept.now (lists_of rests.now) place (list_at (lists_of rests.now) place) result.now }
 {
-    if !rest.is_empty() && kept.is_settled(place) {
+    let rest = rests[place];
+    if !rest.is_empty() && is_settled(rests, kept, place) {
         &rest[..0]
     } else {
         rest
     }
+}
+
+// Whether the values that are left of a list tell nothing more: it is a part of no other list, and those that may be a part of it have ended.
+fn is_settled(rests: &[&[Value]], kept: &Candidates, place: usize) -> bool
+    requires columns { kept.now.columns ≡ length rests.now }
+    requires place { place < kept.now.columns }
+    ensures { IsTrue result → IsSettled kept.now (lists_of rests.now) place }
+{
+    for other in 0..rests.len() {
+        if other != place && is_open(rests, kept, place, other) {
+            return false;
+        }
+    }
+    true
+}
+
+// Whether the values that are left of a list may tell something of it and another one.
+fn is_open(rests: &[&[Value]], kept: &Candidates, place: usize, other: usize) -> bool
+    requires columns { kept.now.columns ≡ length rests.now }
+    requires place { place < kept.now.columns }
+    requires other { other < kept.now.columns }
+    ensures part { result ≡ false → may kept.now place other ≡ false }
+    ensures whole { result ≡ false → (may kept.now other place ≡ false) ⊎ (list_at (lists_of rests.now) other ≡ []) }
+{
+    if kept.has(place, other) {
+        return true;
+    }
+    if !kept.has(other, place) {
+        return false;
+    }
+    !rests[other].is_empty()
 }
 
 fn slices_of<'a, 'b>(
