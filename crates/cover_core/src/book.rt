@@ -45,6 +45,7 @@ use std::marker::{Brand, Model};
 use std::mem;
 use std::sync::Arc;
 use std::sync::ledger::Blank;
+use std::thread::Threads;
 use validator::Store;
 
 // Of so many live rows all pairs are compared.
@@ -110,7 +111,29 @@ impl Book {
     ) -> Result<Book, AllocError>
         ensures { IfOk result (λ book. book ≡ opened_core (opened nulls limits.rows relation)) }
     {
-        let rows = RowLog::open_with(alloc, relation, limits, nulls)?;
+        Book::of_rows(alloc, RowLog::open_with(alloc, relation, limits, nulls)?)
+    }
+
+    /// The same book, whose columns are coded beside each other by so many workers at most; one worker is the thread of the caller and
+    /// no other.
+    pub fn open_by<R: Threads + Sync>(
+        rt: &R,
+        alloc: Global,
+        relation: Relation,
+        limits: Limits,
+        nulls: Nulls,
+        workers: u8,
+    ) -> Result<Book, AllocError>
+        ensures { IfOk result (λ book. book ≡ opened_core (opened nulls limits.rows relation)) }
+    {
+        let rows = RowLog::open_by(rt, alloc, relation, limits, nulls, workers)?;
+        Book::of_rows(alloc, rows)
+    }
+
+    // The book of these rows, with no witness, and for each target the empty set as its one candidate.
+    fn of_rows(alloc: Global, rows: RowLog) -> Result<Book, AllocError>
+        ensures { IfOk result (λ book. book ≡ opened_core rows) }
+    {
         let snapshot = rows.snapshot(alloc)?;
         // `names` is called for its clause that the rows are a row state.
         let _names = rows.names();
