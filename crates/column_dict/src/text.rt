@@ -15,7 +15,7 @@ const MOST_SHORT: usize = 14;
 // How many bytes a cell has at most that is kept in one small block. So many are a block's bytes beside those of an allocator.
 const MOST_MIDDLE: usize = 24;
 
-// The same of a larger block.
+// How many bytes a cell has at most that is kept in one block of the next size of an allocator.
 const MOST_WIDE: usize = 40;
 
 /// The bytes of a cell that a dictionary keeps. It is two words: a short cell is kept in them, and takes no memory beside them.

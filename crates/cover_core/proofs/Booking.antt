@@ -24,7 +24,7 @@ use Rattle.cover_steps.proofs.Lists.{find-Some}
 use Rattle.cover_steps.proofs.Found.{IsEntry, IsEntry-listed, Listed-entries}
 use Rattle.cover_steps.proofs.Fitting.{Fits-shown}
 use Rattle.cover_steps.proofs.Keeping.{cand-least, cand-marked}
-use Rattle.validator.specs.Verdicts.{IsBreach, IsFitting}
+use Rattle.validator.specs.Verdicts.{IsViolation, IsFitting}
 use Rattle.cover_core.specs.Work.{work}
 use Rattle.cover_core.proofs.Measure.{work-less, marked-no_more, marked-fewer}
 
@@ -72,7 +72,7 @@ module _ (s : Core) (sound : Sound s) (t : Target) (c : Cand) (entry : IsEntry s
   pub IsFitting-entry : IsFitting (job_of s t c table)
   IsFitting-entry = IsFitting-fits s.rows (job_of s t c table) Fits-entry
 
-  module _ (i j : ℕ) (breach : IsBreach table c.left t i j) where
+  module _ (i j : ℕ) (violation : IsViolation table c.left t i j) where
     live_of : (k : ℕ) → Contains (live_numbers table) k → Contains s.rows.live k
     live_of k h = subst (λ (ks : List ℕ). Contains ks k) (live_numbers-shown table s.rows sound.rows shows) h
 
@@ -80,18 +80,18 @@ module _ (s : Core) (sound : Sound s) (t : Target) (c : Cand) (entry : IsEntry s
     is_live_of k h = list_any_at (eqb k) k s.rows.live (Listed-contained k s.rows.live (live_of k h)) (eq-eqb k k refl)
 
     pub apart : i ≢ j
-    apart e = let l = breach.rising in absurd (omega arith)
+    apart e = let l = violation.rising in absurd (omega arith)
 
     -- a pair that breaks a candidate is of two live rows, whose agree set refutes it
-    pub breach-live : AreLive s.rows i j
-    breach-live = record { first = is_live_of i breach.first; second = is_live_of j breach.second }
+    pub violation-live : AreLive s.rows i j
+    violation-live = record { first = is_live_of i violation.first; second = is_live_of j violation.second }
 
-    pub breach-refutes : refutes_some s (agree_of s.rows i j) ≡ true
+    pub violation-refutes : refutes_some s (agree_of s.rows i j) ≡ true
     unfolding refutes_some
-    breach-refutes =
-        let same : code_agree table i j ≡ agree_of s.rows i j = code_agree-shown table s.rows sound.rows shows i j (live_of i breach.first) (live_of j breach.second) apart in
+    violation-refutes =
+        let same : code_agree table i j ≡ agree_of s.rows i j = code_agree-shown table s.rows sound.rows shows i j (live_of i violation.first) (live_of j violation.second) apart in
         list_any_at (λ (e : Target × Cand). subset e.1.left (agree_of s.rows i j) && not (has_target (agree_of s.rows i j) e.0)) (t, c) (entries s) (Listed-entries s t c entry.target entry.listed)
-        (and_from _ _ (true-subset (subst (IsSubset c.left) same breach.left)) (not_from_false _ (ap (λ (z : ℕ). has_target z t) (sym same) ∙ breach.target)))
+        (and_from _ _ (true-subset (subst (IsSubset c.left) same violation.left)) (not_from_false _ (ap (λ (z : ℕ). has_target z t) (sym same) ∙ violation.target)))
 
   -- a mark up to the next number leaves less to do
   pub work-marked : c.upto < next s.rows → work (with_cands s t (marked (cands s t) c.left (next s.rows))) < work s

@@ -19,7 +19,7 @@ use Rattle.cover_steps.specs.Core.{Core, cands, first_unfinished, refutes_some, 
 use Rattle.cover_steps.specs.Steps as steps
 use Rattle.cover_steps.specs.Sound.{Sound, Fits}
 use Rattle.cover_steps.proofs.Found.{IsEntry}
-use Rattle.validator.specs.Verdicts.{IsBreach, IsFitting}
+use Rattle.validator.specs.Verdicts.{IsViolation, IsFitting}
 use Rattle.cover_core.specs.Kept.{IsBook}
 use Rattle.cover_core.specs.Replies.{reply_of_mark, reply_of_refutation}
 use Rattle.cover_core.specs.Work.{Extends, work}
@@ -27,7 +27,7 @@ use Rattle.cover_core.specs.declared.cursor.Unfinished.{Unfinished}
 use Rattle.cover_core.specs.Past.{IsFirst, place}
 use Rattle.cover_core.specs.declared.answers.Refutation.{Refutation}
 use Rattle.cover_core.specs.declared.answers.Refutation.TheVariants.{Gone, Known, Booked}
-use Rattle.cover_core.proofs.Booking.{job_of, unfinished-entry, Fits-entry, IsFitting-entry, breach-live, breach-refutes, work-marked}
+use Rattle.cover_core.proofs.Booking.{job_of, unfinished-entry, Fits-entry, IsFitting-entry, violation-live, violation-refutes, work-marked}
 use Rattle.cover_core.proofs.Measure.{work-booked}
 use Rattle.cover_core.proofs.Whole.{IsJobOf}
 
@@ -111,15 +111,15 @@ module _ (s now : Core) (table : CodeTable) (book : IsBook s table) (view : s �
   turn-marked answer new step = subst (λ (m : Core). Advances m new) view (marked-so answer new (subst (λ (j : JobParts). steps.Marking s j (reply_of_mark answer) new) same step))
 
   -- ---- a refutation
-  module _ (i j : ℕ) (breach : IsBreach job.snapshot job.left job.target i j) where
-    here : IsBreach table c.left t i j
-    here = subst (λ (k : JobParts). IsBreach k.snapshot k.left k.target i j) same breach
+  module _ (i j : ℕ) (violation : IsViolation job.snapshot job.left job.target i j) where
+    here : IsViolation table c.left t i j
+    here = subst (λ (k : JobParts). IsViolation k.snapshot k.left k.target i j) same violation
 
     live : steps.AreLive s.rows i j
-    live = breach-live s book.sound t c entry table book.table book.shows i j here
+    live = violation-live s book.sound t c entry table book.table book.shows i j here
 
     refutes : refutes_some s (agree_of s.rows i j) ≡ true
-    refutes = breach-refutes s book.sound t c entry table book.table book.shows i j here
+    refutes = violation-refutes s book.sound t c entry table book.table book.shows i j here
 
     booked-so : (answer : Refutation) (new : Core) → Sound new → steps.Refuting s i j (reply_of_refutation answer) new → Advances s new
     booked-so (Gone row) new sound (inl gone, stays) = absurd (true≢false (sym live.first ∙ gone.0))

@@ -42,7 +42,7 @@ pub record HasCompared (rows : List CodedRow) (second : CodedRow) (old new : Lis
   pub each : (e : Evidence) → Listed e new → Listed e old ⊎ ((first : CodedRow) × Listed first rows × IsPair first second e)
   pub told : (first : CodedRow) → Listed first rows → first.number < second.number → Listed (agree_set first.codes.items second.codes.items) (found_sets new)
 
--- The same of each of the others with each of the rows.
+-- The evidence is of pairs of one of the rows and one of the others, and each of the others was compared with each row of a smaller number.
 pub record HaveCompared (rows others : List CodedRow) (found : List Evidence) : Type 0 where
   pub each : (e : Evidence) → Listed e found → (first second : CodedRow) × Listed first rows × Listed second others × IsPair first second e
   pub told : (first second : CodedRow) → Listed first rows → Listed second others → first.number < second.number → Listed (agree_set first.codes.items second.codes.items) (found_sets found)

@@ -81,7 +81,7 @@ fn compare(
     Ok(())
 }
 
-// The same of a row and each one before it.
+// Adds what a row and each one before it agree on, where no pair before agreed on just that.
 fn push_pairs_with(
     rows: &[CodedRow],
     second: &CodedRow,

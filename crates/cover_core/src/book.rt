@@ -34,7 +34,7 @@ use crate::parts::{drafted, put_all, specialised};
 use crate::renewal::renewed_after;
 use crate::sampling::sampled;
 use crate::searching::{first_drawable, first_unfinished, move_both_back};
-use crate::verdict::{breaches_on, store_of};
+use crate::verdict::{store_of, violations_on};
 use crate::waiting::{Sizes, count, of_sizes};
 use candidate_cover::{Cand, CandidateCover, Marking};
 use negative_cover::{NegativeCover, Witness};
@@ -55,7 +55,7 @@ const FEW_ROWS: u32 = 1500;
 const MOST_WAITING: usize = 1 << 20;
 
 // How many pairs of rows a pass asks for where a dependency does not hold.
-const MOST_BREACHES: usize = 64;
+const MOST_VIOLATIONS: usize = 64;
 
 /// The rows of a relation, the witnesses that refute dependencies, and for each target the candidates that they leave.
 ///
@@ -114,8 +114,8 @@ impl Book {
         Book::of_rows(alloc, RowLog::open_with(alloc, relation, limits, nulls)?)
     }
 
-    /// The same book, whose columns are coded beside each other by so many workers at most; one worker is the thread of the caller and
-    /// no other.
+    /// The book that `open_with` makes, whose columns are coded beside each other by so many workers at most; one worker is the thread
+    /// of the caller and no other.
     pub fn open_by<R: Threads + Sync>(
         rt: &R,
         alloc: Global,
@@ -518,8 +518,8 @@ impl Book {
     {
         let next = self.rows.next();
         let job = Job::of(target, cand.left, cand.upto, next, self.snapshot.clone()?);
-        let (store, most) = (&mut self.store, MOST_BREACHES);
-        let pairs = breaches_on::<Brand>(store, self.alloc, &job, most, Blank::new(1))?;
+        let (store, most) = (&mut self.store, MOST_VIOLATIONS);
+        let pairs = violations_on::<Brand>(store, self.alloc, &job, most, Blank::new(1))?;
         if pairs.is_empty() {
             self.mark(&job);
             return Ok(());
@@ -564,7 +564,7 @@ impl Book {
         let snapshot = self.snapshot.clone()?;
         let job = Job::of(first.target, first.left, first.upto, next, snapshot);
         let store = &mut self.store;
-        let mut pairs = breaches_on::<Brand>(store, self.alloc, &job, 1, Blank::new(1))?;
+        let mut pairs = violations_on::<Brand>(store, self.alloc, &job, 1, Blank::new(1))?;
         match pairs.pop() {
             Some(pair) => {
                 self.refute(pair.0, pair.1)?;

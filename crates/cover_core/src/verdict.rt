@@ -22,7 +22,7 @@ pub(crate) fn store_of(alloc: Global, snapshot: &Arc<Snapshot>) -> Result<Store,
 }
 
 // Pairs of rows that break a job's dependency, up to so many and from groups of their own. Steps are not counted.
-pub(crate) fn breaches_on<L: Ledger>(
+pub(crate) fn violations_on<L: Ledger>(
     store: &mut Store,
     alloc: Global,
     job: &Job,
@@ -40,6 +40,6 @@ pub(crate) fn breaches_on<L: Ledger>(
     ensures store { store.new ≡ store.old }
 {
     let mut steps = Steps::<L>::none(blank);
-    let pairs = store.breaches(alloc, job, most, &mut steps)?;
+    let pairs = store.violations(alloc, job, most, &mut steps)?;
     Ok(pairs)
 }

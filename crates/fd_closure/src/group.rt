@@ -51,7 +51,7 @@ fn end_of(fds: &[Fd], column: u8, size: u32) -> usize
     fds.partition_point(|fd| fd.right < column || fd.right == column && fd.left.len() <= size)
 }
 
-// The same as `has_left_inside`, by a walk over the left sides of at most as many columns as x has.
+// Whether a left side of the column lies inside x, by a walk over those of at most as many columns as x has.
 fn has_short_left_inside(fds: &[Fd], x: ColSet, column: u8) -> bool
     ensures only { IsTrue result → words.has_left_inside fds.now x column ≡ true }
     ensures every { IsInOrder fds.now → result ≡ words.has_left_inside fds.now x column }

@@ -39,7 +39,7 @@ fn cmp_path(one: ColSet, other: ColSet) -> Ordering {
     }
 }
 
-// The same with one side in place of those that stand one after another and have the same columns.
+// The sides, with one in place of those that stand one after another and have the same columns.
 fn joined_sides(
     alloc: Global,
     single: &[(ColSet, ColSet)],

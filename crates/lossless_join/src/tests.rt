@@ -196,7 +196,7 @@ fn agrees_on(
     Ok(whole.contains(row) == is_matched(alloc, tables, row)?)
 }
 
-// The same for all rows of three columns with one of these cells in each.
+// Whether the join and the definition agree on all rows of three columns with one of these cells in each.
 fn agrees(alloc: Global, rt: &impl Abort, tables: &[Filled]) -> Result<bool, AllocError> {
     let whole = joined(alloc, rt, tables)?;
     let cells = [b"".as_slice(), b"a".as_slice(), b"b".as_slice()];

@@ -80,8 +80,8 @@ impl RowLog {
         RowLog::coded(alloc, names, rows, columns, limits, nulls)
     }
 
-    /// The same, where the columns are coded beside each other by so many workers at most. One worker is the thread of the caller
-    /// and no other. The codes are the same, however many there are.
+    /// The rows of a relation as `open_with` has them, whose columns are coded beside each other by so many workers at most. One worker
+    /// is the thread of the caller and no other. The codes are the same, however many there are.
     pub fn open_by<R: Threads + Sync>(
         rt: &R,
         alloc: Global,

@@ -151,7 +151,7 @@ pub(crate) fn split_in(
     Ok(groups)
 }
 
-// The same with slots of its own for the codes below a bound.
+// Splits groups of rows by their codes, which are below a bound, with slots of its own.
 pub(crate) fn split(
     alloc: Global,
     rows: &[RowNo],

@@ -93,7 +93,7 @@ fn laid_out(alloc: Global, groups: &Groups, keys: &[u64]) -> Result<Groups, Allo
     Ok(laid)
 }
 
-// The same groups in the order of their first rows. It sorts the groups, unless they stand in order.
+// The groups in the order of their first rows. It sorts them, unless they stand in order.
 pub(crate) fn in_order(alloc: Global, groups: Groups) -> Result<Groups, AllocError>
     requires { IsCut groups.rows.items groups.ends.items }
     ensures cut { IfOk result (λ new. IsCut new.rows.items new.ends.items) }

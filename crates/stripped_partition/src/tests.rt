@@ -40,7 +40,7 @@ fn cell_of(code: u32) -> &'static [u8] {
     }
 }
 
-// The same rows, plainly.
+// The rows of three columns of codes, as plain rows.
 fn rows_of(alloc: Global, columns: &[Column; 3], bound: u32) -> Result<PlainRows, Fail> {
     let mut rows = Vec::new(alloc);
     for place in 0..6 {

@@ -10,12 +10,12 @@ use Rattle.rel_base.specs.JobParts.{JobParts}
 use Rattle.rel_base.specs.Shows.{holds_in_below}
 use Rattle.rel_base.proofs.Alike.{code_agree-alike, holds_in-alike, holds_in_below-alike}
 use Rattle.validator.specs.Asking.{IsAsked}
-use Rattle.validator.specs.Verdicts.{AreFound, IsBreach, IsFitting, new_rows}
+use Rattle.validator.specs.Verdicts.{AreFound, IsViolation, IsFitting, new_rows}
 use Rattle.validator.specs.declared.shelf.Asked.{Asked}
 
 module _ (s u : CodeTable) (alike : Alike s u) where
-  breach-alike : (x : ℕ) (t : Target) (i j : ℕ) → IsBreach s x t i j → IsBreach u x t i j
-  breach-alike x t i j b =
+  violation-alike : (x : ℕ) (t : Target) (i j : ℕ) → IsViolation s x t i j → IsViolation u x t i j
+  violation-alike x t i j b =
       let e = code_agree-alike s u alike i j b.first b.second in record {
         first = subst (λ (ns : List ℕ). Contains ns i) alike.live b.first;
         second = subst (λ (ns : List ℕ). Contains ns j) alike.live b.second;
@@ -26,7 +26,7 @@ module _ (s u : CodeTable) (alike : Alike s u) where
 
   pub found-alike : (x : ℕ) (t : Target) (pairs : List (ℕ × ℕ)) → AreFound s x t pairs → AreFound u x t pairs
   found-alike x t pairs found = record {
-    each = λ k d l. breach-alike x t (get_or pairs k d).0 (get_or pairs k d).1 (found.each k d l);
+    each = λ k d l. violation-alike x t (get_or pairs k d).0 (get_or pairs k d).1 (found.each k d l);
     apart = λ i j d l m sub.
         let a = (found.each i d (within i j (length pairs) l m)).first in
         let b = (found.each j d m).first in

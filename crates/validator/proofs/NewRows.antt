@@ -26,7 +26,7 @@ use Rattle.stripped_partition.proofs.Live.{Climbs-live, live_within}
 use Rattle.validator.specs.declared.shelf.Asked.{Asked}
 use Rattle.validator.specs.Asking.{IsAsked}
 use Rattle.validator.specs.Chains.{IsSettled, IsLastAlike, IsTold}
-use Rattle.validator.specs.Verdicts.{AreApart, AreFound, IsBreach, new_rows}
+use Rattle.validator.specs.Verdicts.{AreApart, AreFound, IsViolation, new_rows}
 use Rattle.validator.proofs.Targets.{target-column, target-row}
 
 -- two rows that share the target with one between them share it
@@ -105,7 +105,7 @@ module _ (s : CodeTable) (from number : ℕ) (rows : List ℕ) (p : Gathering s 
 
 -- ---- the walk over the new rows
 pub record NewPairs (s : CodeTable) (x : ℕ) (t : Target) (rows : List ℕ) (n : ℕ) (pairs : List (ℕ × ℕ)) : Type 0 where
-  pub each : All (λ p. IsBreach s x t p.0 p.1) pairs
+  pub each : All (λ p. IsViolation s x t p.0 p.1) pairs
   pub apart : AreApart s x pairs
   pub settled : pairs ≡ [] → (j : ℕ) → Listed j (take n rows) → IsSettled s x t j
 
@@ -135,7 +135,7 @@ module _ (s : CodeTable) (x : ℕ) (t : Target) (rows : List ℕ) (n : ℕ) (row
       by e j (inr (inl q)) = subst (IsSettled s x t) (is ∙ sym q) (told_of e)
       by e j (inr (inr h)) = absurd h
   new_more pairs (Some q) p told_of = record {
-    each = All-push (λ p. IsBreach s x t p.0 p.1) pairs q p.each told_of.0;
+    each = All-push (λ p. IsViolation s x t p.0 p.1) pairs q p.each told_of.0;
     apart = all_pairs_push (λ p q. IsSubset x (code_agree s p.0 q.0) → ⊥) pairs q p.apart
         (λ k d m sub. true≢false (sym (subset-agree_on s x (get_or pairs k d).0 q.0 sub) ∙ told_of.1 k d m));
     settled = λ e. absurd (let f = ap length e in let a = length-append pairs (q ∷ []) in omega arith);
@@ -167,7 +167,7 @@ module _ (s : CodeTable) (x : ℕ) (t : Target) (pairs : List (ℕ × ℕ)) (row
   pub settled_by : (p : ℕ) → IsLastAlike s x row p → has_target (code_agree s p row) t ≡ true → IsSettled s x t row
   settled_by p w e = record { each = λ i h l f. record { row = p; live = w.live; from = w.last i h l f; before = w.before; agrees = w.agrees; target = e } }
 
-  pub told_apart : (p : ℕ) → Listed row (live_numbers s) → IsLastAlike s x row p → has_target (code_agree s p row) t ≡ false → IsBreach s x t p row
+  pub told_apart : (p : ℕ) → Listed row (live_numbers s) → IsLastAlike s x row p → has_target (code_agree s p row) t ≡ false → IsViolation s x t p row
   told_apart p h w e = record {
     first = Contains-listed p (live_numbers s) w.live;
     second = Contains-listed row (live_numbers s) h;
@@ -176,5 +176,5 @@ module _ (s : CodeTable) (x : ℕ) (t : Target) (pairs : List (ℕ × ℕ)) (row
     target = e;
   }
 
-  pub pairs_given : All (λ p. IsBreach s x t p.0 p.1) pairs → All (λ p. p.0 < s.to) pairs
+  pub pairs_given : All (λ p. IsViolation s x t p.0 p.1) pairs → All (λ p. p.0 < s.to) pairs
   pairs_given h k d l = (live_within s (get_or pairs k d).0 (Listed-contained (get_or pairs k d).0 (live_numbers s) (h k d l).first)).1

@@ -23,7 +23,7 @@ use Rattle.stripped_partition.proofs.Agreeing.{agree_same, code_agree-parts, cod
 use Rattle.stripped_partition.proofs.Dependencies.{held_from, in_group, stripped-parts, together, group_ascends, RowsStandOnce-stripped}
 use Rattle.stripped_partition.proofs.Grouped.{first_least}
 use Rattle.stripped_partition.proofs.Live.{live_within}
-use Rattle.validator.specs.Verdicts.{IsBreach, AreFound, new_rows}
+use Rattle.validator.specs.Verdicts.{IsViolation, AreFound, new_rows}
 use Rattle.validator.specs.Walk.{key, plus, first_with, IsUniform, IsApart, IsCompared, IsClear}
 use Rattle.validator.proofs.Leads.{newer}
 use Rattle.validator.proofs.Targets.{target-column, target-row}
@@ -46,8 +46,8 @@ shared s RowId f i j l e g = absurd (false≢true (sym (target-row s f i) ∙ e)
 
 module _ (s : CodeTable) (y : ℕ) (by : Option ℕ) (t : Target) (from : ℕ) (wide : IsColumnTarget (length s.codes) t) (column : ForSome by (λ b. b < length s.codes)) where
   -- a pair that the comparisons find
-  pub breach : (g : List ℕ) (i j : ℕ) → Listed g (stripped s y) → IsApart s by t g i j → IsBreach s (plus y by) t i j
-  breach g i j h p = let w = together s y g i j h p.first p.second in record {
+  pub violation : (g : List ℕ) (i j : ℕ) → Listed g (stripped s y) → IsApart s by t g i j → IsViolation s (plus y by) t i j
+  violation g i j h p = let w = together s y g i j h p.first p.second in record {
     first = Contains-listed i (live_numbers s) w.0;
     second = Contains-listed j (live_numbers s) w.1;
     rising = p.rising;
@@ -285,8 +285,8 @@ module _ (s : CodeTable) (by : Option ℕ) (t : Target) (from : ℕ) (groups : L
   pub found : (k : ℕ) (pairs : List (ℕ × ℕ)) → Gathered s by t from groups k pairs → (pairs ≡ [] → length groups ≤ k)
       → (x : ℕ) → groups ≡ stripped s x → holds_in_below from s (plus x by) t ≡ true → AreFound s (plus x by) t pairs
   found k pairs p done x e below = record {
-    each = All-from (λ (r : ℕ × ℕ). IsBreach s (plus x by) t r.0 r.1) pairs (λ r h.
-        let w = p.each r h in breach s x by t from wide column (get_or groups w.place []) r.0 r.1 (subst (Listed (get_or groups w.place [])) e w.in_all) w.apart);
+    each = All-from (λ (r : ℕ × ℕ). IsViolation s (plus x by) t r.0 r.1) pairs (λ r h.
+        let w = p.each r h in violation s x by t from wide column (get_or groups w.place []) r.0 r.1 (subst (Listed (get_or groups w.place [])) e w.in_all) w.apart);
     apart = λ i j d l m sub. separated x e (get_or pairs i d).0 (get_or pairs j d).0 (p.apart i j d l m)
         (plus-parts s x by (get_or pairs i d).0 (get_or pairs j d).0 (subset-agree_on s (plus x by) (get_or pairs i d).0 (get_or pairs j d).0 sub)).0;
     none = λ z. held_in s x by t from wide column (HoldsInBelow-tested s from (plus x by) t below)

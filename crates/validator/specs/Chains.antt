@@ -8,7 +8,7 @@ use Rattle.col_set.specs.Target.{has_target}
 use Rattle.rel_base.specs.CodeTable.{CodeTable}
 use Rattle.rel_base.specs.Shows.{code_agree, live_numbers}
 use Rattle.stripped_partition.specs.Stripped.{agree_on}
-use Rattle.validator.specs.Verdicts.{IsBreach}
+use Rattle.validator.specs.Verdicts.{IsViolation}
 use Rattle.validator.specs.declared.chain.Chain.{Chain}
 
 -- r is the number of the last of the first n rows that has the code, or 0 where none has it
@@ -51,4 +51,4 @@ pub record IsSettled (s : CodeTable) (x : Columns) (t : Target) (j : ℕ) : Type
 -- what is told of a row j, where these pairs are known: a pair of a further group, or where there is none that the row is settled
 abbrev pub IsTold : CodeTable → Columns → Target → List (ℕ × ℕ) → ℕ → Option (ℕ × ℕ) → Type 0
 IsTold s x t pairs j None = pairs ≡ [] → IsSettled s x t j
-IsTold s x t pairs j (Some pair) = IsBreach s x t pair.0 pair.1 × All (λ p. agree_on s x p.0 pair.0 ≡ false) pairs
+IsTold s x t pairs j (Some pair) = IsViolation s x t pair.0 pair.1 × All (λ p. agree_on s x p.0 pair.0 ≡ false) pairs

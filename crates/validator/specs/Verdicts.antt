@@ -11,7 +11,7 @@ use Rattle.validator.specs.declared.verdict.Verdict.{Verdict}
 use Rattle.validator.specs.declared.verdict.Verdict.TheVariants.{Holds, Broken}
 
 -- two live rows, the smaller number first, that agree on x and differ on t
-pub record IsBreach (s : CodeTable) (x : Columns) (t : Target) (i j : ℕ) : Type 0 where
+pub record IsViolation (s : CodeTable) (x : Columns) (t : Target) (i j : ℕ) : Type 0 where
   pub first : Contains (live_numbers s) i
   pub second : Contains (live_numbers s) j
   pub rising : i < j
@@ -24,7 +24,7 @@ AreApart s x pairs = AllPairs (λ p q. ¬ IsSubset x (code_agree s p.0 q.0)) pai
 
 -- each pair shows that x does not determine t, from rows of its own that agree on x, and there is none only where it does
 pub record AreFound (s : CodeTable) (x : Columns) (t : Target) (found : List (ℕ × ℕ)) : Type 0 where
-  pub each : All (λ pair. IsBreach s x t pair.0 pair.1) found
+  pub each : All (λ pair. IsViolation s x t pair.0 pair.1) found
   pub apart : AreApart s x found
   pub none : found ≡ [] → holds_in s x t ≡ true
 
@@ -37,7 +37,7 @@ pub record IsFitting (job : JobParts) : Type 0 where
 -- what the verdict says of the job is so
 abbrev pub IsVerdict : JobParts → Verdict → Type 0
 IsVerdict job (Holds to) = (to ≡ job.to) × (holds_in job.snapshot job.left job.target ≡ true)
-IsVerdict job (Broken i j) = IsBreach job.snapshot job.left job.target i j
+IsVerdict job (Broken i j) = IsViolation job.snapshot job.left job.target i j
 
 -- how many live rows have a number from `from` on
 abbrev pub new_rows : CodeTable → ℕ → ℕ

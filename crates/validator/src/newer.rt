@@ -8,7 +8,7 @@ ghost use Rattle.rel_base.specs.Shows.{live_numbers};
 ghost use Rattle.stripped_partition.specs.Stripped.{agree_on};
 ghost use Rattle.validator.specs.Asking.{IsAsked};
 ghost use Rattle.validator.specs.Chains.{IsChain, IsTold};
-ghost use Rattle.validator.specs.Verdicts.{AreFound, IsBreach, new_rows};
+ghost use Rattle.validator.specs.Verdicts.{AreFound, IsViolation, new_rows};
 
 use crate::chain::{Chain, agrees, partner};
 use crate::shelf::Asked;
@@ -64,7 +64,7 @@ fn pair_with<L: Ledger>(
     requires chain { IsChain (slice_index_or snapshot.now.codes column []) chain.now }
     requires whole { length chain.now.before.items + 1 ≡ snapshot.now.to }
     requires live { Listed row (live_numbers snapshot.now) }
-    requires pairs { All (λ pair. IsBreach snapshot.now asked.now.left asked.now.target pair.0 pair.1) pairs.now }
+    requires pairs { All (λ pair. IsViolation snapshot.now asked.now.left asked.now.target pair.0 pair.1) pairs.now }
     ensures told { IsTold snapshot.now asked.now.left asked.now.target pairs.now row result }
     ensures steps { steps.new ≤ steps.old + 1 }
 {

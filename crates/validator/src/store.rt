@@ -134,7 +134,7 @@ impl Store {
     /// other candidates too. So a worker asks for some tens here rather than for one verdict after another.
     ///
     /// It takes the time of `validate` where the dependency holds. After want of memory the store is as useful as before.
-    pub fn breaches<L: Ledger>(
+    pub fn violations<L: Ledger>(
         &mut self,
         alloc: Global,
         job: &Job,

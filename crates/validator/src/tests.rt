@@ -69,7 +69,7 @@ fn answered<L: Ledger>(
     Ok(Answers {
         alone: validate(alloc, job, &mut steps)?,
         kept: store.validate(alloc, job, &mut steps)?,
-        pairs: store.breaches(alloc, job, 2, &mut steps)?,
+        pairs: store.violations(alloc, job, 2, &mut steps)?,
     })
 }
 

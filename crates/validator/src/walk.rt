@@ -183,7 +183,7 @@ fn pair_of_two<L: Ledger>(
     None
 }
 
-// The same for a group of which all may be old, and it clears the slots again.
+// The first pair of a group, of which all rows may be old, that differs on the target. It clears the slots again.
 fn pair_of_group<L: Ledger>(
     group: &[RowNo],
     snapshot: &Snapshot,

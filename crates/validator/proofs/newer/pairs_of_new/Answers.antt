@@ -1,7 +1,7 @@
 use Rattle.std.proofs.Common.{◌+◌, ◌∙◌, ℕ, List, length, sym, ap, subst, arith}
 use Rattle.std.specs.List.{All}
 use Rattle.std.proofs.lemmas.List.{get_or_read}
-use Rattle.validator.specs.Verdicts.{IsBreach}
+use Rattle.validator.specs.Verdicts.{IsViolation}
 use Rattle.validator.specs.Chains.{IsTold}
 use Rattle.validator.proofs.NewRows.{NewPairs, new_none, new_more, row_live, few_steps, found_new}
 use Rattle.validator.proofs.newer.pairs_of_new.Goals as goal
@@ -17,7 +17,7 @@ pair_with-pair-requires-clause-live g c =
 
 pub pair_with-pair-requires-clause-pairs : goal.pair_with-pair-requires-clause-pairs
 pair_with-pair-requires-clause-pairs g c =
-    subst (All (λ p. IsBreach c.args.snapshot.now c.args.asked.now.left c.args.asked.now.target p.0 p.1)) (sym c.deref.ensures.value) c.loop-row.invariant.found.each
+    subst (All (λ p. IsViolation c.args.snapshot.now c.args.asked.now.left c.args.asked.now.target p.0 p.1)) (sym c.deref.ensures.value) c.loop-row.invariant.found.each
 
 pub returns-in_err-add-clause-steps : goal.returns-in_err-add-clause-steps
 returns-in_err-add-clause-steps g c =
