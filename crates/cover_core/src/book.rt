@@ -39,6 +39,7 @@ use row_log::{Applying, RowLog};
 use std::alloc::{AllocError, Global};
 use std::marker::{Brand, Model};
 use std::sync::Arc;
+use std::thread::Threads;
 use std::sync::ledger::Blank;
 use validator::Store;
 
@@ -104,6 +105,29 @@ impl Book {
         ensures { IfOk result (λ book. book ≡ opened_core (opened nulls limits.rows relation)) }
     {
         let rows = RowLog::open_with(alloc, relation, limits, nulls)?;
+        Book::of_rows(alloc, rows)
+    }
+
+    /// The same, where columns are coded beside each other by so many workers at most. One worker is the thread of the caller and
+    /// no other.
+    pub fn open_by<R: Threads + Sync>(
+        rt: &R,
+        alloc: Global,
+        relation: Relation,
+        limits: Limits,
+        nulls: Nulls,
+        workers: u8,
+    ) -> Result<Book, AllocError>
+        ensures { IfOk result (λ book. book ≡ opened_core (opened nulls limits.rows relation)) }
+    {
+        let rows = RowLog::open_by(rt, alloc, relation, limits, nulls, workers)?;
+        Book::of_rows(alloc, rows)
+    }
+
+    // The book of rows of which nothing is known.
+    fn of_rows(alloc: Global, rows: RowLog) -> Result<Book, AllocError>
+        ensures { IfOk result (λ book. book ≡ opened_core rows) }
+    {
         let snapshot = rows.snapshot(alloc)?;
         // `names` is called for its clause that the rows are a row state.
         let _names = rows.names();
