@@ -1,14 +1,13 @@
-use Rattle.std.proofs.Common.{◌≡◌, ℕ, List, ◌<◌, ◌++◌, ◌∷◌, [], true, false, length, slice_get, Some, ap, ◌∙◌, sym, subst}
+use Rattle.std.proofs.Common.{◌≡◌, ◌<◌, ◌++◌, ◌∷◌, [], true, false, length, slice_get, Some, ap, ◌∙◌, sym, subst}
 use Rattle.std.proofs.lemmas.Bool.{true≢false}
 use Rattle.rel_base.specs.Cells.{Cell}
-use Rattle.rel_base.specs.Agreement.{same_cell}
 use Rattle.column_dict.specs.Coding.{Coding, is_fresh, is_new}
 use Rattle.column_dict.specs.Layout.{nowhere, cells_at, IsLaid}
 use Rattle.column_dict.proofs.Laid.{add-fresh, add-known}
 use Rattle.column_dict.proofs.Coded.{either, both, neither, on_ok, if_ok, fewer, room, fresh-new, missing-new, found-old, same, grown, grown-at, new-code-of, old-code-of}
 use Rattle.column_dict.proofs.dict.Dict.looked_up.Goals as goal
 use Rattle.column_dict.proofs.dict.Dict.looked_up.Goals.{After-add_fresh, In-Some, After-add_known}
-use Rattle.std.specs.Map.{keys_of, lookup}
+use Rattle.std.specs.Map.{keys_of}
 
 is_fresh_null : (c : After-add_fresh) → is_fresh c.self.inside.nulls c.args.bytes.now ≡ true
 is_fresh_null c = sym c.is_fresh.ensures ∙ c.if-is_fresh.true
