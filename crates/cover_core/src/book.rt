@@ -39,8 +39,8 @@ use row_log::{Applying, RowLog};
 use std::alloc::{AllocError, Global};
 use std::marker::{Brand, Model};
 use std::sync::Arc;
-use std::thread::Threads;
 use std::sync::ledger::Blank;
+use std::thread::Threads;
 use validator::Store;
 
 // Of so many live rows all pairs are compared.
