@@ -11,7 +11,7 @@ use crate::normalizing::tables_of;
 use cover_core::Book;
 use csv::ByteRecord;
 use itoa::Buffer;
-use rel_base::{Limits, Relation, Row};
+use rel_base::{Limits, Nulls, Relation, Row};
 use report_text::demo_line;
 use row_log::RowLog;
 use std::alloc::{AllocError, Global};
@@ -175,6 +175,7 @@ pub(crate) fn demo_text_of<R: Threads + Sync>(
 ) -> Result<Vec<u8>, AllocError>
     ensures { IfOk result (λ text. text.items ≡ words.demo_text seed (opened Equal limits.rows (words.demo_content seed))) }
 {
-    let mut book = Book::open(alloc, demo_relation(alloc, seed)?, limits)?;
+    let relation = demo_relation(alloc, seed)?;
+    let mut book = Book::open_by(rt, alloc, relation, limits, Nulls::Equal, workers)?;
     counted(rt, alloc, workers, seed, &mut book)
 }

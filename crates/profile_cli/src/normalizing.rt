@@ -16,7 +16,7 @@ use cover_core::Book;
 use key_finder::table_keys_of;
 use lossless_join::project;
 use ports::Text;
-use rel_base::{ColSet, Covers, Limits, Name, Relation, Row, Table};
+use rel_base::{ColSet, Covers, Limits, Name, Nulls, Relation, Row, Table};
 use report_text::{Lines, table_file};
 use row_log::RowLog;
 use std::alloc::{AllocError, Global};
@@ -196,7 +196,7 @@ pub(crate) fn normalized_of<R: Threads + Sync>(
 ) -> Result<Made, AllocError>
     ensures { IfOk result (λ made. made ≡ words.normalized prefix.now file.now (opened Equal limits.rows relation)) }
 {
-    let mut book = Book::open(alloc, relation, limits)?;
+    let mut book = Book::open_by(rt, alloc, relation, limits, Nulls::Equal, workers)?;
     let mut lines = Lines::new(alloc);
     let files = push_normalized(rt, alloc, workers, prefix, file, &mut lines, &mut book)?;
     Ok(Made::of(files, lines.into_text()?))

@@ -47,7 +47,7 @@ pub(crate) fn reports_of<R: Threads + Sync>(
     let mut lines = Lines::new(alloc);
     let mut columns = Columns::new(alloc);
     for (place, relation) in relations.into_iter().enumerate() {
-        let mut book = Book::open_with(alloc, relation, limits, options.nulls)?;
+        let mut book = Book::open_by(rt, alloc, relation, limits, options.nulls, options.workers)?;
         push_report_of(&mut lines, &names[place], &mut book)?;
         columns.push(alloc, book.rows())?;
     }

@@ -35,7 +35,7 @@ pub(crate) fn session_of<R: Threads + Sync>(
     requires { length bytes.now < 2 ^ 32 }
     ensures { IfOk result (λ text. text.items ≡ spec.session_text name.now (opened options.nulls limits.rows relation) limits bytes.now) }
 {
-    let mut book = Book::open_with(alloc, relation, limits, options.nulls)?;
+    let mut book = Book::open_by(rt, alloc, relation, limits, options.nulls, options.workers)?;
     let columns = book.rows().names().len() as u8;
     let items = read_changes(alloc, bytes, columns, &limits)?;
     answers_to(rt, alloc, options.workers, name, &mut book, &items)

@@ -6,6 +6,7 @@ use rel_base::{Batch, Covers, Limits, Nulls, Relation};
 use std::alloc::{AllocError, Global};
 use std::process::Abort;
 use std::test::Fail;
+use std::thread::Threads;
 
 const COLUMNS: usize = 4;
 
@@ -83,14 +84,16 @@ fn follow(
     compare(rt, alloc, book, rows)
 }
 
-fn open_and_follow(
-    rt: &impl Abort,
+fn open_and_follow<R: Abort + Threads + Sync>(
+    rt: &R,
     alloc: Global,
     seed: u64,
     nulls: Nulls,
 ) -> Result<(), AllocError> {
     let limits = Limits::standard();
-    let mut book = Book::open_with(alloc, relation(rt, alloc, seed)?, limits, nulls)?;
+    let workers = (seed % 4) as u8;
+    let read = relation(rt, alloc, seed)?;
+    let mut book = Book::open_by(rt, alloc, read, limits, nulls, workers)?;
     let mut rows = PlainRows::opened(alloc, nulls, limits, relation(rt, alloc, seed)?)?;
     follow(rt, alloc, seed, &mut book, &mut rows)
 }
