@@ -13,3 +13,4 @@ pub mod Sorting
 pub mod Splitting
 pub mod Targets
 pub mod Toggling
+pub mod Filing

@@ -10,7 +10,7 @@ use Rattle.col_set.specs.Target.{IsColumnTarget}
 use Rattle.col_set.specs.Evidence.{refuted, least}
 use Rattle.candidate_cover.specs.Lists.{CandLists}
 use Rattle.candidate_cover.specs.Cands.{cands_of, lefts}
-use Rattle.candidate_cover.specs.Growth.{choices, ListsLeast}
+use Rattle.candidate_cover.specs.Growth.{choices, having, ListsLeast}
 
 -- the agree sets that came in so far, and how many columns there are
 pub record Drafted : Type 0 where
@@ -31,6 +31,11 @@ pub record AreDrafted (n : ℕ) (ws : List Columns) (rows : List Columns) (colum
   pub rows_least : ListsLeast (choices n RowId) ws RowId rows
   pub count : length columns ≡ n
   pub each : (a : ℕ) → a < n → ListsLeast (choices n (Col a)) ws (Col a) (slice_index_or columns a [])
+
+-- for each of n columns the list has those of the agree sets that have it
+pub record AreFiled (n : ℕ) (ws : List Columns) (lists : List (List Columns)) : Type 0 where
+  pub count : length lists ≡ n
+  pub each : (a : ℕ) → a < n → slice_index_or lists a [] ≡ having a ws
 
 -- the lists that vectors hold
 abbrev pub lists_behind : List (Vec Columns Global) → List (List Columns)

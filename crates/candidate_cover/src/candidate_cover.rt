@@ -16,7 +16,7 @@ ghost use Rattle.candidate_cover.specs.declared.cand.Marking.TheVariants.{Marked
 
 use crate::cand::{Cand, Mark, Marking};
 use crate::cand_list::CandList;
-use crate::draft::Draft;
+use crate::draft::{Draft, filed};
 use crate::explore::explored;
 use crate::growth::choices;
 use crate::old_list::OldList;
@@ -122,7 +122,8 @@ impl CandidateCover {
         Ok(Part::of(made))
     }
 
-    /// A draft that begins with the agree sets that have left these candidates: a copy of their left sides.
+    /// A draft that begins with the agree sets that have left these candidates: a copy of their left sides, and for each column a
+    /// list of the agree sets that have it.
     pub fn draft(&self, alloc: Global, agree_sets: Vec<ColSet>) -> Result<Draft, AllocError>
         requires { AreLeast (width self.now) agree_sets.items self.now }
         ensures { IfOk result (λ draft. draft ≡ record { width = width self.now; agree_sets = agree_sets.items }) }
@@ -133,7 +134,8 @@ impl CandidateCover {
         for column in 0..count {
             columns.push(self.copied_lefts(alloc, Target::Col(column))?)?;
         }
-        Ok(Draft::of(rows, columns, agree_sets))
+        let by_column = filed(alloc, count, agree_sets.as_slice())?;
+        Ok(Draft::of(rows, columns, agree_sets, by_column))
     }
 
     /// The candidates of a target in report order that a draft leaves, or none where these are the ones that there are. Those

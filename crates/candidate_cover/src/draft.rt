@@ -3,15 +3,16 @@ ghost use Rattle.std.specs.Prelude.{if◌then◌else◌, ◌≡◌, ◌≤◌, �
 ghost use Rattle.std.specs.List.{list_any};
 ghost use Rattle.col_set.specs.ColSet.{has, subset, union, minus};
 ghost use Rattle.col_set.specs.Target.{IsColumnTarget, has_target};
+ghost use Rattle.col_set.specs.declared.target.Target.{Target as TargetSpec};
 ghost use Rattle.col_set.specs.declared.target.Target.TheVariants.{Col, RowId};
 ghost use Rattle.col_set.specs.Evidence.{refuted};
 ghost use Rattle.candidate_cover.specs.Growth as words;
 ghost use Rattle.candidate_cover.specs.Growth.{ListsLeast};
 ghost use Rattle.candidate_cover.specs.Drafts as drafts;
-ghost use Rattle.candidate_cover.specs.Drafts.{Drafted, AreDrafted, lists_behind};
+ghost use Rattle.candidate_cover.specs.Drafts.{Drafted, AreDrafted, AreFiled, lists_behind};
 
 use crate::branching::least;
-use crate::growth::{choices, push_all_grown};
+use crate::growth::{choices, fill_having, push_all_grown};
 use rel_base::{ColSet, MOST_COLUMNS, Target};
 use std::alloc::{AllocError, Global};
 use std::marker::Model;
@@ -23,31 +24,40 @@ const FEW: usize = 350;
 ///
 /// An agree set that comes in is only noted. A target's left sides are made when they are asked for: past a few further agree
 /// sets the ones that there were grow in place, which looks at each for each agree set; past many they are made from all agree
-/// sets by branches on a column, in a microsecond or so each. Contracts see the agree sets that came in. A set takes 16 bytes.
+/// sets by branches on a column, in a microsecond or so each. Contracts see the agree sets that came in. A set takes 16 bytes, and
+/// 16 more for each column that it has: it is filed by column, since the sets that contain another are among those that have the
+/// rarest of its columns.
 #[derive(Drop)]
 pub struct Draft {
     rows: Vec<ColSet>,
     columns: Vec<Vec<ColSet>>,
     agree_sets: Vec<ColSet>,
+    by_column: Vec<Vec<ColSet>>,
     made: usize,
 }
 
 impl Model for Draft {
     ghost use Rattle.std.specs.Prelude.{◌≤◌, length, take};
-    ghost use Rattle.candidate_cover.specs.Drafts.{Drafted, AreDrafted, lists_behind};
+    ghost use Rattle.candidate_cover.specs.Drafts.{Drafted, AreDrafted, AreFiled, lists_behind};
     ghost use Rattle.col_set.specs.declared.col_set.TheConstants.{MOST_COLUMNS};
 
     ghost Value = { Drafted };
 
     ghost view = { λ d. record { width = length d.columns.items; agree_sets = d.agree_sets.items } };
 
-    ghost invariant = { λ d. AreDrafted (length d.columns.items) (take d.made d.agree_sets.items) d.rows.items (lists_behind d.columns.items) × (length d.columns.items ≤ MOST_COLUMNS) × (d.made ≤ length d.agree_sets.items) };
+    ghost invariant = { λ d. AreDrafted (length d.columns.items) (take d.made d.agree_sets.items) d.rows.items (lists_behind d.columns.items) × (length d.columns.items ≤ MOST_COLUMNS) × (d.made ≤ length d.agree_sets.items) × AreFiled (length d.columns.items) d.agree_sets.items (lists_behind d.by_column.items) };
 }
 
 impl Draft {
     // A draft of these lists, which takes no memory.
-    pub(crate) fn of(rows: Vec<ColSet>, columns: Vec<Vec<ColSet>>, agree_sets: Vec<ColSet>) -> Draft
+    pub(crate) fn of(
+        rows: Vec<ColSet>,
+        columns: Vec<Vec<ColSet>>,
+        agree_sets: Vec<ColSet>,
+        by_column: Vec<Vec<ColSet>>,
+    ) -> Draft
         requires lists { AreDrafted (length columns.items) agree_sets.items rows.items (lists_behind columns.items) }
+        requires filed { AreFiled (length columns.items) agree_sets.items (lists_behind by_column.items) }
         requires bound { length columns.items ≤ MOST_COLUMNS }
         ensures { result ≡ record { width = length columns.items; agree_sets = agree_sets.items } }
     {
@@ -56,6 +66,7 @@ impl Draft {
             rows,
             columns,
             agree_sets,
+            by_column,
             made,
         }
     }
@@ -86,22 +97,84 @@ impl Draft {
     }
 
     /// Whether a further agree set is news: for some target that it lacks, none of those that came in and lack the target
-    /// contains it. It takes a step an agree set, and no memory.
+    /// contains it. It takes a step for each agree set that has the rarest of its columns, and no memory.
     pub fn is_news(&self, z: ColSet) -> bool
         ensures { result ≡ drafts.is_news self.now.width self.now.agree_sets z }
     {
         let columns = self.columns.len() as u8;
-        let known = known_by(self.agree_sets.as_slice(), columns, z);
+        let few = fewest_containing(
+            self.agree_sets.as_slice(),
+            self.by_column.as_slice(),
+            columns,
+            z,
+        );
+        let known = known_by(few, columns, z);
         !known.rows || !ColSet::all(columns).minus(z).subset_of(known.columns)
     }
 
-    /// The draft with a further agree set, which is noted in one step.
+    /// The draft with a further agree set, which is noted in a step a column.
     pub fn grown(mut self, _alloc: Global, z: ColSet) -> Result<Draft, AllocError>
         ensures { IfOk result (λ draft. draft ≡ record { width = self.width; agree_sets = self.agree_sets ++ z ∷ [] }) }
     {
+        file(&mut self.by_column, self.columns.len() as u8, z)?;
         self.agree_sets.push(z)?;
         Ok(self)
     }
+}
+
+// For each column the agree sets that have it.
+pub(crate) fn filed(
+    alloc: Global,
+    columns: u8,
+    agree_sets: &[ColSet],
+) -> Result<Vec<Vec<ColSet>>, AllocError>
+    requires { columns ≤ MOST_COLUMNS }
+    ensures { IfOk result (λ lists. AreFiled columns agree_sets.now (lists_behind lists.items)) }
+{
+    let mut lists = Vec::with_capacity(alloc, columns as usize)?;
+    for column in 0..columns {
+        let mut having = Vec::new(alloc);
+        fill_having(&mut having, column, agree_sets)?;
+        lists.push(having)?;
+    }
+    Ok(lists)
+}
+
+// Adds an agree set to the lists of the columns that it has.
+fn file(by_column: &mut Vec<Vec<ColSet>>, columns: u8, z: ColSet) -> Result<(), AllocError>
+    requires few { columns ≤ MOST_COLUMNS }
+    requires all { length by_column.old.items ≡ columns }
+    ensures { OnOk result ((ws : List ℕ) → AreFiled columns ws (lists_behind by_column.old.items) → AreFiled columns (ws ++ z ∷ []) (lists_behind by_column.new.items)) }
+{
+    for column in 0..columns {
+        if z.has(column) {
+            by_column[column as usize].push(z)?;
+        }
+    }
+    Ok(())
+}
+
+// Of the agree sets as few as the lists tell, with all that contain z among them: those that have the column of z that the fewest have.
+fn fewest_containing<'a>(
+    agree_sets: &'a [ColSet],
+    by_column: &'a [Vec<ColSet>],
+    columns: u8,
+    z: ColSet,
+) -> &'a [ColSet]
+    requires few { columns ≤ MOST_COLUMNS }
+    requires filed { AreFiled columns agree_sets.now (lists_behind by_column.now) }
+    ensures { (t : TargetSpec) → refuted result.now t z ≡ refuted agree_sets.now t z }
+{
+    let mut fewest = agree_sets;
+    for column in 0..columns {
+        if z.has(column) {
+            let having = by_column[column as usize].as_slice();
+            if having.len() < fewest.len() {
+                fewest = having;
+            }
+        }
+    }
+    fewest
 }
 
 // How many of the agree sets lack the target.

@@ -48,7 +48,11 @@ pub(crate) fn near<L: Ledger>(
 }
 
 // Makes the list that of the sets that have the column.
-fn fill_having(found: &mut Vec<ColSet>, column: u8, sets: &[ColSet]) -> Result<(), AllocError>
+pub(crate) fn fill_having(
+    found: &mut Vec<ColSet>,
+    column: u8,
+    sets: &[ColSet],
+) -> Result<(), AllocError>
     requires { column < MOST_COLUMNS }
     ensures { OnOk result (found.new.items ≡ words.having column sets.now) }
 {

@@ -258,7 +258,23 @@ fn draft_of(alloc: Global, columns: u8, sets: &[ColSet]) -> Result<Draft, AllocE
     Ok(draft)
 }
 
-// A new cover into which what these sets leave of a target's candidates was put, all at once.
+// What these sets leave of a target's candidates in a new cover, all at once.
+fn drafted_part(
+    alloc: Global,
+    cover: &CandidateCover,
+    columns: u8,
+    target: Target,
+    sets: &[ColSet],
+) -> Result<Option<Part>, AllocError>
+    requires columns { columns ≤ MOST_COLUMNS }
+    requires width { width cover.now ≡ columns }
+    requires target { IsColumnTarget columns target }
+{
+    let draft = draft_of(alloc, columns, sets)?;
+    cover.drafted(alloc, &draft, target)
+}
+
+// A new cover into which that was put.
 fn drafted(
     alloc: Global,
     columns: u8,
@@ -270,8 +286,7 @@ fn drafted(
     ensures { IfOk result (λ cover. width cover ≡ columns) }
 {
     let mut cover = CandidateCover::new(alloc, columns)?;
-    let draft = draft_of(alloc, columns, sets)?;
-    if let Some(part) = cover.drafted(alloc, &draft, target)? {
+    if let Some(part) = drafted_part(alloc, &cover, columns, target, sets)? {
         let _old = cover.put(target, part);
     }
     Ok(cover)
@@ -296,6 +311,43 @@ fn a_set_inside_one_that_came_in_is_news_for_other_targets(rt: HostRuntime) -> R
     let draft = draft_of(rt.alloc(), 3, &[first])?;
     assert!(rt; !draft.is_news(first) && draft.is_news(ColSet::empty()));
     assert!(rt; draft.is_news(set(&[1])) && draft.is_news(set(&[0, 1, 2])));
+    Ok(())
+}
+
+// Whether one of these sets contains z and lacks the target.
+fn is_told(sets: &[ColSet], target: Target, z: ColSet) -> bool
+    requires { IsColumnTarget MOST_COLUMNS target }
+{
+    sets.iter().any(|w| w.refutes(z, target))
+}
+
+// Whether that is so for the row's identity and for each column that z lacks.
+fn is_told_for_all(sets: &[ColSet], columns: u8, z: ColSet) -> bool
+    requires { columns ≤ MOST_COLUMNS }
+{
+    if !is_told(sets, Target::RowId, z) {
+        return false;
+    }
+    for column in 0..columns {
+        if !z.has(column) && !is_told(sets, Target::Col(column), z) {
+            return false;
+        }
+    }
+    true
+}
+
+// News are what the sets before do not tell, by whichever of its columns an agree set is looked for.
+#[test]
+fn news_are_what_no_set_before_tells(rt: HostRuntime) -> Result<(), Fail> {
+    let alloc = rt.alloc();
+    for seed in 0..300u32 {
+        let sets = some_sets(alloc, (seed % 12) as usize, seed)?;
+        let draft = draft_of(alloc, 6, sets.as_slice())?;
+        for z in some_sets(alloc, 8, seed + 1000)?.as_slice() {
+            let told = is_told_for_all(sets.as_slice(), 6, *z);
+            assert!(rt; draft.is_news(*z) != told);
+        }
+    }
     Ok(())
 }
 
