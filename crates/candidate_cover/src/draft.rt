@@ -329,7 +329,7 @@ fn has_inside(sets: &[ColSet], z: ColSet) -> bool
     sets.iter().any(|x| x.subset_of(z))
 }
 
-// The same past an agree set that may have the target, or contain none of the sets.
+// Grows the sets past an agree set, which may have the target or contain none of them: then they stay.
 fn grow_unless(
     columns: u8,
     target: Target,
@@ -350,7 +350,7 @@ fn grow_unless(
     grow_past(columns, target, sets, z, scratch)
 }
 
-// The same past one agree set after another.
+// Grows the sets past one agree set after another.
 fn grow_past_all(
     alloc: Global,
     columns: u8,

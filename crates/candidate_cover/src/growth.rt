@@ -130,7 +130,7 @@ pub(crate) fn push_all_grown(
     Ok(())
 }
 
-// The same in a list of their own.
+// What grows out of the sets inside z, in a list of its own.
 pub(crate) fn grown(
     alloc: Global,
     columns: u8,

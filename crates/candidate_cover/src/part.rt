@@ -73,7 +73,7 @@ pub(crate) fn sorted(mut sets: Vec<ColSet>) -> Vec<ColSet>
     sets
 }
 
-// The same for many sets, of which a long run may stand in order already.
+// Many sets in report order, each once, where a long run may stand in order already.
 pub(crate) fn in_order(mut sets: Vec<ColSet>) -> Result<Vec<ColSet>, AllocError>
     ensures order { IfOk result (λ made. Rises report_cmp made.items) }
     ensures members { IfOk result (λ made. HasMembers sets.items made.items) }

@@ -13,7 +13,7 @@ pub(crate) fn place_of(sets: &[ColSet], x: ColSet) -> Result<usize, usize>
     sets.binary_search_by(|y| y.cmp_report(x))
 }
 
-// The same, which looks at one place first.
+// The place of the set, or the place at which it would stand, by a look at one place first.
 pub(crate) fn place_near(sets: &[ColSet], first: usize, x: ColSet) -> Result<usize, usize>
     requires { Rises report_cmp sets.now }
     ensures { IsPlace sets.now x result }
