@@ -1,5 +1,5 @@
 -- The distinct cells of a column, gathered from the codes that live rows use.
-use Rattle.std.proofs.Common.{inl, inr, ◌≡◌, ◌≢◌, ◌⊎◌, ℕ, zero, suc, ◌+◌, ◌-◌, ◌<◌, ◌≤◌, Bool, true, false, refl, sym, ap, ◌∙◌, subst, arith, List, [], ◌∷◌, ◌++◌, length, map, get_or, set, slice_get, Some, Result, Ok, Err, IfOk}
+use Rattle.std.proofs.Common.{inl, inr, ◌≡◌, ◌≢◌, ◌⊎◌, ℕ, zero, suc, ◌+◌, ◌-◌, ◌<◌, ◌≤◌, Bool, true, false, refl, sym, ap, ◌∙◌, subst, arith, List, [], ◌∷◌, ◌++◌, length, map, get_or, set, slice_get, Some, Result, Ok, Err, IfOk, if◌then◌else◌}
 use Rattle.std.specs.Prelude.{replicate}
 use Rattle.std.specs.List.{AllPairs, Contains}
 use Rattle.std.proofs.lemmas.Bool.{cases_eq, cases_lt, true≢false}
@@ -17,7 +17,7 @@ use Rattle.column_dict.specs.Coding.{Coding, IsCoding, is_fresh}
 use Rattle.column_dict.proofs.Laid.{same_some}
 use Rattle.row_log.specs.Column.{ColumnCells}
 use Rattle.row_log.specs.Table.{live_of, column_at, IsLog}
-use Rattle.row_log.specs.Distinct.{AreDistinctCells, AreFlaggedCells, AreUsed}
+use Rattle.row_log.specs.Distinct.{AreDistinctCells, AreFlaggedCells, AreUsed, unmarked}
 use Rattle.row_log.proofs.Columns.{cell_of, cell-decoded}
 use Rattle.row_log.proofs.Flags.{Listed-live_of, live_of-Listed}
 use Rattle.row_log.proofs.Log.{kept, cell-kept}
@@ -52,6 +52,39 @@ module _ (flags : List Bool) (codes : List ℕ) (n : ℕ) (used : List Bool) (h 
     there = λ i m g. let o : i ≢ n = λ e. true≢false (sym g ∙ ap (λ (k : ℕ). get_or flags k false) e ∙ f) in h.there i (omega arith) g;
     back = λ c g. let w = h.back c g in let l = w.1 in (w.0, omega arith, w.2, w.3);
   }
+
+-- ---- how many codes are not used
+pub unmarked-none : (used : List Bool) (n : ℕ) → used ≡ replicate n false → n ≡ unmarked used
+unfolding unmarked
+unmarked-none used n e = sym (ap unmarked e ∙ none n)
+  where
+    none : (n : ℕ) → unmarked (replicate n false) ≡ n
+    none zero = refl
+    none (suc n) = ap suc (none n)
+
+pub unmarked-set : (used : List Bool) (c : ℕ) (d : Bool) → c < length used → get_or used c d ≡ false → unmarked used ≡ suc (unmarked (set used c true))
+unfolding unmarked
+unmarked-set [] c d l e = absurd (omega arith)
+unmarked-set (is ∷ used) zero d l e = ap (λ (b : Bool). if b then unmarked used else suc (unmarked used)) e
+unmarked-set (is ∷ used) (suc c) d l e = let f = unmarked-set used c d (omega arith) e in by is f
+  where
+    by : (b : Bool) → unmarked used ≡ suc (unmarked (set used c true)) → (if b then unmarked used else suc (unmarked used)) ≡ suc (if b then unmarked (set used c true) else suc (unmarked (set used c true)))
+    by true f = f
+    by false f = ap suc f
+
+marked : (used : List Bool) (c : ℕ) → unmarked used ≡ 0 → c < length used → get_or used c false ≡ true
+unfolding unmarked
+marked [] c e l = absurd (omega arith)
+marked (true ∷ used) zero e l = refl
+marked (true ∷ used) (suc c) e l = marked used c e (omega arith)
+marked (false ∷ used) c e l = absurd (omega arith)
+
+-- where all codes are marked, no later row needs to be looked at
+pub AreUsed-all : (flags : List Bool) (codes : List ℕ) (n m : ℕ) (used : List Bool) → AreUsed flags codes n used → n ≤ m → ((i : ℕ) → i < m → get_or codes i 0 < length used) → unmarked used ≡ 0 → AreUsed flags codes m used
+AreUsed-all flags codes n m used h l within e = record {
+  there = λ i k g. marked used (get_or codes i 0) e (within i k);
+  back = λ c g. let w = h.back c g in let k = w.1 in (w.0, omega arith, w.2, w.3);
+}
 
 -- ---- their cells
 -- each element differs from each later one

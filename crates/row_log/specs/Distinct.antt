@@ -1,5 +1,5 @@
 -- The distinct cells of a column.
-use Rattle.std.specs.Prelude.{◌≡◌, ◌≢◌, ◌<◌, ◌↔◌, ℕ, Bool, true, false, List, [], length, slice_index, slice_index_or}
+use Rattle.std.specs.Prelude.{if◌then◌else◌, ◌∷◌, suc, ◌≡◌, ◌≢◌, ◌<◌, ◌↔◌, ℕ, Bool, true, false, List, [], length, slice_index, slice_index_or}
 use Rattle.std.specs.List.{AllPairs, Contains}
 use Rattle.rel_base.specs.Cells.{Cell}
 use Rattle.rel_base.specs.RowState.{RowState}
@@ -19,3 +19,8 @@ pub record AreFlaggedCells (all : List Cell) (flags : List Bool) (cells : List C
 pub record AreUsed (flags : List Bool) (codes : List ℕ) (n : ℕ) (used : List Bool) : Type 0 where
   pub there : (i : ℕ) → i < n → slice_index_or flags i false ≡ true → slice_index_or used (slice_index codes i) false ≡ true
   pub back : (c : ℕ) → slice_index_or used c false ≡ true → (i : ℕ) × (i < n) × (slice_index_or flags i false ≡ true) × (slice_index codes i ≡ c)
+
+-- how many are not marked
+unfoldable pub unmarked : List Bool → ℕ
+unmarked [] = 0
+unmarked (is ∷ used) = if is then unmarked used else suc (unmarked used)

@@ -1,10 +1,10 @@
 // The cells of one column, as codes.
-ghost use Rattle.std.specs.Prelude.{◌≡◌, ◌≢◌, ◌<◌, ◌≤◌, ◌+◌, ◌-◌, ◌↔◌, ◌∷◌, [], ◌++◌, ℕ, true, false, OnOk, OnErr, IfOk, length, map, take, slice_index, slice_index_or, vec_len, vec_capacity};
+ghost use Rattle.std.specs.Prelude.{◌≡◌, ◌≢◌, ◌<◌, ◌≤◌, ◌+◌, ◌-◌, ◌↔◌, ◌∷◌, [], ◌++◌, ℕ, true, false, OnOk, OnErr, IfOk, length, map, take, slice_index, slice_index_or, slice_set, vec_len, vec_capacity};
 ghost use Rattle.std.specs.List.{All};
 ghost use Rattle.rel_base.specs.Cells.{cell};
 ghost use Rattle.rel_base.specs.Agreement.{Agrees};
 ghost use Rattle.row_log.specs.Column.{AreCodes};
-ghost use Rattle.row_log.specs.Distinct.{AreFlaggedCells, AreUsed};
+ghost use Rattle.row_log.specs.Distinct.{AreFlaggedCells, AreUsed, unmarked};
 
 use crate::codes::{CodeList, code_in};
 use column_dict::{Dict, Text};
@@ -147,7 +147,7 @@ impl Column {
         self.dict.cell(self.codes.get(place))
     }
 
-    /// The cells of the flagged rows, each once, NULL aside. It takes a step a row and a code.
+    /// The cells of the flagged rows, each once, NULL aside. It takes a step a code, and one a row up to the last new code.
     pub fn flagged_cells(&self, alloc: Global, flags: &[bool]) -> Result<Row, AllocError>
         requires { length flags.now ≡ length self.now.cells }
         ensures { IfOk result (λ cells. AreFlaggedCells self.now.cells flags.now cells) }
@@ -188,12 +188,31 @@ fn used_codes(
     ensures used { IfOk result (λ used. AreUsed flags.now (older.now ++ own.now) (length (older.now ++ own.now)) used.items) }
 {
     let mut used = vec![in alloc; false; count]?;
+    let mut left = count;
     for (place, flag) in flags.iter().enumerate() {
+        // Where codes are few, all are met long before the last row.
+        if left == 0 {
+            return Ok(used);
+        }
         if *flag {
-            used[code_in(older, own, place) as usize] = true;
+            left = mark(&mut used, code_in(older, own, place) as usize, left);
         }
     }
     Ok(used)
+}
+
+// Marks a code as used, and answers how many are not, of which there were so many before.
+fn mark(used: &mut [bool], code: usize, left: usize) -> usize
+    requires known { code < length used.old }
+    requires left { left ≡ unmarked used.old }
+    ensures used { used.new ≡ slice_set used.old code true }
+    ensures left { result ≡ unmarked used.new }
+{
+    if used[code] {
+        return left;
+    }
+    used[code] = true;
+    left - 1
 }
 
 // Appends to a list that has room.
