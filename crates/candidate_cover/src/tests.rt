@@ -67,7 +67,7 @@ fn book(
 {
     for z in sets {
         let part = specialised(alloc, cover, target, *z)?;
-        let _old = cover.put(target, part);
+        drop(cover.put(target, part));
     }
     Ok(())
 }
@@ -125,7 +125,7 @@ fn regained(
     let mut cover = booked(alloc, columns, target, gone)?;
     book(alloc, &mut cover, target, rest)?;
     let part = generalised::<Brand>(alloc, &cover, target, rest, gone, Blank::new(1))?;
-    let _old = cover.put(target, part);
+    drop(cover.put(target, part));
     Ok(cover)
 }
 
@@ -287,7 +287,7 @@ fn drafted(
 {
     let mut cover = CandidateCover::new(alloc, columns)?;
     if let Some(part) = drafted_part(alloc, &cover, columns, target, sets)? {
-        let _old = cover.put(target, part);
+        drop(cover.put(target, part));
     }
     Ok(cover)
 }
@@ -382,7 +382,7 @@ fn marks_stay_with_their_candidates(rt: HostRuntime) -> Result<(), Fail> {
     assert!(rt; cover.mark(Target::RowId, set(&[2]), four) == Marking::Marked);
     assert!(rt; cover.mark(Target::RowId, set(&[0]), four) == Marking::Dropped);
     let part = specialised(alloc, &cover, Target::RowId, set(&[1]))?;
-    let _old = cover.put(Target::RowId, part);
+    drop(cover.put(Target::RowId, part));
     let list = cover.list(alloc, Target::RowId)?;
     assert!(rt; list.len() == 2);
     let third = Cand {
