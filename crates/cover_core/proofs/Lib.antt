@@ -2,6 +2,7 @@ pub mod FirstFound
 pub mod Ending
 pub mod Evidences
 pub mod Passes
+pub mod JobVerdicts
 pub mod Putting
 pub mod Measure
 pub mod Booking

@@ -17,15 +17,13 @@ use Rattle.cover_steps.specs.Core.{Core, renewed}
 use Rattle.cover_steps.specs.Sound.{IsWitness, IsMarked, Sound, Fits}
 use Rattle.cover_steps.proofs.Fitting.{Fits-shown}
 use Rattle.cover_steps.proofs.Keeping.{Sound-renewed, Follows-itself, cand-least, cand-marked}
-use Rattle.validator.specs.Verdicts.{IsFitting}
 use Rattle.cover_core.specs.declared.evidence.Evidence.{Evidence}
 use Rattle.cover_core.specs.Evidences.{IsNews}
 use Rattle.cover_core.specs.Waiting.{IsWaiting}
+use Rattle.cover_core.specs.Judged.{job_for, IsAsked}
 use Rattle.cover_core.specs.declared.waiting.Waiting.{Waiting}
 use Rattle.cover_core.specs.Kept.{IsBook}
 use Rattle.cover_core.specs.Work.{Extends}
-use Rattle.cover_core.proofs.Booking.{job_of, IsFitting-fits}
-use Rattle.cover_core.proofs.Whole.{IsJobOf}
 
 pub Extends-itself : (ws : List Witness) → Extends ws ws
 Extends-itself ws = ([], sym (append-nil ws))
@@ -64,36 +62,13 @@ module _ (s : Core) (table : CodeTable) (book : IsBook s table) (more : List Wit
       same : (z : ℕ) → is_news d.width d.agree_sets z ≡ is_news (width s.rows) (sets_of ws) z
       same z = (λ i. is_news ((news.drafted i).width) ((news.drafted i).agree_sets) z) ∙ (λ i. is_news (book.sound.columns i) (sets_of (sym e i)) z)
 
--- ---- a candidate that is judged
-module _ (s now : Core) (table : CodeTable) (book : IsBook s table) (view : s ≡ now) (t : Target) (c : Cand) (target : IsColumnTarget (width now.rows) t) (left : c.left < 2 ^ width now.rows) (marked : IsMarked now.rows t c)
-    (n : ℕ) (e : n ≡ next s.rows) (job : JobParts) (is : IsJobOf job t c n table) where
-  same : job ≡ job_of s t c table
-  same = λ k. record { target = is.target k; left = is.left k; from = is.from k; to = (is.to ∙ e) k; snapshot = is.shared k }
-
-  pub judged-fits : Fits s.rows job
-  judged-fits = subst (Fits s.rows) (sym same) (Fits-shown s.rows (job_of s t c table) book.sound.rows book.table book.shows
-      (subst (λ (m : Core). IsColumnTarget (width m.rows) t) (sym view) target) (subst (λ (m : Core). c.left < 2 ^ width m.rows) (sym view) left) refl
-      (subst (λ (m : Core). IsMarked m.rows t c) (sym view) marked).holds)
-
-  pub judged-fitting : IsFitting job
-  judged-fitting = IsFitting-fits s.rows job judged-fits
-
 -- ---- the candidates of a pass
-module _ (s now : Core) (table : CodeTable) (book : IsBook s table) (view : s ≡ now) (list : List Waiting) (all : All (IsWaiting s.candidates) list) (k : ℕ) (w : Waiting) (l : k < length list) (at : w ≡ get_or list k w) (r : RowState) (e : r ≡ now.rows) where
-  waits : IsWaiting s.candidates w
-  waits = subst (IsWaiting s.candidates) (sym at) (all k w l)
+module _ (s : Core) (table : CodeTable) (book : IsBook s table) where
+  asked-one : (w : Waiting) → IsWaiting s.candidates w → IsAsked s.rows table w
+  asked-one w waits =
+      let own : IsColumnTarget (width s.rows) w.target = subst (λ (n : ℕ). IsColumnTarget n w.target) book.sound.columns waits.target in
+      Fits-shown s.rows (job_for s.rows table w) book.sound.rows book.table book.shows own (cand-least s w.target w.cand book.sound own waits.listed).below refl
+      (cand-marked s w.target w.cand book.sound own waits.listed).holds
 
-  own : IsColumnTarget (width s.rows) w.target
-  own = subst (λ (n : ℕ). IsColumnTarget n w.target) book.sound.columns waits.target
-
-  rows : s.rows ≡ r
-  rows = ap (λ (m : Core). m.rows) view ∙ sym e
-
-  pub waiting-target : IsColumnTarget (width r) w.target
-  waiting-target = subst (λ (r : RowState). IsColumnTarget (width r) w.target) rows own
-
-  pub waiting-left : w.cand.left < 2 ^ width r
-  waiting-left = subst (λ (r : RowState). w.cand.left < 2 ^ width r) rows (cand-least s w.target w.cand book.sound own waits.listed).below
-
-  pub waiting-marked : IsMarked r w.target w.cand
-  waiting-marked = subst (λ (r : RowState). IsMarked r w.target w.cand) rows (cand-marked s w.target w.cand book.sound own waits.listed)
+  pub asked-all : (list : List Waiting) → All (IsWaiting s.candidates) list → All (IsAsked s.rows table) list
+  asked-all list all = λ k d l. asked-one (get_or list k d) (all k d l)

@@ -9,4 +9,5 @@ pub mod Past
 pub mod Replies
 pub mod Work
 pub mod Waiting
+pub mod Judged
 pub mod Told

@@ -11,11 +11,12 @@ ghost use Rattle.rel_base.specs.Batches.{IsAsWide};
 ghost use Rattle.rel_base.specs.Validity.{agree_of};
 ghost use Rattle.cover_steps.specs.Core.{opened_core, entries, refutes_some, first_drawable as first_drawable_of, first_unfinished as first_unfinished_of};
 ghost use Rattle.cover_steps.specs.Steps as steps;
-ghost use Rattle.cover_steps.specs.Sound.{Sound, Fits, IsMarked};
+ghost use Rattle.cover_steps.specs.Sound.{Sound, Fits};
 ghost use Rattle.negative_cover.specs.Witnesses.{sets_of};
 ghost use Rattle.candidate_cover.specs.Cands.{width as width_of};
 ghost use Rattle.candidate_cover.specs.Drafts.{is_news};
 ghost use Rattle.cover_core.specs.Evidences.{IsEvidence, IsAllTold};
+ghost use Rattle.cover_core.specs.Judged.{IsHeld};
 ghost use Rattle.cover_core.specs.Past.{IsFirst};
 ghost use Rattle.cover_core.specs.Told.{IsTrueOf};
 ghost use Rattle.cover_core.specs.Work.{Extends, work};
@@ -25,7 +26,8 @@ use crate::all_pairs::all_pairs;
 use crate::answers::{Draw, Refutation, Release, Settling};
 use crate::concerned::Concerned;
 use crate::cursor::{Cursors, Unfinished, is_late};
-use crate::evidence::{Evidence, is_told, news_of, push_evidence, recent};
+use crate::evidence::{Evidence, news_of};
+use crate::judging::{Alone, Beside, Judges};
 use crate::known::Known;
 use crate::listed::listed;
 use crate::order::Order;
@@ -34,11 +36,12 @@ use crate::parts::{drafted, put_all, specialised};
 use crate::renewal::renewed_after;
 use crate::sampling::sampled;
 use crate::searching::{first_drawable, first_unfinished, move_both_back};
-use crate::verdict::{store_of, violations_on};
-use crate::waiting::{Sizes, count, of_sizes};
-use candidate_cover::{Cand, CandidateCover, Marking};
+use crate::stores::Stores;
+use crate::verdict::store_of;
+use crate::waiting::{Sizes, Waiting, count, of_sizes};
+use candidate_cover::{CandidateCover, Marking};
 use negative_cover::{NegativeCover, Witness};
-use rel_base::{Batch, Covers, Job, Limits, Nulls, Relation, RowNo, Snapshot, Target};
+use rel_base::{Batch, Covers, Job, Limits, Nulls, Relation, RowNo, Snapshot};
 use row_log::{Applying, RowLog};
 use std::alloc::{AllocError, Global};
 use std::marker::{Brand, Model};
@@ -46,7 +49,6 @@ use std::mem;
 use std::sync::Arc;
 use std::sync::ledger::Blank;
 use std::thread::Threads;
-use validator::Store;
 
 // Of so many live rows all pairs are compared.
 const FEW_ROWS: u32 = 1500;
@@ -54,8 +56,8 @@ const FEW_ROWS: u32 = 1500;
 // Of so many candidates all that are unfinished are validated in one pass, 64 bytes each.
 const MOST_WAITING: usize = 1 << 20;
 
-// How many pairs of rows a pass asks for where a dependency does not hold.
-const MOST_VIOLATIONS: usize = 64;
+// For so many candidates of a pass threads are worth their start.
+const LEAST_SHARED: usize = 2048;
 
 /// The rows of a relation, the witnesses that refute dependencies, and for each target the candidates that they leave.
 ///
@@ -67,7 +69,7 @@ pub struct Book {
     witnesses: NegativeCover,
     candidates: CandidateCover,
     snapshot: Arc<Snapshot>,
-    store: Store,
+    stores: Stores,
     cursors: Cursors,
     first: Option<Unfinished>,
     // That of the columns when the book was opened. It only decides which verdicts share groups of rows, and batches change it
@@ -88,7 +90,7 @@ impl Model for Book {
 
     ghost view = { λ b. record { rows = b.rows; witnesses = b.witnesses; candidates = b.candidates } };
 
-    ghost invariant = { λ b. IsBook (record { rows = b.rows; witnesses = b.witnesses; candidates = b.candidates }) b.snapshot.value × (b.store ≡ b.snapshot.value) × ArePast (record { rows = b.rows; witnesses = b.witnesses; candidates = b.candidates }) b.cursors × IsFirst (record { rows = b.rows; witnesses = b.witnesses; candidates = b.candidates }) b.first };
+    ghost invariant = { λ b. IsBook (record { rows = b.rows; witnesses = b.witnesses; candidates = b.candidates }) b.snapshot.value × (b.stores ≡ b.snapshot.value) × ArePast (record { rows = b.rows; witnesses = b.witnesses; candidates = b.candidates }) b.cursors × IsFirst (record { rows = b.rows; witnesses = b.witnesses; candidates = b.candidates }) b.first };
 }
 
 impl Book {
@@ -147,7 +149,7 @@ impl Book {
             witnesses: NegativeCover::new(alloc),
             candidates,
             snapshot,
-            store,
+            stores: Stores::of(alloc, store),
             cursors,
             first,
             order,
@@ -290,7 +292,7 @@ impl Book {
                 self.witnesses.withdraw(made.dead.as_slice());
                 let lists = put_all(&mut self.candidates, made.parts);
                 let snapshot = mem::replace(&mut self.snapshot, made.snapshot);
-                let groups = self.store.renew(self.alloc, made.shared);
+                let groups = self.stores.renew(self.alloc, made.shared);
                 self.outdated = Outdated::of_batch(lists, groups, snapshot);
                 self.cursors = Cursors::start();
                 let next = self.rows.next();
@@ -363,11 +365,78 @@ impl Book {
         ensures fits { (job : JobParts) → Fits self.old.rows job → Fits self.new.rows job }
         ensures sound { Sound self.new }
     {
+        self.finish_with(&Alone)
+    }
+
+    /// What `finish` does, whose verdicts are made by so many workers at most beside each other; one worker is the thread of the caller
+    /// and no other.
+    ///
+    /// Each further worker has groups of rows of its own, for which there is once more the room of one store in all, and is let go of
+    /// with them at the end. A pass of few candidates is for the caller's thread alone.
+    pub fn finish_by<R: Threads + Sync>(
+        &mut self,
+        rt: &R,
+        workers: u8,
+    ) -> Result<Covers, AllocError>
+        ensures covers { IfOk result (λ found. found ≡ covers self.new.rows) }
+        ensures settled { OnOk result (first_unfinished_of self.new ≡ None) }
+        ensures free { OnOk result (All (λ e. e.1.held ≡ false) (entries self.new)) }
+        ensures rows { self.new.rows ≡ self.old.rows }
+        ensures witnesses { Extends self.old.witnesses self.new.witnesses }
+        ensures fits { (job : JobParts) → Fits self.old.rows job → Fits self.new.rows job }
+        ensures sound { Sound self.new }
+    {
+        self.finish_beside(rt, workers, LEAST_SHARED)
+    }
+
+    // What `finish_by` does, where this many candidates of a pass are worth threads.
+    pub(crate) fn finish_beside<R: Threads + Sync>(
+        &mut self,
+        rt: &R,
+        workers: u8,
+        least: usize,
+    ) -> Result<Covers, AllocError>
+        ensures covers { IfOk result (λ found. found ≡ covers self.new.rows) }
+        ensures settled { OnOk result (first_unfinished_of self.new ≡ None) }
+        ensures free { OnOk result (All (λ e. e.1.held ≡ false) (entries self.new)) }
+        ensures rows { self.new.rows ≡ self.old.rows }
+        ensures witnesses { Extends self.old.witnesses self.new.witnesses }
+        ensures fits { (job : JobParts) → Fits self.old.rows job → Fits self.new.rows job }
+        ensures sound { Sound self.new }
+    {
+        if workers < 2 {
+            return self.finish();
+        }
+        self.spread(workers - 1)?;
+        let found = self.finish_with(&Beside { rt, least });
+        self.stores.gather();
+        found
+    }
+
+    // What `finish` does, with verdicts by these.
+    fn finish_with<J: Judges>(&mut self, judges: &J) -> Result<Covers, AllocError>
+        requires { J.ready }
+        ensures covers { IfOk result (λ found. found ≡ covers self.new.rows) }
+        ensures settled { OnOk result (first_unfinished_of self.new ≡ None) }
+        ensures free { OnOk result (All (λ e. e.1.held ≡ false) (entries self.new)) }
+        ensures rows { self.new.rows ≡ self.old.rows }
+        ensures witnesses { Extends self.old.witnesses self.new.witnesses }
+        ensures fits { (job : JobParts) → Fits self.old.rows job → Fits self.new.rows job }
+        ensures sound { Sound self.new }
+    {
         self.free();
-        self.search()?;
+        self.search(judges)?;
         while self.advance()? {}
         self.free();
         self.covers()
+    }
+
+    // Makes so many further stores.
+    fn spread(&mut self, count: u8) -> Result<(), AllocError>
+        ensures same { self.new ≡ self.old }
+        ensures sound { Sound self.new }
+    {
+        self.stores.spread(self.alloc, &self.snapshot, count)
     }
 
     /// Seeks and books evidence as `finish` does, and answers what it saw to hold, but leaves each candidate to be drawn: nothing is
@@ -383,8 +452,38 @@ impl Book {
         ensures witnesses { Extends self.old.witnesses self.new.witnesses }
         ensures sound { Sound self.new }
     {
+        self.seek_with(&Alone)
+    }
+
+    /// What `seek` does, whose verdicts are made by so many workers at most beside each other, as those of `finish_by` are.
+    pub fn seek_by<R: Threads + Sync>(&mut self, rt: &R, workers: u8) -> Result<Known, AllocError>
+        ensures known { IfOk result (IsTrueOf self.new.rows) }
+        ensures wide { IfOk result (λ known. width_of known.candidates ≡ width self.new.rows) }
+        ensures rows { self.new.rows ≡ self.old.rows }
+        ensures witnesses { Extends self.old.witnesses self.new.witnesses }
+        ensures sound { Sound self.new }
+    {
+        if workers < 2 {
+            return self.seek();
+        }
+        self.spread(workers - 1)?;
+        let least = LEAST_SHARED;
+        let known = self.seek_with(&Beside { rt, least });
+        self.stores.gather();
+        known
+    }
+
+    // What `seek` does, with verdicts by these.
+    fn seek_with<J: Judges>(&mut self, judges: &J) -> Result<Known, AllocError>
+        requires { J.ready }
+        ensures known { IfOk result (IsTrueOf self.new.rows) }
+        ensures wide { IfOk result (λ known. width_of known.candidates ≡ width self.new.rows) }
+        ensures rows { self.new.rows ≡ self.old.rows }
+        ensures witnesses { Extends self.old.witnesses self.new.witnesses }
+        ensures sound { Sound self.new }
+    {
         self.free();
-        self.search()?;
+        self.search(judges)?;
         self.forget()
     }
 
@@ -421,7 +520,8 @@ impl Book {
 
     // Validates the unfinished candidates, those with fewer columns first. What evidence leaves of those that fail has one column
     // more, so that it comes with the next pass. Once few fail, a pass is of all that are left, as far as these are not too many.
-    fn search(&mut self) -> Result<(), AllocError>
+    fn search<J: Judges>(&mut self, judges: &J) -> Result<(), AllocError>
+        requires { J.ready }
         ensures rows { self.new.rows ≡ self.old.rows }
         ensures witnesses { Extends self.old.witnesses self.new.witnesses }
         ensures sound { Sound self.new }
@@ -440,7 +540,7 @@ impl Book {
             let least = size as u32;
             let whole = calm && count(&self.candidates) <= MOST_WAITING;
             let most = if whole { u32::MAX } else { least };
-            calm = self.pass(Sizes { least, most })?;
+            calm = self.pass(judges, Sizes { least, most })?;
         }
         Ok(())
     }
@@ -482,49 +582,44 @@ impl Book {
 
     // Validates the unfinished candidates with so many columns that no evidence just found refutes, books the evidence, and tells
     // whether few of them failed: whether it is less evidence than these are.
-    fn pass(&mut self, sizes: Sizes) -> Result<bool, AllocError>
+    fn pass<J: Judges>(&mut self, judges: &J, sizes: Sizes) -> Result<bool, AllocError>
+        requires { J.ready }
         ensures rows { self.new.rows ≡ self.old.rows }
         ensures witnesses { Extends self.old.witnesses self.new.witnesses }
         ensures sound { Sound self.new }
     {
         let next = self.rows.next();
-        let list = of_sizes(self.alloc, &self.candidates, &self.order, sizes, next)?;
-        let mut found = Vec::new(self.alloc);
-        for waiting in list.as_slice() {
-            if !is_told(recent(found.as_slice()), waiting.target, waiting.cand.left) {
-                self.judge(waiting.target, waiting.cand, &mut found)?;
-            }
-        }
-        let few = found.len() < list.len();
-        self.book_all(found)?;
+        let alloc = self.alloc;
+        let list = of_sizes(alloc, &self.candidates, &self.order, sizes, next)?;
+        let snapshot = self.snapshot.clone()?;
+        let (rows, stores) = (&self.rows, &mut self.stores);
+        let judged = judges.judged(alloc, rows, &snapshot, list.as_slice(), stores)?;
+        let few = judged.found.len() < list.len();
+        self.mark_held(&snapshot, judged.held.as_slice())?;
+        self.book_all(judged.found)?;
         Ok(few)
     }
 
-    // Validates a candidate, and marks it where it holds, or else adds evidence against it.
-    fn judge(
-        &mut self,
-        target: Target,
-        cand: Cand,
-        found: &mut Vec<Evidence>,
-    ) -> Result<(), AllocError>
-        requires target { IsColumnTarget (width self.old.rows) target }
-        requires left { cand.left < 2 ^ width self.old.rows }
-        requires marked { IsMarked self.old.rows target cand }
-        requires found { All (IsEvidence self.old.rows) found.old.items }
+    // Marks candidates of which the dependency was seen to hold in a snapshot of the rows.
+    fn mark_held(&mut self, snapshot: &Arc<Snapshot>, held: &[Waiting]) -> Result<(), AllocError>
+        requires { All (IsHeld self.old.rows snapshot.now.value) held.now }
         ensures rows { self.new.rows ≡ self.old.rows }
         ensures witnesses { self.new.witnesses ≡ self.old.witnesses }
-        ensures found { OnOk result (All (IsEvidence self.new.rows) found.new.items) }
         ensures sound { Sound self.new }
     {
         let next = self.rows.next();
-        let job = Job::of(target, cand.left, cand.upto, next, self.snapshot.clone()?);
-        let (store, most) = (&mut self.store, MOST_VIOLATIONS);
-        let pairs = violations_on::<Brand>(store, self.alloc, &job, most, Blank::new(1))?;
-        if pairs.is_empty() {
+        for waiting in held {
+            let cand = waiting.cand;
+            let job = Job::of(
+                waiting.target,
+                cand.left,
+                cand.upto,
+                next,
+                snapshot.clone()?,
+            );
             self.mark(&job);
-            return Ok(());
         }
-        push_evidence(&self.rows, pairs.as_slice(), found)
+        Ok(())
     }
 
     // Books the evidence that is news, all of it or none.
@@ -563,8 +658,10 @@ impl Book {
         };
         let snapshot = self.snapshot.clone()?;
         let job = Job::of(first.target, first.left, first.upto, next, snapshot);
-        let store = &mut self.store;
-        let mut pairs = violations_on::<Brand>(store, self.alloc, &job, 1, Blank::new(1))?;
+        let blank = Blank::new(1);
+        let mut pairs = self
+            .stores
+            .violations::<Brand>(self.alloc, &job, 1, blank)?;
         match pairs.pop() {
             Some(pair) => {
                 self.refute(pair.0, pair.1)?;

@@ -9,6 +9,7 @@ mod concerned;
 mod cursor;
 mod ended;
 mod evidence;
+mod judging;
 mod known;
 mod listed;
 mod order;
@@ -17,6 +18,7 @@ mod parts;
 mod renewal;
 mod sampling;
 mod searching;
+mod stores;
 #[cfg(test)]
 mod tests;
 mod verdict;

@@ -10,6 +10,7 @@ mod late_jobs;
 mod new_rows;
 mod script;
 mod seeking;
+mod workers;
 
 use crate::{Applying, Book, Draw, Marking, Refutation};
 use plain_base::{are_as_wide, relation_of};

@@ -12,7 +12,7 @@ use std::sync::ledger::{Blank, Ledger};
 use validator::Store;
 
 // How many row numbers a store keeps, 4 bytes each.
-const STORE_ROOM: usize = 1 << 25;
+pub(crate) const STORE_ROOM: usize = 1 << 25;
 
 // An empty store for a snapshot.
 pub(crate) fn store_of(alloc: Global, snapshot: &Arc<Snapshot>) -> Result<Store, AllocError>

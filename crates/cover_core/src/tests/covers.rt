@@ -11,7 +11,7 @@ use std::thread::Threads;
 const COLUMNS: usize = 4;
 
 // The relation of this seed.
-fn relation(rt: &impl Abort, alloc: Global, seed: u64) -> Result<Relation, AllocError> {
+pub(super) fn relation(rt: &impl Abort, alloc: Global, seed: u64) -> Result<Relation, AllocError> {
     let mut samples = Samples::from_seed(seed);
     let names = samples.row(alloc, COLUMNS)?;
     let relation = relation_of(names, samples.rows(alloc, 6, COLUMNS)?);
@@ -19,7 +19,7 @@ fn relation(rt: &impl Abort, alloc: Global, seed: u64) -> Result<Relation, Alloc
     Ok(relation.unwrap())
 }
 
-fn are_same(found: &Covers, wanted: &Covers) -> bool {
+pub(super) fn are_same(found: &Covers, wanted: &Covers) -> bool {
     found.keys() == wanted.keys() && found.fds() == wanted.fds()
 }
 

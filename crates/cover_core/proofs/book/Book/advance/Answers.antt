@@ -13,17 +13,17 @@ use Rattle.cover_core.proofs.book.Book.advance.Goals.{After-drop-job-inside-2, i
 pub returns-in_default-clause-done : goal.returns-in_default-clause-done
 returns-in_default-clause-done c = first-none c.args.self.now c.first.result c.first.ensures c.in_default.is
 
-pub violations_on-requires-clause-name : goal.violations_on-requires-clause-name
-violations_on-requires-clause-name c = refl
+pub violations-requires-clause-name : goal.violations-requires-clause-name
+violations-requires-clause-name c = refl
 
-pub violations_on-requires-clause-parts : goal.violations_on-requires-clause-parts
-violations_on-requires-clause-parts c = refl
+pub violations-requires-clause-parts : goal.violations-requires-clause-parts
+violations-requires-clause-parts c = refl
 
-pub violations_on-requires-clause-some : goal.violations_on-requires-clause-some
-violations_on-requires-clause-some c = let e = c.new.ensures in omega (arith, e)
+pub violations-requires-clause-some : goal.violations-requires-clause-some
+violations-requires-clause-some c = let e = c.new-blank.ensures in omega (arith, e)
 
-pub violations_on-requires-clause-fitting : goal.violations_on-requires-clause-fitting
-violations_on-requires-clause-fitting c = turn-fitting _ _ _ c.self.invariant.0 c.self.view_is c.in-Some.first.target (first-told c.args.self.now c.first.result c.in-Some.first c.first.ensures c.in-Some.is).0 (first-told c.args.self.now c.first.result c.in-Some.first c.first.ensures c.in-Some.is).1 c.next-next.result c.next-next.ensures.value c.of-job.result (record { target = c.of-job.ensures.target; left = c.of-job.ensures.left ∙ sym (first-told c.args.self.now c.first.result c.in-Some.first c.first.ensures c.in-Some.is).2; from = c.of-job.ensures.from ∙ sym (first-told c.args.self.now c.first.result c.in-Some.first c.first.ensures c.in-Some.is).3; to = c.of-job.ensures.to; shared = c.of-job.ensures.snapshot ∙ c.in_ok-snapshot.ensures.cases })
+pub violations-requires-clause-fitting : goal.violations-requires-clause-fitting
+violations-requires-clause-fitting c = turn-fitting _ _ _ c.self.invariant.0 c.self.view_is c.in-Some.first.target (first-told c.args.self.now c.first.result c.in-Some.first c.first.ensures c.in-Some.is).0 (first-told c.args.self.now c.first.result c.in-Some.first c.first.ensures c.in-Some.is).1 c.next-next.result c.next-next.ensures.value c.of-job.result (record { target = c.of-job.ensures.target; left = c.of-job.ensures.left ∙ sym (first-told c.args.self.now c.first.result c.in-Some.first c.first.ensures c.in-Some.is).2; from = c.of-job.ensures.from ∙ sym (first-told c.args.self.now c.first.result c.in-Some.first c.first.ensures c.in-Some.is).3; to = c.of-job.ensures.to; shared = c.of-job.ensures.snapshot ∙ c.in_ok-snapshot.ensures.cases })
 
 pub refute-requires : goal.refute-requires
 refute-requires c = λ e. absurd (let b = (All-back (λ (pair : ℕ × ℕ). IsVerdict c.of-job.result (Broken pair.0 pair.1)) c.pop.new.self.items c.in-Some-pop.pair (subst (λ (ps : List (ℕ × ℕ)). All (λ (pair : ℕ × ℕ). IsVerdict c.of-job.result (Broken pair.0 pair.1)) ps) c.in-Some-pop.ensures.items c.in_ok-pairs.ensures.pairs)) in let l = b.rising in omega (arith, e, l))

@@ -1,18 +1,14 @@
 use Rattle.std.proofs.Common.{List, sym, subst}
 use Rattle.std.specs.List.{All}
+use Rattle.rel_base.specs.CodeTable.{CodeTable}
 use Rattle.cover_core.specs.Waiting.{IsWaiting}
+use Rattle.cover_core.specs.Judged.{IsAsked}
 use Rattle.cover_core.specs.declared.waiting.Waiting.{Waiting}
-use Rattle.cover_core.proofs.Passes.{waiting-target, waiting-left, waiting-marked}
+use Rattle.cover_core.proofs.Passes.{asked-all}
 use Rattle.cover_core.proofs.book.Book.pass.Goals as goal
 
-pub judge-requires-clause-target : goal.judge-requires-clause-target
-judge-requires-clause-target c = waiting-target _ _ _ c.self.invariant.0 c.self.view_is c.as_slice-waiting-items.result.now (subst (λ (ws : List Waiting). All (IsWaiting c.self.inside.candidates) ws) (sym c.as_slice-waiting-items.ensures.value) c.in_ok-list.ensures)
-    c.loop-waiting.waiting-index c.waiting-item.result c.loop-waiting-test.true c.waiting-item.is c.loop-waiting.self.rows c.loop-waiting.invariant.0
-
-pub judge-requires-clause-left : goal.judge-requires-clause-left
-judge-requires-clause-left c = waiting-left _ _ _ c.self.invariant.0 c.self.view_is c.as_slice-waiting-items.result.now (subst (λ (ws : List Waiting). All (IsWaiting c.self.inside.candidates) ws) (sym c.as_slice-waiting-items.ensures.value) c.in_ok-list.ensures)
-    c.loop-waiting.waiting-index c.waiting-item.result c.loop-waiting-test.true c.waiting-item.is c.loop-waiting.self.rows c.loop-waiting.invariant.0
-
-pub judge-requires-clause-marked : goal.judge-requires-clause-marked
-judge-requires-clause-marked c = waiting-marked _ _ _ c.self.invariant.0 c.self.view_is c.as_slice-waiting-items.result.now (subst (λ (ws : List Waiting). All (IsWaiting c.self.inside.candidates) ws) (sym c.as_slice-waiting-items.ensures.value) c.in_ok-list.ensures)
-    c.loop-waiting.waiting-index c.waiting-item.result c.loop-waiting-test.true c.waiting-item.is c.loop-waiting.self.rows c.loop-waiting.invariant.0
+pub judged-requires-clause-asked : goal.judged-requires-clause-asked
+judged-requires-clause-asked g c =
+    subst (λ (table : CodeTable). All (IsAsked c.self.inside.rows table) c.as_slice.result.now) (sym c.in_ok-snapshot.ensures.cases)
+    (asked-all (record { rows = c.self.inside.rows; witnesses = c.self.inside.witnesses; candidates = c.self.inside.candidates }) c.self.inside.snapshot.value c.self.invariant.0 c.as_slice.result.now
+    (subst (λ (ws : List Waiting). All (IsWaiting c.self.inside.candidates) ws) (sym c.as_slice.ensures.value) c.in_ok-list.ensures))

@@ -3,4 +3,4 @@ use Rattle.cover_core.proofs.Turn.{IsTurned}
 use Rattle.cover_core.proofs.book.Book.search.Given as goal
 
 abbrev pub invariant-loop-size : goal.invariant-loop-size
-invariant-loop-size l = IsTurned l.fn.self l.self × Sound l.self
+invariant-loop-size g l = IsTurned l.fn.self l.self × Sound l.self

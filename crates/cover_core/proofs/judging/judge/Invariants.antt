@@ -1,4 +1,4 @@
-use Rattle.cover_core.proofs.book.Book.judge.Given as goal
+use Rattle.cover_core.proofs.judging.judge.Given as goal
 
 abbrev pub ghosts-violations_on : goal.ghosts-violations_on
 ghosts-violations_on a = record { name = a.blank.name; parts = a.blank.parts }

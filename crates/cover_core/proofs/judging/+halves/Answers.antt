@@ -1,0 +1,18 @@
+use Rattle.std.proofs.Common.{rules, List, sym, subst}
+use Rattle.std.specs.List.{All}
+use Rattle.std.proofs.lemmas.List.Elements.{All-append}
+use Rattle.cover_core.specs.Evidences.{IsEvidence}
+use Rattle.cover_core.specs.Judged.{IsHeld}
+use Rattle.cover_core.specs.declared.evidence.Evidence.{Evidence}
+use Rattle.cover_core.specs.declared.waiting.Waiting.{Waiting}
+use Rattle.cover_core.proofs.judging.+halves.Goals as goal
+
+pub both_halves-returns-clause-held : goal.both_halves-returns-clause-held
+both_halves-returns-clause-held g t c =
+    subst (λ (ws : List Waiting). All (IsHeld c.args.rows.now c.args.snapshot.now.value) ws) (sym c.in_ok-all.ensures.held)
+    (All-append (IsHeld c.args.rows.now c.args.snapshot.now.value) c.in_ok-first.field-0.held.items c.in_ok-second.field-0.held.items (search rules) (search rules))
+
+pub both_halves-returns-clause-found : goal.both_halves-returns-clause-found
+both_halves-returns-clause-found g t c =
+    subst (λ (es : List Evidence). All (IsEvidence c.args.rows.now) es) (sym c.in_ok-all.ensures.found)
+    (All-append (IsEvidence c.args.rows.now) c.in_ok-first.field-0.found.items c.in_ok-second.field-0.found.items (search rules) (search rules))

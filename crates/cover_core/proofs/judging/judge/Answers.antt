@@ -1,0 +1,28 @@
+use Rattle.std.proofs.Common.{◌∙◌, refl, arith, rules, List, sym, subst}
+use Rattle.std.specs.List.{All}
+use Rattle.std.proofs.lemmas.List.Elements.{All-push}
+use Rattle.cover_core.specs.Judged.{IsHeld}
+use Rattle.cover_core.specs.declared.waiting.Waiting.{Waiting}
+use Rattle.cover_core.proofs.JobVerdicts.{asked-fitting, asked-held}
+use Rattle.cover_core.proofs.Putting.{none_left}
+use Rattle.cover_core.proofs.judging.judge.Goals as goal
+
+pub violations_on-requires-clause-name : goal.violations_on-requires-clause-name
+violations_on-requires-clause-name c = refl
+
+pub violations_on-requires-clause-parts : goal.violations_on-requires-clause-parts
+violations_on-requires-clause-parts c = refl
+
+pub violations_on-requires-clause-some : goal.violations_on-requires-clause-some
+violations_on-requires-clause-some c = let e = c.new.ensures in omega (arith, e)
+
+pub violations_on-requires-clause-fitting : goal.violations_on-requires-clause-fitting
+violations_on-requires-clause-fitting c = asked-fitting c.args.rows.now c.args.snapshot.now.value c.args.waiting c.next.result c.next.ensures.value c.of-job.result
+    (record { target = c.of-job.ensures.target; left = c.of-job.ensures.left; from = c.of-job.ensures.from; to = c.of-job.ensures.to; shared = c.of-job.ensures.snapshot ∙ c.in_ok-clone.ensures.cases }) c.requires.asked
+
+pub returns-then-is_empty-clause-held : goal.returns-then-is_empty-clause-held
+returns-then-is_empty-clause-held c = subst (λ (ws : List Waiting). All (IsHeld c.args.rows.now c.args.snapshot.now.value) ws) (sym c.in_ok-push.ensures.items)
+    (All-push (IsHeld c.args.rows.now c.args.snapshot.now.value) c.args.held.now.items c.args.waiting c.requires.held
+    (asked-held c.args.rows.now c.args.snapshot.now.value c.args.waiting c.next.result c.next.ensures.value c.of-job.result
+    (record { target = c.of-job.ensures.target; left = c.of-job.ensures.left; from = c.of-job.ensures.from; to = c.of-job.ensures.to; shared = c.of-job.ensures.snapshot ∙ c.in_ok-clone.ensures.cases }) c.requires.asked
+    (c.in_ok-pairs.ensures.none (none_left c.in_ok-pairs.pairs.items (search rules)))))

@@ -1,0 +1,270 @@
+// Verdicts on the candidates of a pass, by one thread or by several beside each other.
+ghost use Rattle.std.specs.Prelude.{◌≡◌, ◌<◌, ◌≤◌, ◌++◌, length, IfOk, OnOk};
+ghost use Rattle.std.specs.List.{All};
+ghost use Rattle.cover_core.specs.Evidences.{IsEvidence};
+ghost use Rattle.cover_core.specs.Judged.{IsAsked, IsHeld};
+ghost use denote.Param.Send.{IsSync};
+
+use crate::evidence::{Evidence, is_told, push_evidence, recent};
+use crate::stores::Stores;
+use crate::verdict::violations_on;
+use crate::waiting::Waiting;
+use rel_base::{Job, Snapshot};
+use row_log::RowLog;
+use std::alloc::{AllocError, Global};
+use std::marker::Brand;
+use std::sync::Arc;
+use std::sync::ledger::Blank;
+use std::thread::{Threads, join_mut};
+use validator::Store;
+
+// How many pairs of rows a pass asks for where a dependency does not hold.
+const MOST_VIOLATIONS: usize = 64;
+
+// The candidates that hold, and evidence against others.
+#[derive(Drop)]
+pub(crate) struct Verdicts {
+    pub(crate) held: Vec<Waiting>,
+    pub(crate) found: Vec<Evidence>,
+}
+
+// Who makes the verdicts of a pass.
+pub(crate) trait Judges {
+    // What it needs of the threads that it has.
+    ghost ready: { Type 0 };
+
+    // Validates candidates on the stores of a snapshot of the rows. It passes over those that evidence just found refutes.
+    fn judged(
+        &self,
+        alloc: Global,
+        rows: &RowLog,
+        snapshot: &Arc<Snapshot>,
+        list: &[Waiting],
+        stores: &mut Stores,
+    ) -> Result<Verdicts, AllocError>
+        requires ready { ready }
+        requires same { stores.old ≡ snapshot.now.value }
+        requires asked { All (IsAsked rows.now snapshot.now.value) list.now }
+        ensures held { IfOk result (λ judged. All (IsHeld rows.now snapshot.now.value) judged.held.items) }
+        ensures found { IfOk result (λ judged. All (IsEvidence rows.now) judged.found.items) }
+        ensures stores { stores.new ≡ stores.old };
+}
+
+// The thread of the caller and no other.
+#[derive(Drop)]
+pub(crate) struct Alone;
+
+impl Judges for Alone {
+    ghost ready = { Unit {0} };
+
+    fn judged(
+        &self,
+        alloc: Global,
+        rows: &RowLog,
+        snapshot: &Arc<Snapshot>,
+        list: &[Waiting],
+        stores: &mut Stores,
+    ) -> Result<Verdicts, AllocError> {
+        stores.judged(alloc, rows, snapshot, list)
+    }
+}
+
+// Threads beside each other, one for each store, where there are so many candidates at least.
+#[derive(Drop)]
+pub(crate) struct Beside<'a, R> {
+    pub(crate) rt: &'a R,
+    pub(crate) least: usize,
+}
+
+impl<'a, R: Threads + Sync> Judges for Beside<'a, R> {
+    ghost ready = { IsSync R.row };
+
+    fn judged(
+        &self,
+        alloc: Global,
+        rows: &RowLog,
+        snapshot: &Arc<Snapshot>,
+        list: &[Waiting],
+        stores: &mut Stores,
+    ) -> Result<Verdicts, AllocError> {
+        stores.judged_by(self.rt, alloc, rows, snapshot, self.least, list)
+    }
+}
+
+// Validates candidates one after another on a store of the snapshot, but for those that evidence just found refutes.
+pub(crate) fn judged(
+    alloc: Global,
+    rows: &RowLog,
+    snapshot: &Arc<Snapshot>,
+    list: &[Waiting],
+    store: &mut Store,
+) -> Result<Verdicts, AllocError>
+    requires same { store.old ≡ snapshot.now.value }
+    requires asked { All (IsAsked rows.now snapshot.now.value) list.now }
+    ensures held { IfOk result (λ judged. All (IsHeld rows.now snapshot.now.value) judged.held.items) }
+    ensures found { IfOk result (λ judged. All (IsEvidence rows.now) judged.found.items) }
+    ensures store { store.new ≡ store.old }
+{
+    let mut held = Vec::new(alloc);
+    let mut found = Vec::new(alloc);
+    for waiting in list {
+        if !is_told(
+            recent(found.as_slice()),
+            waiting.target,
+            waiting.cand.left,
+        ) {
+            judge(
+                alloc, rows, snapshot, *waiting, store, &mut held, &mut found,
+            )?;
+        }
+    }
+    Ok(Verdicts { held, found })
+}
+
+// Validates a candidate: it is one more that holds, or there is more evidence.
+fn judge(
+    alloc: Global,
+    rows: &RowLog,
+    snapshot: &Arc<Snapshot>,
+    waiting: Waiting,
+    store: &mut Store,
+    held: &mut Vec<Waiting>,
+    found: &mut Vec<Evidence>,
+) -> Result<(), AllocError>
+    requires same { store.old ≡ snapshot.now.value }
+    requires asked { IsAsked rows.now snapshot.now.value waiting }
+    requires held { All (IsHeld rows.now snapshot.now.value) held.old.items }
+    requires found { All (IsEvidence rows.now) found.old.items }
+    ensures held { OnOk result (All (IsHeld rows.now snapshot.now.value) held.new.items) }
+    ensures found { OnOk result (All (IsEvidence rows.now) found.new.items) }
+    ensures store { store.new ≡ store.old }
+{
+    let cand = waiting.cand;
+    let job = Job::of(
+        waiting.target,
+        cand.left,
+        cand.upto,
+        rows.next(),
+        snapshot.clone()?,
+    );
+    let pairs = violations_on::<Brand>(store, alloc, &job, MOST_VIOLATIONS, Blank::new(1))?;
+    if pairs.is_empty() {
+        held.push(waiting)?;
+        return Ok(());
+    }
+    push_evidence(rows, pairs.as_slice(), found)
+}
+
+// What `judged` does, by a thread for each store, where there are so many candidates at least. Each takes candidates that stand side
+// by side, and what they find is put together in the order of the candidates, so that it does not depend on which thread is first.
+#[cycle(halves)]
+pub(crate) fn judged_by<R: Threads + Sync>(
+    rt: &R,
+    alloc: Global,
+    rows: &RowLog,
+    snapshot: &Arc<Snapshot>,
+    least: usize,
+    list: &[Waiting],
+    stores: &mut [Store],
+) -> Result<Verdicts, AllocError>
+    requires same { All (λ store. store ≡ snapshot.now.value) stores.old }
+    requires asked { All (IsAsked rows.now snapshot.now.value) list.now }
+    ensures held { IfOk result (λ judged. All (IsHeld rows.now snapshot.now.value) judged.held.items) }
+    ensures found { IfOk result (λ judged. All (IsEvidence rows.now) judged.found.items) }
+    ensures same { All (λ store. store ≡ snapshot.now.value) stores.new }
+{
+    let count = stores.len();
+    if count < 2 || list.len() < least {
+        return judged_by_first(alloc, rows, snapshot, list, stores);
+    }
+    let few = count / 2;
+    let (low, high) = list.split_at(share(list.len(), count, few));
+    let (first, others) = stores.split_at_mut(few);
+    both_halves(
+        rt, alloc, rows, snapshot, least, low, first, high, others,
+    )
+}
+
+// How many of these candidates some of the workers take.
+pub(crate) fn share(candidates: usize, workers: usize, some: usize) -> usize
+    requires { 0 < workers }
+    ensures { result ≤ candidates }
+{
+    (candidates / workers).saturating_mul(some).min(candidates)
+}
+
+// What `judged` does on the first store.
+fn judged_by_first(
+    alloc: Global,
+    rows: &RowLog,
+    snapshot: &Arc<Snapshot>,
+    list: &[Waiting],
+    stores: &mut [Store],
+) -> Result<Verdicts, AllocError>
+    requires same { All (λ store. store ≡ snapshot.now.value) stores.old }
+    requires asked { All (IsAsked rows.now snapshot.now.value) list.now }
+    ensures held { IfOk result (λ judged. All (IsHeld rows.now snapshot.now.value) judged.held.items) }
+    ensures found { IfOk result (λ judged. All (IsEvidence rows.now) judged.found.items) }
+    ensures same { All (λ store. store ≡ snapshot.now.value) stores.new }
+{
+    if stores.is_empty() {
+        return Ok(Verdicts {
+            held: Vec::new(alloc),
+            found: Vec::new(alloc),
+        });
+    }
+    judged(alloc, rows, snapshot, list, &mut stores[0])
+}
+
+// A function of its own, so that what the closures require is what it is given.
+#[cycle(halves)]
+pub(crate) fn both_halves<R: Threads + Sync>(
+    rt: &R,
+    alloc: Global,
+    rows: &RowLog,
+    snapshot: &Arc<Snapshot>,
+    least: usize,
+    low: &[Waiting],
+    few: &mut [Store],
+    high: &[Waiting],
+    others: &mut [Store],
+) -> Result<Verdicts, AllocError>
+    requires some { 0 < length few.old }
+    requires more { 0 < length others.old }
+    requires few { All (λ store. store ≡ snapshot.now.value) few.old }
+    requires others { All (λ store. store ≡ snapshot.now.value) others.old }
+    requires low { All (IsAsked rows.now snapshot.now.value) low.now }
+    requires high { All (IsAsked rows.now snapshot.now.value) high.now }
+    ensures held { IfOk result (λ judged. All (IsHeld rows.now snapshot.now.value) judged.held.items) }
+    ensures found { IfOk result (λ judged. All (IsEvidence rows.now) judged.found.items) }
+    ensures few { All (λ store. store ≡ snapshot.now.value) few.new }
+    ensures others { All (λ store. store ≡ snapshot.now.value) others.new }
+{
+    let mut first = || -> Result<Verdicts, AllocError>
+        requires { IsSync R.row × All (λ store. store ≡ snapshot.now.value) few.now × All (IsAsked rows.now snapshot.now.value) low.now }
+        ensures held { IfOk result (λ judged. All (IsHeld rows.entry.now snapshot.entry.now.value) judged.held.items) }
+        ensures found { IfOk result (λ judged. All (IsEvidence rows.entry.now) judged.found.items) }
+        ensures same { All (λ store. store ≡ snapshot.entry.now.value) few.exit.now }
+    { judged_by(rt, alloc, rows, snapshot, least, low, few) };
+    let mut second = || -> Result<Verdicts, AllocError>
+        requires { IsSync R.row × All (λ store. store ≡ snapshot.now.value) others.now × All (IsAsked rows.now snapshot.now.value) high.now }
+        ensures held { IfOk result (λ judged. All (IsHeld rows.entry.now snapshot.entry.now.value) judged.held.items) }
+        ensures found { IfOk result (λ judged. All (IsEvidence rows.entry.now) judged.found.items) }
+        ensures same { All (λ store. store ≡ snapshot.entry.now.value) others.exit.now }
+    { judged_by(rt, alloc, rows, snapshot, least, high, others) };
+    let (first, second) = join_mut(rt, &mut first, &mut second);
+    let all = together(first?, second?)?;
+    Ok(all)
+}
+
+// What one half and the other half tell.
+fn together(first: Verdicts, second: Verdicts) -> Result<Verdicts, AllocError>
+    ensures held { IfOk result (λ all. all.held.items ≡ first.held.items ++ second.held.items) }
+    ensures found { IfOk result (λ all. all.found.items ≡ first.found.items ++ second.found.items) }
+{
+    let (mut held, mut found) = (first.held, first.found);
+    let (mut more, mut others) = (second.held, second.found);
+    held.append(&mut more)?;
+    found.append(&mut others)?;
+    Ok(Verdicts { held, found })
+}
