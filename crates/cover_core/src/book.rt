@@ -659,9 +659,7 @@ impl Book {
         let snapshot = self.snapshot.clone()?;
         let job = Job::of(first.target, first.left, first.upto, next, snapshot);
         let blank = Blank::new(1);
-        let mut pairs = self
-            .stores
-            .violations::<Brand>(self.alloc, &job, 1, blank)?;
+        let mut pairs = self.stores.violations::<Brand>(self.alloc, &job, 1, blank)?;
         match pairs.pop() {
             Some(pair) => {
                 self.refute(pair.0, pair.1)?;

@@ -108,11 +108,7 @@ pub(crate) fn judged(
     let mut held = Vec::new(alloc);
     let mut found = Vec::new(alloc);
     for waiting in list {
-        if !is_told(
-            recent(found.as_slice()),
-            waiting.target,
-            waiting.cand.left,
-        ) {
+        if !is_told(recent(found.as_slice()), waiting.target, waiting.cand.left) {
             judge(
                 alloc, rows, snapshot, *waiting, store, &mut held, &mut found,
             )?;
@@ -180,9 +176,7 @@ pub(crate) fn judged_by<R: Threads + Sync>(
     let few = count / 2;
     let (low, high) = list.split_at(share(list.len(), count, few));
     let (first, others) = stores.split_at_mut(few);
-    both_halves(
-        rt, alloc, rows, snapshot, least, low, first, high, others,
-    )
+    both_halves(rt, alloc, rows, snapshot, least, low, first, high, others)
 }
 
 // How many of these candidates some of the workers take.

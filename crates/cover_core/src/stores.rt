@@ -146,8 +146,6 @@ impl Stores {
         let (low, high) = list.split_at(share(list.len(), count, 1));
         let own = slice::from_mut(&mut self.own);
         let others = self.others.as_mut_slice();
-        both_halves(
-            rt, alloc, rows, snapshot, least, low, own, high, others,
-        )
+        both_halves(rt, alloc, rows, snapshot, least, low, own, high, others)
     }
 }

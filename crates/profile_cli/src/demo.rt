@@ -152,7 +152,7 @@ fn counted<R: Threads + Sync>(
 ) -> Result<Vec<u8>, AllocError>
     ensures { IfOk result (λ text. text.items ≡ words.demo_text seed book.old.rows) }
 {
-    let found = book.finish()?;
+    let found = book.finish_by(rt, workers)?;
     let inclusions = count_inclusions(rt, alloc, workers, book.rows())?;
     let tables = tables_of(alloc, book.rows(), &found)?;
     demo_line(

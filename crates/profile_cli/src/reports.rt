@@ -13,8 +13,11 @@ use report_text::Lines;
 use std::alloc::{AllocError, Global};
 use std::thread::Threads;
 
-/// Adds the report of a book's rows, and gives the covers that it found for it. The agree sets of the witnesses leave them, too.
-pub(crate) fn push_report_of(
+/// Adds the report of a book's rows, and gives the covers that so many workers at most found for it. The agree sets of the witnesses
+/// leave them, too.
+pub(crate) fn push_report_of<R: Threads + Sync>(
+    rt: &R,
+    workers: u8,
     lines: &mut Lines,
     name: &Name,
     book: &mut Book,
@@ -24,7 +27,7 @@ pub(crate) fn push_report_of(
     ensures evidence { OnOk result (covers book.old.rows ≡ least_covers (width book.old.rows) (sets_of book.new.witnesses)) }
     ensures rows { book.new.rows ≡ book.old.rows }
 {
-    let found = book.finish()?;
+    let found = book.finish_by(rt, workers)?;
     let rows = book.rows();
     lines.push_report(name, rows.names(), u64::from(rows.live_len()), &found)?;
     Ok(found)
@@ -48,7 +51,7 @@ pub(crate) fn reports_of<R: Threads + Sync>(
     let mut columns = Columns::new(alloc);
     for (place, relation) in relations.into_iter().enumerate() {
         let mut book = Book::open_by(rt, alloc, relation, limits, options.nulls, options.workers)?;
-        push_report_of(&mut lines, &names[place], &mut book)?;
+        push_report_of(rt, options.workers, &mut lines, &names[place], &mut book)?;
         columns.push(alloc, book.rows())?;
     }
     columns.push_inclusions(rt, alloc, options.workers, &mut lines)?;

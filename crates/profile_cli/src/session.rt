@@ -119,8 +119,8 @@ fn push_report_now<R: Threads + Sync>(
     Ok(())
 }
 
-/// Does the same, and gives the covers of the rows. The agree sets of the
-/// witnesses leave them, too.
+/// Adds the report of the rows as they are now, and the inclusions among their columns, and gives the covers of the rows. The agree
+/// sets of the witnesses leave them, too.
 pub(crate) fn push_whole_report<R: Threads + Sync>(
     rt: &R,
     alloc: Global,
@@ -134,7 +134,7 @@ pub(crate) fn push_whole_report<R: Threads + Sync>(
     ensures evidence { OnOk result (covers book.old.rows ≡ least_covers (width book.old.rows) (sets_of book.new.witnesses)) }
     ensures rows { book.new.rows ≡ book.old.rows }
 {
-    let found = push_report_of(lines, name, book)?;
+    let found = push_report_of(rt, workers, lines, name, book)?;
     let mut columns = Columns::new(alloc);
     columns.push(alloc, book.rows())?;
     columns.push_inclusions(rt, alloc, workers, lines)?;
