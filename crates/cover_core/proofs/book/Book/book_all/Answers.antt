@@ -1,6 +1,8 @@
-use Rattle.std.proofs.Common.{◌∙◌, ◌++◌, List, sym, ap, subst}
+use Rattle.std.proofs.Common.{◌≡◌, ◌∙◌, ◌++◌, ℕ, false, List, length, sym, ap, subst}
 use Rattle.std.specs.List.{All}
 use Rattle.negative_cover.specs.declared.negative_cover.Witness.{Witness}
+use Rattle.negative_cover.specs.Witnesses.{sets_of}
+use Rattle.candidate_cover.specs.Drafts.{Drafted, is_news}
 use Rattle.cover_steps.specs.Core.{Core}
 use Rattle.cover_core.specs.Evidences.{IsEvidence}
 use Rattle.cover_core.proofs.Passes.{Extends-same, IsBook-all}
@@ -21,3 +23,10 @@ invariant_of-self-2 c =
 
 pub returns-clause-sound : goal.returns-clause-sound
 returns-clause-sound c = (IsBook-all _ _ c.self.invariant.0 c.in_ok-news.news.witnesses.items c.in_ok-news.news.draft (c.in_ok-news.ensures.news _ (subst (λ (m : Core). All (IsEvidence m.rows) c.args.found.items) (sym c.self.view_is) c.requires)) c.put_all.new.candidates (c.put_all.ensures _ c.in_ok-parts.ensures) c.add_all.new.self (c.in_ok-add_all.ensures.ok ∙ ap (λ (ws : List Witness). c.self.inside.witnesses ++ ws) c.as_slice.ensures.value)).sound
+
+pub returns-clause-told : goal.returns-clause-told
+returns-clause-told c =
+    let news = c.in_ok-news.ensures.news _ (subst (λ (m : Core). All (IsEvidence m.rows) c.args.found.items) (sym c.self.view_is) c.requires) in
+    let drafted = subst (λ (d : Drafted). All (λ e. is_news d.width d.agree_sets e.agree ≡ false) c.args.found.items) news.drafted c.in_ok-news.ensures.told in
+    let added = subst (λ (ws : List Witness). All (λ e. is_news (length c.self.inside.candidates.columns) (sets_of ws) e.agree ≡ false) c.args.found.items) (sym (c.in_ok-add_all.ensures.ok ∙ ap (λ (ws : List Witness). c.self.inside.witnesses ++ ws) c.as_slice.ensures.value)) drafted in
+    subst (λ (n : ℕ). All (λ e. is_news n (sets_of c.add_all.new.self) e.agree ≡ false) c.args.found.items) c.self.invariant.0.sound.columns added
