@@ -16,6 +16,7 @@ use ports::{Gate, Point};
 use rel_base::{Job, RowNo};
 use std::alloc::{AllocError, Global};
 use std::sync::Wait;
+use std::thread::yield_now;
 
 // The distances of windows grow up to this one.
 const MOST_DISTANCE: u32 = 1_000_000;
@@ -85,6 +86,7 @@ fn draw<R: Wait, G: Gate>(
             Ok(false)
         }
         Draw::Busy { .. } => {
+            yield_now();
             look_around(rt, alloc, desk, pass, hand, who)?;
             Ok(false)
         }

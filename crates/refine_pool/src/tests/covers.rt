@@ -68,8 +68,48 @@ fn is_settled_with(book: &Book, wanted: &Covers) -> Result<bool, AllocError> {
     }
 }
 
-// Compares what a phase leaves with what these batches leave in another book, as many as were answered. Where memory was
-// refused, the covers are completed first.
+// The covers that another book finds after these batches, which it answers the same.
+fn plain_covers(
+    rt: &impl Abort,
+    alloc: Global,
+    seed: u64,
+    batches: &[Batch],
+    replies: &[Applying],
+) -> Result<Covers, AllocError> {
+    let mut plain = opened(rt, alloc, seed)?;
+    assert!(rt; apply_all(rt, &mut plain, batches, replies));
+    finish(&mut plain)
+}
+
+fn has_settled(rt: &impl Abort, book: &Book, wanted: &Covers) -> Result<(), AllocError> {
+    let settled = is_settled_with(book, wanted)?;
+    assert!(rt; settled);
+    Ok(())
+}
+
+// Where memory was refused, the covers are completed first.
+fn can_be_finished(rt: &impl Abort, mut book: Book, wanted: &Covers) -> Result<(), AllocError> {
+    let found = finish(&mut book)?;
+    assert!(rt; are_same(&found, wanted));
+    Ok(())
+}
+
+// Compares what a phase leaves for want of memory with what as many batches leave in another book as were answered.
+fn compare_so_far(
+    rt: &impl Abort,
+    alloc: Global,
+    seed: u64,
+    batches: &[Batch],
+    refined: Refined,
+) -> Result<(), AllocError> {
+    let Refined { book, replies } = refined;
+    let count = replies.len();
+    assert!(rt; count <= batches.len());
+    let wanted = plain_covers(rt, alloc, seed, &batches[..count], replies.as_slice())?;
+    can_be_finished(rt, book, &wanted)
+}
+
+// Compares what a phase leaves with what these batches leave in another book.
 fn compare(
     rt: &impl Abort,
     alloc: Global,
@@ -77,23 +117,14 @@ fn compare(
     batches: &[Batch],
     phased: Result<Refined, NoMemory<Refined>>,
 ) -> Result<(), AllocError> {
-    let mut plain = opened(rt, alloc, seed)?;
     match phased {
         Ok(refined) => {
-            assert!(rt; apply_all(rt, &mut plain, batches, refined.replies.as_slice()));
-            let wanted = finish(&mut plain)?;
-            assert!(rt; is_settled_with(&refined.book, &wanted)?);
+            let Refined { book, replies } = refined;
+            let wanted = plain_covers(rt, alloc, seed, batches, replies.as_slice())?;
+            has_settled(rt, &book, &wanted)
         }
-        Err(NoMemory(refined)) => {
-            let Refined { mut book, replies } = refined;
-            assert!(rt; replies.len() <= batches.len());
-            let answered = &batches[..replies.len()];
-            assert!(rt; apply_all(rt, &mut plain, answered, replies.as_slice()));
-            let wanted = finish(&mut plain)?;
-            assert!(rt; are_same(&finish(&mut book)?, &wanted));
-        }
+        Err(NoMemory(refined)) => compare_so_far(rt, alloc, seed, batches, refined),
     }
-    Ok(())
 }
 
 fn run_and_compare<R: Threads + Wait + Sync + Abort>(

@@ -19,13 +19,13 @@ pub struct Stop {
     pub point: Point,
 }
 
-/// Who comes to this stop is held there, at each of the first so many times, until others have come to theirs so many times,
+/// Who comes to this stop is held there, at each of the first so many times, until another has come to its own so many times,
 /// or as many times as itself.
 #[derive(Clone, Copy)]
 pub struct Hold {
     pub stop: Stop,
     pub last: u32,
-    pub until: &'static [Stop],
+    pub until: Stop,
     pub times: Option<u32>,
 }
 
@@ -69,14 +69,18 @@ impl HoldingGate {
         }
     }
 
-    /// Whether the turns of no hold ran out, and each stop that was waited for was come to as often as it was waited for.
-    pub fn is_passed(&self) -> bool {
-        !self.has_run_out.load(Ordering::SeqCst)
-            && self.holds.iter().all(|hold| self.are_noted(hold))
+    /// Whether the turns of a hold ran out.
+    pub fn has_run_out(&self) -> bool {
+        self.has_run_out.load(Ordering::SeqCst)
     }
 
-    fn are_noted(&self, hold: &Hold) -> bool {
-        self.times(hold.stop) >= hold.last && self.have_come(hold, hold.last)
+    /// Whether all who are held and all who are waited for came as often as they are to.
+    pub fn have_all_come(&self) -> bool {
+        self.holds.iter().all(|hold| self.have_both_come(hold))
+    }
+
+    fn have_both_come(&self, hold: &Hold) -> bool {
+        self.times(hold.stop) >= hold.last && self.has_come(hold, hold.last)
     }
 
     fn note(&self, stop: Stop) -> u32 {
@@ -86,15 +90,14 @@ impl HoldingGate {
         }
     }
 
-    // Whether all that are waited for have come, where this is the time that the other came.
-    fn have_come(&self, hold: &Hold, time: u32) -> bool {
-        let wanted = hold.times.unwrap_or(time);
-        hold.until.iter().all(|stop| self.times(*stop) >= wanted)
+    // Whether the other has come often enough, where who is held has come so many times.
+    fn has_come(&self, hold: &Hold, time: u32) -> bool {
+        self.times(hold.until) >= hold.times.unwrap_or(time)
     }
 
     fn wait(&self, hold: &Hold, time: u32) {
         for _ in 0..MOST_TURNS {
-            if self.has_run_out.load(Ordering::SeqCst) || self.have_come(hold, time) {
+            if self.has_run_out.load(Ordering::SeqCst) || self.has_come(hold, time) {
                 return;
             }
             spin_loop();

@@ -21,6 +21,11 @@ const FIRST_DRAWN: Stop = Stop {
     point: Point::Drawn,
 };
 
+const FIRST_JUDGED: Stop = Stop {
+    who: 1,
+    point: Point::Judged,
+};
+
 const SECOND_DRAWN: Stop = Stop {
     who: 2,
     point: Point::Drawn,
@@ -58,6 +63,8 @@ struct Script {
     feed: Feed,
     workers: u32,
     holds: &'static [Hold],
+    // Whether all who are held are sure to come: there are jobs for all of them.
+    all_come: bool,
 }
 
 // Each of two workers is held at its first draws until the other has drawn as often.
@@ -65,13 +72,13 @@ static ONE_EACH: [Hold; 2] = [
     Hold {
         stop: FIRST_DRAWN,
         last: 1,
-        until: &[SECOND_DRAWN],
+        until: SECOND_DRAWN,
         times: None,
     },
     Hold {
         stop: SECOND_DRAWN,
         last: 1,
-        until: &[FIRST_DRAWN],
+        until: FIRST_DRAWN,
         times: None,
     },
 ];
@@ -80,13 +87,13 @@ static MANY_EACH: [Hold; 2] = [
     Hold {
         stop: FIRST_DRAWN,
         last: 32,
-        until: &[SECOND_DRAWN],
+        until: SECOND_DRAWN,
         times: None,
     },
     Hold {
         stop: SECOND_DRAWN,
         last: 32,
-        until: &[FIRST_DRAWN],
+        until: FIRST_DRAWN,
         times: None,
     },
 ];
@@ -94,34 +101,40 @@ static MANY_EACH: [Hold; 2] = [
 static DRAWN_AFTER_FED: [Hold; 1] = [Hold {
     stop: FIRST_DRAWN,
     last: 1,
-    until: &[FED],
+    until: FED,
     times: None,
 }];
 
 static FED_AFTER_DRAWN: [Hold; 1] = [Hold {
     stop: FED,
     last: 1,
-    until: &[FIRST_DRAWN],
+    until: FIRST_DRAWN,
     times: None,
 }];
 
-static FED_AFTER_MANY: [Hold; 3] = [
+static FED_AFTER_MANY: [Hold; 4] = [
     Hold {
         stop: FIRST_DRAWN,
         last: 8,
-        until: &[SECOND_DRAWN],
+        until: SECOND_DRAWN,
         times: None,
     },
     Hold {
         stop: SECOND_DRAWN,
         last: 8,
-        until: &[FIRST_DRAWN],
+        until: FIRST_DRAWN,
         times: None,
     },
     Hold {
         stop: FED,
         last: 1,
-        until: &[FIRST_DRAWN, SECOND_DRAWN],
+        until: FIRST_DRAWN,
+        times: Some(8),
+    },
+    Hold {
+        stop: FED,
+        last: 1,
+        until: SECOND_DRAWN,
         times: Some(8),
     },
 ];
@@ -130,24 +143,48 @@ static LATE: [Hold; 2] = [
     Hold {
         stop: FIRST_DRAWN,
         last: 1,
-        until: &[FED],
+        until: FED,
         times: Some(2),
     },
     Hold {
         stop: SECOND_JUDGED,
         last: 1,
-        until: &[FED],
+        until: FED,
         times: Some(3),
     },
 ];
 
+// The first job is drawn before the second batch, and its verdict comes after the last one.
+static SURELY_LATE: [Hold; 2] = [
+    Hold {
+        stop: FED,
+        last: 1,
+        until: FIRST_DRAWN,
+        times: Some(1),
+    },
+    Hold {
+        stop: FIRST_JUDGED,
+        last: 1,
+        until: FED,
+        times: Some(3),
+    },
+];
+
+// A row of 64 equal cells.
+fn wide_row(alloc: Global) -> Result<Row, AllocError> {
+    let letter: &[u8] = b"a";
+    let mut cells = Vec::new(alloc);
+    for _ in 0..64u32 {
+        cells.push(letter)?;
+    }
+    Row::copied(alloc, &cells)
+}
+
 // The book of one row of 64 columns.
 fn wide(rt: &impl Abort, alloc: Global) -> Result<Book, AllocError> {
-    let cells: [&[u8]; 64] = [b"a"; 64];
-    let names = Row::copied(alloc, &cells)?;
     let mut rows = Vec::with_capacity(alloc, 1)?;
-    rows.push(Row::copied(alloc, &cells)?)?;
-    book_of(rt, alloc, names, rows)
+    rows.push(wide_row(alloc)?)?;
+    book_of(rt, alloc, wide_row(alloc)?, rows)
 }
 
 fn opened(rt: &impl Abort, alloc: Global, rows: Rows) -> Result<Book, AllocError> {
@@ -182,7 +219,10 @@ fn play<R: Threads + Wait + Sync + Abort>(
     let book = opened(rt, alloc, script.rows)?;
     let fed = batches(rt, alloc, script.feed)?;
     match run(rt, alloc, book, fed, script.workers, &gate) {
-        Ok(refined) => Ok((refined, gate.is_passed())),
+        Ok(refined) => {
+            let have_come = gate.have_all_come() || !script.all_come;
+            Ok((refined, have_come && !gate.has_run_out()))
+        }
         Err(_) => Err(AllocError),
     }
 }
@@ -209,6 +249,7 @@ fn two_workers_draw_beside_each_other(rt: HostRuntime) -> Result<(), Fail> {
         feed: Feed::Nothing,
         workers: 2,
         holds: &ONE_EACH,
+        all_come: true,
     };
     let refined = play_again(&rt, rt.alloc(), script)?;
     assert!(rt; refined.book.settled() && refined.replies.is_empty());
@@ -222,6 +263,7 @@ fn two_workers_draw_job_after_job_beside_each_other(rt: HostRuntime) -> Result<(
         feed: Feed::Nothing,
         workers: 2,
         holds: &MANY_EACH,
+        all_come: true,
     };
     let refined = play_again(&rt, rt.alloc(), script)?;
     assert!(rt; refined.book.settled());
@@ -235,6 +277,7 @@ fn a_batch_is_fed_while_a_worker_has_a_job(rt: HostRuntime) -> Result<(), Fail> 
         feed: Feed::Deletion,
         workers: 1,
         holds: &DRAWN_AFTER_FED,
+        all_come: true,
     };
     let refined = play_again(&rt, rt.alloc(), script)?;
     assert!(rt; refined.book.settled() && refined.replies.len() == 1);
@@ -248,6 +291,7 @@ fn a_worker_draws_while_the_feeder_is_held(rt: HostRuntime) -> Result<(), Fail> 
         feed: Feed::Deletion,
         workers: 1,
         holds: &FED_AFTER_DRAWN,
+        all_come: true,
     };
     let refined = play_again(&rt, rt.alloc(), script)?;
     assert!(rt; refined.book.settled() && refined.replies.len() == 1);
@@ -261,6 +305,7 @@ fn two_workers_draw_job_after_job_beside_the_feeder(rt: HostRuntime) -> Result<(
         feed: Feed::Empty,
         workers: 2,
         holds: &FED_AFTER_MANY,
+        all_come: true,
     };
     let refined = play_again(&rt, rt.alloc(), script)?;
     assert!(rt; refined.book.settled() && refined.replies.len() == 1);
@@ -279,6 +324,14 @@ fn are_answers(replies: &[Applying], wanted: &[Applying]) -> bool {
     replies == wanted
 }
 
+// Whether rows 3 and 4 are left, with their covers.
+fn is_left(book: &Book) -> Result<bool, AllocError> {
+    let rows = book.rows();
+    let (left, right) = (ColSet::empty(), 1);
+    let two = rows.live_len() == 2 && rows.is_live(RowNo::of(3)) && rows.is_live(RowNo::of(4));
+    Ok(two && has_covers(book, &[columns(&[0])], &[Fd { left, right }])?)
+}
+
 #[test]
 fn jobs_that_come_back_after_their_rows_are_gone(rt: HostRuntime) -> Result<(), Fail> {
     let script = Script {
@@ -286,12 +339,26 @@ fn jobs_that_come_back_after_their_rows_are_gone(rt: HostRuntime) -> Result<(), 
         feed: Feed::Three,
         workers: 4,
         holds: &LATE,
+        all_come: false,
     };
     let refined = play_again(&rt, rt.alloc(), script)?;
-    let rows = refined.book.rows();
-    assert!(rt; rows.live_len() == 2 && rows.is_live(RowNo::of(3)) && rows.is_live(RowNo::of(4)));
-    let (left, right) = (ColSet::empty(), 1);
-    assert!(rt; has_covers(&refined.book, &[columns(&[0])], &[Fd { left, right }])?);
+    let left = is_left(&refined.book)?;
+    assert!(rt; left && refined.replies.len() == 3);
+    Ok(())
+}
+
+#[test]
+fn a_verdict_that_comes_after_all_batches(rt: HostRuntime) -> Result<(), Fail> {
+    let script = Script {
+        rows: Rows::Letters,
+        feed: Feed::Three,
+        workers: 1,
+        holds: &SURELY_LATE,
+        all_come: true,
+    };
+    let refined = play_again(&rt, rt.alloc(), script)?;
+    let left = is_left(&refined.book)?;
+    assert!(rt; left && refined.replies.len() == 3);
     Ok(())
 }
 
