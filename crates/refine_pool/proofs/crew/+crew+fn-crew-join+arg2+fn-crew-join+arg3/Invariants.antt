@@ -1,0 +1,11 @@
+use Rattle.std.proofs.Common.{◌+◌, ◌-◌, ◌*◌}
+use Rattle.refine_pool.proofs.crew.+crew+fn-crew-join+arg2+fn-crew-join+arg3.Given as goal
+
+abbrev pub decreases-join+arg2 : goal.decreases-join+arg2
+decreases-join+arg2 g l = 2 * (l.lower.high - l.lower.low) + 1
+
+abbrev pub decreases-join+arg3 : goal.decreases-join+arg3
+decreases-join+arg3 g l = 2 * (l.upper.high - l.upper.low) + 1
+
+abbrev pub decreases-crew : goal.decreases-crew
+decreases-crew g l = 2 * (l.posts.high - l.posts.low)

@@ -1,0 +1,4 @@
+pub mod Phases
+pub mod Crews
+pub mod Work
+pub mod Benches
