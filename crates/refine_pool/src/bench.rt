@@ -18,7 +18,7 @@ use validator::Store;
 const STORE_ROOM: usize = 1 << 25;
 
 // How many pairs of rows are asked for where a dependency does not hold.
-const MOST_BREACHES: usize = 64;
+const MOST_VIOLATIONS: usize = 64;
 
 // How many pairs of a window are compared.
 const MOST_NEIGHBOURS: usize = 64;
@@ -64,14 +64,18 @@ impl Bench {
     }
 
     /// Pairs of rows that break the job's dependency, from groups of their own, and none where it holds.
-    pub fn breaches(&mut self, alloc: Global, job: &Job) -> Result<Vec<(RowNo, RowNo)>, AllocError>
+    pub fn violations(
+        &mut self,
+        alloc: Global,
+        job: &Job,
+    ) -> Result<Vec<(RowNo, RowNo)>, AllocError>
         requires alike { Alike self.old.job.snapshot job.now.snapshot }
         requires fitting { IsFitting job.now }
         ensures pairs { IfOk result (λ pairs. AreDifferent pairs.items) }
         ensures none { IfOk result (λ pairs. pairs.items ≡ [] → holds_in job.now.snapshot job.now.left job.now.target ≡ true) }
         ensures job { self.new.job ≡ self.old.job }
     {
-        breaches_on::<Brand>(&mut self.store, alloc, job, Blank::new(1))
+        violations_on::<Brand>(&mut self.store, alloc, job, Blank::new(1))
     }
 
     /// Pairs of rows with the same cell in a column, so many places apart among the rows that have it.
@@ -93,7 +97,7 @@ impl Bench {
 }
 
 // Steps are not counted.
-fn breaches_on<L: Ledger>(
+fn violations_on<L: Ledger>(
     store: &mut Store,
     alloc: Global,
     job: &Job,
@@ -109,6 +113,6 @@ fn breaches_on<L: Ledger>(
     ensures store { store.new ≡ store.old }
 {
     let mut steps = Steps::<L>::none(blank);
-    let pairs = store.breaches(alloc, job, MOST_BREACHES, &mut steps)?;
+    let pairs = store.violations(alloc, job, MOST_VIOLATIONS, &mut steps)?;
     Ok(pairs)
 }

@@ -142,7 +142,7 @@ fn judge(alloc: Global, hand: &mut Hand, job: &Job) -> Result<Vec<(RowNo, RowNo)
     ensures bench { IfSome hand.new.bench (λ bench. (bench.job ≡ job.now) ⊎ HasJob hand.old.bench bench.job) }
 {
     let mut bench = Bench::for_job(alloc, hand.bench.take(), job)?;
-    let pairs = bench.breaches(alloc, job);
+    let pairs = bench.violations(alloc, job);
     hand.bench = Some(bench);
     pairs
 }
