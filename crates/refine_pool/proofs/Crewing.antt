@@ -1,17 +1,13 @@
 -- A round: the feeder hires a crew, goes on or not, and takes the crew's pass in.
-use Rattle.std.proofs.Common.{◌≡◌, ◌⊎◌, ℕ, ◌+◌, ◌<◌, ◌≤◌, List, [], ◌∷◌, ◌++◌, refl, sym, ap, ◌∙◌, subst, inl, inr, ⊎_elim, arith}
-use Rattle.cover_steps.specs.declared.step.Call.{Call}
-use Rattle.cover_steps.specs.Core.{Core}
-use Rattle.desk_lock.specs.declared.view.View.{View}
-use Rattle.desk_lock.specs.History.{Begins, GoesOn}
-use Rattle.desk_lock.specs.Views.{InHome, seeing, kept_of, given_of, united}
+use Rattle.std.proofs.Common.{◌≡◌, ◌⊎◌, ℕ, ◌<◌, refl, ap, ◌∙◌, subst, inl, ⊎_elim, arith}
+use Rattle.desk_lock.specs.History.{GoesOn}
+use Rattle.desk_lock.specs.Views.{InHome, kept_of, given_of, united}
 use Rattle.desk_lock.specs.Passes.{view}
-use Rattle.desk.specs.declared.turns.Reply.{Reply}
 use Rattle.desk.specs.Desks.{Place, History, seen}
 use Rattle.refine_pool.specs.declared.crew.Ending.{Ending}
 use Rattle.refine_pool.specs.declared.crew.Ending.TheVariants.{Done, NoMemory}
-use Rattle.refine_pool.specs.Crews.{OnDone, WentOn, TakesOver, Owns, SettledAfter, SettledLast}
-use Rattle.refine_pool.proofs.Passing.{V, over_went, over_both, over_itself, goes_narrower, settled_later, settled_last, went_nowhere}
+use Rattle.refine_pool.specs.Crews.{OnDone, WentOn, TakesOver, Owns, SettledAfter}
+use Rattle.refine_pool.proofs.Passing.{V, over_both, goes_narrower, settled_later}
 
 -- of two that ended, one did so well where both together did
 pub on_either : (P Q S : Type 0) (one other both : Ending) → (both ≡ Done → (one ≡ Done) ⊎ (other ≡ Done)) → OnDone one P → OnDone other Q → (P → S) → (Q → S) → OnDone both S

@@ -1,19 +1,15 @@
 -- What the book is when a phase is over.
-use Rattle.std.proofs.Common.{◌≡◌, ◌<◌, ℕ, List, [], ◌∷◌, ◌++◌, None, refl, sym, ap, ◌∙◌, subst, append_assoc}
-use Rattle.std.specs.List.{Contains}
-use Rattle.negative_cover.specs.declared.negative_cover.Witness.{Witness}
+use Rattle.std.proofs.Common.{◌≡◌, [], ◌∷◌, ◌++◌, None, refl, sym, ap, ◌∙◌, subst, append_assoc}
 use Rattle.cover_steps.specs.declared.step.Call.{Call}
 use Rattle.cover_steps.specs.declared.step.Call.TheVariants.{Draw, Refute, Mark, Release, Apply, Settle}
 use Rattle.cover_steps.specs.Core.{Core, first_unfinished}
 use Rattle.cover_steps.specs.Sound.{Sound}
-use Rattle.cover_steps.specs.Laws.{Stands}
 use Rattle.cover_core.specs.declared.answers.Draw.TheVariants as draws
-use Rattle.desk_lock.specs.declared.history.Entry.{Entry}
 use Rattle.desk_lock.specs.History.{Legal}
 use Rattle.desk_lock.proofs.Histories.{legal-begins, legal-last}
 use Rattle.desk.specs.declared.turns.Reply.{Reply}
 use Rattle.desk.specs.declared.turns.Reply.TheVariants.{Drawn}
-use Rattle.desk.specs.Turns.{booked, allowed, turns_of}
+use Rattle.desk.specs.Turns.{booked, allowed}
 use Rattle.desk.specs.Desks.{History}
 use Rattle.desk.proofs.Running.{quiet_turns_keep, witnesses_stand}
 use Rattle.refine_pool.specs.Phases.{KeepsWitnesses}

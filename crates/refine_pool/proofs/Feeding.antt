@@ -1,8 +1,7 @@
 -- Batches that the feeder applies, one after another.
-use Rattle.std.proofs.Common.{◌≡◌, ◌≢◌, ℕ, List, [], ◌∷◌, ◌++◌, Result, Ok, Err, refl, sym, ap, ◌∙◌, subst, append_assoc}
+use Rattle.std.proofs.Common.{◌≡◌, ◌≢◌, List, [], ◌∷◌, ◌++◌, refl, sym, ap, ◌∙◌, subst}
 use Rattle.std.proofs.lemmas.List.{append-nil}
 use Rattle.rel_base.specs.declared.batch.Op.{Op}
-use Rattle.rel_base.specs.declared.why.Why.{Why}
 use Rattle.rel_base.specs.RowState.{RowState}
 use Rattle.rel_base.specs.Batches.{after, kept_or_after}
 use Rattle.row_log.specs.declared.applying.Applying.{Applying}
@@ -12,17 +11,16 @@ use Rattle.cover_steps.specs.declared.step.Call.TheVariants.{Apply}
 use Rattle.cover_steps.specs.Core.{Core}
 use Rattle.cover_steps.specs.Steps as steps
 use Rattle.cover_steps.specs.Sound.{Sound}
-use Rattle.cover_steps.specs.Histories.{rows_after}
 use Rattle.cover_core.specs.Replies.{reply_of_batch}
 use Rattle.desk_lock.specs.declared.history.Entry.{Entry}
-use Rattle.desk_lock.specs.History.{entry, GoesOn, Legal, NoneIn}
+use Rattle.desk_lock.specs.History.{entry, GoesOn, Legal}
 use Rattle.desk_lock.specs.Views.{InHome}
 use Rattle.desk_lock.specs.Passes.{view}
-use Rattle.desk_lock.proofs.Histories.{legal-last, none-append, none-narrower}
+use Rattle.desk_lock.proofs.Histories.{legal-last, none-narrower}
 use Rattle.desk.specs.declared.turns.Reply.{Reply}
 use Rattle.desk.specs.declared.turns.Reply.TheVariants.{Applied}
 use Rattle.desk.specs.declared.desk.Desk.{Desk}
-use Rattle.desk.specs.Turns.{booked, allowed, turns_of}
+use Rattle.desk.specs.Turns.{booked, allowed}
 use Rattle.desk.specs.Desks.{Place, History, opened_book, seen, TookTurn}
 use Rattle.desk.proofs.Answering.{seen_is}
 use Rattle.desk.proofs.Running.{rows_by_batches}

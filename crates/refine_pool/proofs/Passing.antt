@@ -1,5 +1,5 @@
 -- Passes that make calls, are split and are joined.
-use Rattle.std.proofs.Common.{◌≡◌, ◌⊎◌, ℕ, ◌<◌, ◌≤◌, List, [], ◌∷◌, ◌++◌, refl, sym, ap, ◌∙◌, subst, inl, inr, ⊎_elim, append_assoc}
+use Rattle.std.proofs.Common.{◌≡◌, ℕ, [], ◌∷◌, ◌++◌, refl, sym, ap, ◌∙◌, subst, ⊎_elim, append_assoc}
 use Rattle.std.specs.List.{Contains}
 use Rattle.std.proofs.lemmas.List.{append-nil, append_cancel_left}
 use Rattle.rel_base.specs.JobParts.{JobParts}
@@ -7,7 +7,6 @@ use Rattle.cover_steps.specs.declared.step.Call.{Call}
 use Rattle.cover_steps.specs.declared.step.Call.TheVariants as calls
 use Rattle.cover_steps.specs.Core.{Core}
 use Rattle.cover_core.specs.declared.answers.Draw.TheVariants as draws
-use Rattle.desk_lock.specs.declared.history.Entry.{Entry}
 use Rattle.desk_lock.specs.declared.view.View.{View}
 use Rattle.desk_lock.specs.History.{entry, Begins, GoesOn, NoneIn}
 use Rattle.desk_lock.specs.Views.{InHome, seeing, kept_of, given_of, united}
@@ -20,7 +19,7 @@ use Rattle.desk.specs.declared.desk.Desk.{Desk}
 use Rattle.desk.specs.Turns.{jobs_in, drawn_later}
 use Rattle.desk.specs.Desks.{Place, History, opened_book, seen, TookTurn, WasDrawn}
 use Rattle.desk.proofs.Answering.{seen_is}
-use Rattle.refine_pool.specs.Crews.{WentOn, TakesOver, IsSettled, SettledAfter, SettledLast}
+use Rattle.refine_pool.specs.Crews.{WentOn, TakesOver, SettledAfter, SettledLast}
 
 abbrev pub V : Type 0
 V = View Core Call Reply

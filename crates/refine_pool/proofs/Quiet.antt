@@ -1,8 +1,5 @@
 -- What others than the feeder do leaves the rows as they are.
-use Rattle.std.proofs.Common.{◌≡◌, ◌⊎◌, ℕ, true, false, List, [], ◌∷◌, ◌++◌, refl, sym, ap, ◌∙◌, subst, inl, inr, ⊎_elim}
-use Rattle.std.specs.List.{All}
-use Rattle.col_set.specs.Lists.{Listed}
-use Rattle.rel_base.specs.declared.batch.Op.{Op}
+use Rattle.std.proofs.Common.{◌≡◌, ℕ, false, List, [], ◌∷◌, ◌++◌, refl, sym, ap, ◌∙◌, subst, inl, inr, ⊎_elim}
 use Rattle.rel_base.specs.RowState.{RowState}
 use Rattle.rel_base.proofs.States.{All-from, All-listed}
 use Rattle.candidate_cover.specs.declared.cand.Marking.{Marking}
@@ -10,7 +7,6 @@ use Rattle.candidate_cover.specs.declared.cand.Marking.TheVariants as marks
 use Rattle.cover_steps.specs.declared.step.Call.{Call}
 use Rattle.cover_steps.specs.declared.step.Call.TheVariants.{Draw, Refute, Mark, Release, Apply, Settle}
 use Rattle.cover_steps.specs.Core.{Core}
-use Rattle.cover_steps.specs.Sound.{Sound}
 use Rattle.cover_steps.specs.Histories.{Entry as Turn, rows_after, rows_after_call, is_accepted, IsQuiet}
 use Rattle.cover_steps.specs.declared.step.Reply.{Reply as Answer}
 use Rattle.cover_steps.specs.declared.step.Reply.TheVariants as answers
@@ -23,7 +19,6 @@ use Rattle.cover_core.specs.declared.answers.Release.TheVariants as releases
 use Rattle.cover_core.specs.declared.answers.Settling.{Settling}
 use Rattle.cover_core.specs.declared.answers.Settling.TheVariants as settlings
 use Rattle.cover_core.specs.Replies.{reply_of_draw, reply_of_refutation, reply_of_mark, reply_of_release, reply_of_settle}
-use Rattle.desk_lock.specs.declared.history.Entry.{Entry}
 use Rattle.desk_lock.specs.History.{NoneIn, GoesOn, LegalFrom, Legal}
 use Rattle.desk_lock.proofs.Histories.{legal-begins}
 use Rattle.desk.specs.declared.turns.Reply.{Reply}

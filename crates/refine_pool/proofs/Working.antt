@@ -3,8 +3,7 @@ use Rattle.std.proofs.Common.{◌≡◌, ◌≢◌, ◌⊎◌, ◌<◌, ℕ, Lis
 use Rattle.std.specs.Prelude.{IfSome}
 use Rattle.std.specs.List.{All, Contains}
 use Rattle.std.proofs.lemmas.List.Elements.{All-take}
-use Rattle.col_set.specs.Lists.{Listed}
-use Rattle.col_set.proofs.Places.{Listed-contained, Contains-listed}
+use Rattle.col_set.proofs.Places.{Contains-listed}
 use Rattle.rel_base.specs.CodeTable.{CodeTable}
 use Rattle.rel_base.specs.JobParts.{JobParts}
 use Rattle.rel_base.proofs.States.{All-from}

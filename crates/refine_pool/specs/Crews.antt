@@ -1,5 +1,5 @@
 -- What is known of the passes at the desk, and of what they have seen.
-use Rattle.std.specs.Prelude.{◌≡◌, ◌<◌, ◌≤◌, ℕ, List, [], ◌∷◌, ◌++◌}
+use Rattle.std.specs.Prelude.{◌≡◌, ◌<◌, ◌≤◌, ℕ, List, ◌∷◌, ◌++◌}
 use Rattle.rel_base.specs.declared.batch.Op.{Op}
 use Rattle.row_log.specs.declared.applying.Applying.{Applying}
 use Rattle.cover_steps.specs.declared.step.Call.{Call}

@@ -1,7 +1,6 @@
-use Rattle.std.proofs.Common.{ap, subst, sym}
 use Rattle.desk.specs.Desks.{seen}
 use Rattle.refine_pool.specs.Crews.{SettledAfter}
-use Rattle.refine_pool.proofs.Crewing.{Round, on_either, round_over, round_own_settled, round_crew_settled}
+use Rattle.refine_pool.proofs.Crewing.{on_either, round_over, round_own_settled, round_crew_settled}
 use Rattle.refine_pool.proofs.crew.+crew+fn-crew-join+arg2+fn-crew-join+arg3.Goals as goal
 
 pub returns-clause-over : goal.returns-clause-over

@@ -1,7 +1,6 @@
-use Rattle.std.proofs.Common.{◌≡◌, ◌∙◌, ℕ, List, length, ap, subst, sym, take}
+use Rattle.std.proofs.Common.{◌≡◌, ◌∙◌, ℕ, List, length, ap, subst, take}
 use Rattle.std.proofs.Math.Seq.{take-length}
 use Rattle.rel_base.specs.declared.batch.Op.{Op}
-use Rattle.rel_base.specs.RowState.{RowState}
 use Rattle.cover_steps.specs.Core.{Core}
 use Rattle.desk.specs.Desks.{opened_book, seen}
 use Rattle.refine_pool.specs.Crews.{SettledLast}

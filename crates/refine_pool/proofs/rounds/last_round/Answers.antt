@@ -3,7 +3,7 @@ use Rattle.desk_lock.specs.History.{GoesOn}
 use Rattle.desk.specs.Desks.{History, seen}
 use Rattle.refine_pool.specs.Crews.{SettledAfter, SettledLast}
 use Rattle.refine_pool.proofs.Passing.{V, over_itself, settled_last, went_nowhere}
-use Rattle.refine_pool.proofs.Crewing.{Round, on_done, round_over, round_crew_settled, round_zero}
+use Rattle.refine_pool.proofs.Crewing.{on_done, round_over, round_crew_settled, round_zero}
 use Rattle.refine_pool.proofs.rounds.last_round.Goals as goal
 
 pub returns-clause-over : goal.returns-clause-over

@@ -1,4 +1,4 @@
-use Rattle.std.proofs.Common.{◌≡◌, List, length, sym, subst, take}
+use Rattle.std.proofs.Common.{List, length, sym, subst, take}
 use Rattle.row_log.specs.declared.applying.Applying.{Applying}
 use Rattle.refine_pool.specs.Crews.{IsFed}
 use Rattle.refine_pool.proofs.Passing.{over_further}

@@ -4,7 +4,7 @@ use Rattle.cover_steps.specs.declared.step.Call.TheVariants as calls
 use Rattle.desk.specs.declared.turns.Reply.TheVariants.{Drawn}
 use Rattle.desk.specs.Desks.{TookTurn}
 use Rattle.refine_pool.proofs.Passing.{draw_settles, turn_went}
-use Rattle.refine_pool.proofs.Working.{bench_serves, bench_stays}
+use Rattle.refine_pool.proofs.Working.{bench_stays}
 use Rattle.refine_pool.proofs.worker.draw.Goals as goal
 
 pub returns-in_err-look_around-in-Busy-clause-bench : goal.returns-in_err-look_around-in-Busy-clause-bench
