@@ -72,12 +72,12 @@ record Before (desk : Desk) (q : Place) (batches : List (List Op)) (ops : List O
   step : steps.Applying from ops (reply_of_batch applying) to
   rows : from.rows ≡ rows_after_all (opened_book desk).rows batches
 
-before : (desk : Desk) (p q : Place) (batches : List (List Op)) (replies : List Applying) (ops : List Op) (applying : Applying) → Sound (opened_book desk) → InHome (view p) 0 → IsFed desk p batches replies → TookTurn desk p (Apply ops) (Applied applying ops) q → Before desk q batches ops applying
+before : (desk : Desk) (p q : Place) (batches : List (List Op)) (replies : List Applying) (ops : List Op) (applying : Applying) → Sound (opened_book desk) → InHome (view p) 0 → IsFed desk p batches replies → TookTurn desk p (Apply ops) (Applied applying ops tt) q → Before desk q batches ops applying
 before desk p q batches replies ops applying sound home f t =
     let o : Core = opened_book desk in
-    let e : Entry Call Reply = entry (view p).low (Apply ops) (Applied applying ops) in
+    let e : Entry Call Reply = entry (view p).low (Apply ops) (Applied applying ops tt) in
     let past : History = seen p ++ t.0 in
-    let is = seen_is (view p) (view q) o (Apply ops) (Applied applying ops) t in
+    let is = seen_is (view p) (view q) o (Apply ops) (Applied applying ops tt) t in
     let last = legal-last booked allowed o past e t.1 (subst (λ (h : History). Legal booked allowed o h t.1) is t.4) in
     let on : GoesOn (λ n. n ≡ 0) f.upto past = goes_further (λ n. n ≡ 0) f.upto (seen p) past f.since (t.0, refl, none-narrower (InHome (view p)) (λ n. n ≡ 0) t.0 (λ n zero. subst (InHome (view p)) (sym zero) home) t.3) in
     record {
@@ -88,7 +88,7 @@ before desk p q batches replies ops applying sound home f t =
       rows = (rows_by_batches o last.0 past sound last.1).rows ∙ others-rows o f.upto past last.0 on last.1 ∙ f.rows;
     }
 
-pub fed_more : (desk : Desk) (p q : Place) (batches : List (List Op)) (replies : List Applying) (ops : List Op) (applying : Applying) → Sound (opened_book desk) → InHome (view p) 0 → IsFed desk p batches replies → TookTurn desk p (Apply ops) (Applied applying ops) q → applying ≢ changes.NoMemory → IsFed desk q (batches ++ ops ∷ []) (replies ++ applying ∷ [])
+pub fed_more : (desk : Desk) (p q : Place) (batches : List (List Op)) (replies : List Applying) (ops : List Op) (applying : Applying) → Sound (opened_book desk) → InHome (view p) 0 → IsFed desk p batches replies → TookTurn desk p (Apply ops) (Applied applying ops tt) q → applying ≢ changes.NoMemory → IsFed desk q (batches ++ ops ∷ []) (replies ++ applying ∷ [])
 fed_more desk p q batches replies ops applying sound home f t some =
     let o : Core = opened_book desk in
     let b = before desk p q batches replies ops applying sound home f t in
@@ -100,7 +100,7 @@ fed_more desk p q batches replies ops applying sound home f t some =
       since = ([], sym (append-nil (seen q)), tt);
     }
 
-pub fed_same : (desk : Desk) (p q : Place) (batches : List (List Op)) (replies : List Applying) (ops : List Op) → Sound (opened_book desk) → InHome (view p) 0 → IsFed desk p batches replies → TookTurn desk p (Apply ops) (Applied changes.NoMemory ops) q → IsFed desk q batches replies
+pub fed_same : (desk : Desk) (p q : Place) (batches : List (List Op)) (replies : List Applying) (ops : List Op) → Sound (opened_book desk) → InHome (view p) 0 → IsFed desk p batches replies → TookTurn desk p (Apply ops) (Applied changes.NoMemory ops tt) q → IsFed desk q batches replies
 fed_same desk p q batches replies ops sound home f t =
     let o : Core = opened_book desk in
     let b = before desk p q batches replies ops changes.NoMemory sound home f t in

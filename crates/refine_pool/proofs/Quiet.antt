@@ -53,17 +53,17 @@ settle-quiet (settlings.NotYet t x number) = refl
 -- who does not bear 0 applies nothing
 turn-quiet : (opened : Core) (number : ℕ) (past : History) (call : Call) (reply : Reply) → allowed opened number past call → IsTo call reply → ¬ (number ≡ 0) → is_accepted (answer reply) ≡ false
 turn-quiet opened number past call (Drawn d) m to other = draw-quiet d
-turn-quiet opened number past call (Refuted r) m to other = refutation-quiet r
+turn-quiet opened number past call (Refuted r outdated) m to other = refutation-quiet r
 turn-quiet opened number past call (Marked k back) m to other = mark-quiet k
 turn-quiet opened number past call (Released r back) m to other = release-quiet r
 turn-quiet opened number past call (Settled s) m to other = settle-quiet s
 turn-quiet opened number past call NoMemory m to other = refl
-turn-quiet opened number past (Apply ops) (Applied applying back) m to other = absurd (other m.1.0)
-turn-quiet opened number past Draw (Applied applying back) m to other = absurd to
-turn-quiet opened number past (Refute i j) (Applied applying back) m to other = absurd to
-turn-quiet opened number past (Mark job) (Applied applying back) m to other = absurd to
-turn-quiet opened number past (Release job) (Applied applying back) m to other = absurd to
-turn-quiet opened number past Settle (Applied applying back) m to other = absurd to
+turn-quiet opened number past (Apply ops) (Applied applying back outdated) m to other = absurd (other m.1.0)
+turn-quiet opened number past Draw (Applied applying back outdated) m to other = absurd to
+turn-quiet opened number past (Refute i j) (Applied applying back outdated) m to other = absurd to
+turn-quiet opened number past (Mark job) (Applied applying back outdated) m to other = absurd to
+turn-quiet opened number past (Release job) (Applied applying back outdated) m to other = absurd to
+turn-quiet opened number past Settle (Applied applying back outdated) m to other = absurd to
 
 -- ---- whole lists of turns
 quiet-one_more : (e : Turn) (es : List Turn) → is_accepted e.reply ≡ false → IsQuiet es → IsQuiet (e ∷ es)
