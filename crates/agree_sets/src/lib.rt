@@ -45,7 +45,7 @@ fn agreement(a: &[u32], b: &[u32]) -> u128
     bits
 }
 
-// The same of the 16 places from `at` on.
+// A bit for each of the 16 places from `at` on where the codes are equal.
 fn block(a: &[u32], b: &[u32], at: usize) -> u64
     requires first { at + 16 ≤ length a.now }
     requires second { at + 16 ≤ length b.now }

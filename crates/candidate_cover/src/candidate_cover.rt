@@ -223,7 +223,7 @@ impl CandidateCover {
         }
     }
 
-    /// The same candidates, of which nothing is known and none of which is held. It takes a copy of them.
+    /// A copy of all candidates, of which nothing is known and none of which is held.
     pub fn refreshed(&self, alloc: Global) -> Result<CandidateCover, AllocError>
         ensures { IfOk result (λ made. made ≡ refreshed_throughout self.now) }
     {

@@ -123,7 +123,7 @@ impl Stores {
         judged(alloc, rows, snapshot, list, &mut self.own)
     }
 
-    // The same by a thread for each store, where there are so many candidates at least.
+    // What `judged` tells, by a thread for each store, where there are so many candidates at least.
     pub(crate) fn judged_by<R: Threads + Sync>(
         &mut self,
         rt: &R,

@@ -48,7 +48,7 @@ pub fn read_relation(alloc: Global, bytes: &[u8], limits: &Limits) -> Reading
     }
 }
 
-// The same, with want of memory as an error.
+// What `read_relation` answers, with want of memory as an error.
 fn try_read(alloc: Global, bytes: &[u8], limits: &Limits) -> Result<Reading, AllocError>
     ensures { IfOk result (ReadsAs limits.now (records_of bytes.now)) }
 {

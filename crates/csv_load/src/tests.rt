@@ -51,7 +51,7 @@ fn listed(alloc: Global, bytes: &[u8]) -> Result<Vec<u8>, AllocError> {
     Ok(out)
 }
 
-// The same, one record after another.
+// All records of a text, read one after another.
 fn walked(alloc: Global, bytes: &[u8]) -> Result<Vec<u8>, AllocError> {
     let mut out = Vec::new(alloc);
     let mut reader = RecordReader::new(alloc, bytes);

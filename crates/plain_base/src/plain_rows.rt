@@ -105,7 +105,7 @@ impl PlainRows {
         Ok(Ok(rows))
     }
 
-    /// The same rows, of which those with a number below this one are live.
+    /// A copy in which only the rows with a number below this one are live.
     pub fn below(&self, alloc: Global, bound: u32) -> Result<PlainRows, AllocError>
         ensures { IfOk result (λ rows. rows ≡ validity.below bound self.now) }
     {

@@ -29,7 +29,7 @@ fn letters(alloc: Global) -> Result<Option<Relation>, AllocError> {
     Ok(relation_of(two(alloc, b"k", b"v")?, rows))
 }
 
-// The same rows, where no number above this one is given.
+// The rows of `letters`, where no number above this one is given.
 fn letter_rows(alloc: Global, last: u32) -> Result<PlainRows, Fail>
     requires { last ≤ MOST_ROWS }
 {

@@ -3,7 +3,9 @@
 /// What a worker or the feeder has just done.
 #[derive(Clone, Copy, Debug, PartialEq, Eq)]
 pub enum Point {
-    /// It drew, whatever the answer.
+    /// It sought evidence before the book was shared.
+    Sought,
+    /// It drew a job.
     Drawn,
     /// It judged a job.
     Judged,

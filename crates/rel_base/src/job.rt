@@ -81,7 +81,7 @@ impl Job {
         &self.snapshot
     }
 
-    /// The same with its owners, for what is to keep the snapshot longer than the job.
+    /// The rows on which it is asked, as an owner, for what is to keep them longer than the job.
     pub fn shared(&self) -> &Arc<Snapshot>
         ensures { result.now.value ≡ self.now.snapshot }
     {

@@ -125,7 +125,7 @@ impl Snapshot {
         Snapshot::counted(codes, live, to, live_count)
     }
 
-    /// The same, for one who knows how many rows are live. It takes no memory, and no step a row.
+    /// What `of` makes, for one who knows how many rows are live. It takes no memory, and no step a row.
     pub fn counted(codes: Vec<Codes>, live: Vec<bool>, to: RowNo, live_count: u32) -> Snapshot
         requires table { IsCodeTable (record { codes = codes.items; live = live.items; to = to }) }
         requires count { live_count ≡ length (live_numbers (record { codes = codes.items; live = live.items; to = to })) }

@@ -234,7 +234,7 @@ impl RowLog {
         answer
     }
 
-    // The same, where the new codes stay beside those that snapshots share.
+    // Applies a batch, and leaves the new codes beside those that snapshots share.
     fn apply_all(&mut self, batch: &Batch) -> Applying
         requires { All (IsAsWide (width self.old)) batch.now }
         ensures { Answers self.old batch.now self.new result }

@@ -81,7 +81,7 @@ impl Partition {
         Ok(Partition { rows, ends })
     }
 
-    /// The same as `refine`, with a table of slots that callers keep from one call to the next, so that a small partition is refined
+    /// What `refine` makes, with a table of slots that callers keep from one call to the next, so that a small partition is refined
     /// in time by its rows, however large the codes. The table grows to the greatest code, and is clear again after an `Ok`.
     pub fn refine_in(
         &self,

@@ -35,7 +35,7 @@ impl Link {
         Ok(Link { chain, column })
     }
 
-    // The same for a later snapshot in which the rows have the codes that they had, or nothing where they have others or memory is
+    // The link of the column for a later snapshot in which the rows have the codes that they had, or nothing where they have others or memory is
     // wanting. It compares the codes of all rows and links those that came since.
     fn carried(self, earlier: &Snapshot, snapshot: &Snapshot) -> Option<Link>
         requires { IsLink earlier.now self }

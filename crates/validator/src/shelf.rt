@@ -380,7 +380,7 @@ impl Shelf {
         Ok(())
     }
 
-    // The same for a column. It lets go of the path, so that behind what stays for good nothing stands but the column's partition.
+    // Finds the weight of a column. It lets go of the path, so that behind what stays for good nothing stands but the column's partition.
     fn weigh_column(
         &mut self,
         alloc: Global,
@@ -419,7 +419,7 @@ impl Shelf {
         }
     }
 
-    // The same where the weights are known and the path is by columns of the left side. What it makes is added to the path.
+    // Searches the groups, where the weights are known and the path is by columns of the left side. What it makes is added to the path.
     fn search_kept<L: Ledger>(
         &mut self,
         alloc: Global,

@@ -157,7 +157,7 @@ fn has_new(group: &[RowNo], from: RowNo) -> bool
     group[group.len() - 1].number() >= from.number()
 }
 
-// The same for two rows, the smaller number first, without slots.
+// The pair of a group of two rows, the smaller number first, without slots.
 fn pair_of_two<L: Ledger>(
     snapshot: &Snapshot,
     question: &Question,

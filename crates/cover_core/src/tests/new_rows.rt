@@ -78,7 +78,7 @@ fn judge_all<L: Ledger>(
     Ok(Judged { jobs, last: None })
 }
 
-// The same over a ledger's blank.
+// What `judge_all` tells, with a ledger of this blank.
 fn judge_drawn<L: Ledger>(
     alloc: Global,
     book: &mut Book,

@@ -227,7 +227,7 @@ fn play<R: Threads + Wait + Sync + Abort>(
     }
 }
 
-// The same, once more where somebody was held too long, as where memory was refused to another.
+// The phase of a script, played once more where somebody was held too long, as where memory was refused to another.
 fn play_again<R: Threads + Wait + Sync + Abort>(
     rt: &R,
     alloc: Global,
