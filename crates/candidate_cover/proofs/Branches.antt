@@ -1,24 +1,24 @@
 -- The least sets from a chosen set on, by those with one more column and those without it.
-use Rattle.std.proofs.Common.{inl, inr, ◌≡◌, ◌⊎◌, ℕ, ◌+◌, ◌<◌, ◌≤◌, Bool, true, false, not, ◌&&◌, ◌||◌, eqb, refl, sym, ap, ap₂, ◌∙◌, subst, List, [], ◌∷◌, ◌++◌, if◌then◌else◌, cond, length, get_or, take, drop, arith}
+use Rattle.std.proofs.Common.{inl, inr, ◌≡◌, ◌⊎◌, ℕ, ◌+◌, ◌<◌, ◌≤◌, Bool, true, false, not, ◌&&◌, ◌||◌, eqb, refl, sym, ap, ap₂, ◌∙◌, subst, List, [], ◌∷◌, ◌++◌, if◌then◌else◌, cond, length, map, get_or, take, drop, arith}
 use Rattle.std.specs.List.{filter, list_any}
 use Rattle.std.proofs.lemmas.Bool.{true≢false, false≢true, and_parts, and_from, or_cases, or_left, or_right, not-true, not_from_false, false_from_ne_true, true_from_ne_false, eqb-true, eq-eqb, ne_eqb, cases_Bool}
-use Rattle.std.proofs.lemmas.List.{append-nil, length-take-le, take-append-drop}
+use Rattle.std.proofs.lemmas.List.{append-nil, append_assoc, length-take-le}
 use Rattle.std.proofs.lemmas.List.Elements.{filter-append}
+use Rattle.std.proofs.lemmas.Grind.{flat_map-append}
 use Rattle.std.proofs.lemmas.List.Folds.{list_any-append}
 use Rattle.col_set.specs.declared.target.Target.{Target}
 use Rattle.col_set.specs.ColSet.{IsSubset, columns, has, with, without, union, inter, minus, subset}
 use Rattle.col_set.specs.Target.{has_target}
 use Rattle.col_set.specs.Evidence.{refuted}
 use Rattle.col_set.proofs.EachColumn.{Listed-columns}
-use Rattle.col_set.specs.Columns.{lt-pow}
 use Rattle.col_set.specs.Members.{has-with, has-without, has-union, has-inter, has-minus, has-empty, same_set}
 use Rattle.col_set.specs.Subsets.{IsSubset-refl, IsSubset-trans, IsSubset-antisymm, subset-true, true-subset}
-use Rattle.col_set.specs.Lists.{Listed, Listed-append_left, Listed-append_right, Listed-append_cases, Listed-filter, Listed-filter_parts, list_any_at, list_any_which}
-use Rattle.candidate_cover.proofs.Growing.{outside_of}
+use Rattle.col_set.specs.Lists.{Listed, Listed-append_left, Listed-append_right, Listed-append_cases, Listed-filter, Listed-filter_parts, Listed-map, Listed-map_which, Listed-flat_map, list_any_at, list_any_which}
 use Rattle.col_set.proofs.Places.{Listed-get_or}
 use Rattle.candidate_cover.proofs.Splitting.{subset_minus, filter_next, no_shorter, changed_end}
 use Rattle.candidate_cover.specs.Growth.{having, IsLeastAmong, ListsLeast}
-use Rattle.candidate_cover.specs.Branches.{covered, lacking, IsOwned, IsUnowned, IsLeastFrom, IsBranch, HasBranched, HasEnded, pruned}
+use Rattle.candidate_cover.specs.Marks.{HasMembers}
+use Rattle.candidate_cover.specs.Branches.{covered, lacking, sees, join, IsRun, IsCut, IsOwned, IsUnowned, IsLeastFrom, IsBranch, HasBranched, HasEnded, pruned}
 
 -- ---- sets that agree sets contain
 covered_at : (ws : List ℕ) (x w : ℕ) → Listed w ws → IsSubset x w → covered ws x ≡ true
@@ -100,6 +100,13 @@ range_less s free c x i = record { each = λ k h. has-union s free k ∙ by k (o
     by : (k : ℕ) → (has s k ≡ true) ⊎ (has (without free c) k ≡ true) → (has s k || has free k) ≡ true
     by k (inl h) = or_left _ _ h
     by k (inr h) = or_right (has s k) _ ((without_inside free c).each k h)
+
+-- a set of one column lies inside those that have it
+pub single_inside : (k w single : ℕ) → single ≡ with 0 k → subset single w ≡ has w k
+single_inside k w single e = elim (cases_Bool (has w k)) as (λ _. subset single w ≡ has w k) [
+  | inl h ↦ true-subset (subst (λ (v : ℕ). IsSubset v w) (sym e) (with_inside 0 k w (record { each = λ j g. absurd (false≢true (sym (has-empty j) ∙ g)) }) h)) ∙ sym h
+  | inr h ↦ false_from_ne_true _ (λ g. true≢false (sym ((subset-true g).each k (ap (λ (v : ℕ). has v k) e ∙ with_has 0 k)) ∙ h)) ∙ sym h
+]
 
 -- ---- a branch
 module _ (ws : List ℕ) (s free : ℕ) (pending own : List ℕ) (b : IsBranch ws s free pending own) where
@@ -361,17 +368,73 @@ covered_refuted (w ∷ ws) t x = by (has_target w t) (covered_refuted ws t x)
         and_true true = refl
         and_true false = refl
 
-pub branch_opening : (ws : List ℕ) (free : ℕ) → IsBranch ws 0 free ws []
-branch_opening ws free = record {
+-- nothing is chosen, and the pending agree sets are some in which all lie as far as the free columns go
+pub branch_opening : (ws kept : List ℕ) (free : ℕ) → ((w : ℕ) → Listed w kept → Listed w ws) → ((w : ℕ) → Listed w ws → list_any (λ v. subset (inter w free) v) kept ≡ true) → IsBranch ws 0 free kept []
+branch_opening ws kept free real all = record {
   apart = λ d h. absurd (false≢true (sym (has-empty d) ∙ h));
-  real = λ w h. h;
+  real = real;
   holds = λ w h. record { each = λ k g. absurd (false≢true (sym (has-empty k) ∙ g)) };
-  tells = λ x a i e. e;
+  tells = λ x a i e.
+      let w = covered_which ws x e in
+      let v = list_any_which (λ v. subset (inter w.set free) v) kept (all w.set w.listed) in
+      covered_at kept x v.0 v.1 (record { each = λ k g. (subset-true v.2).each k (has-inter w.set free k ∙ and_from _ _ (w.inside.each k g) (free_one x i k g)) });
   own_real = λ w h. absurd h;
   own_one = λ w h. absurd h;
   own_all = λ x l d h. absurd (false≢true (sym (has-empty d) ∙ h));
   minimal = λ d h. absurd (false≢true (sym (has-empty d) ∙ h));
 }
+  where
+    free_one : (x : ℕ) → IsSubset x (union 0 free) → (k : ℕ) → has x k ≡ true → has free k ≡ true
+    free_one x i k g = elim (or_cases (has 0 k) (has free k) (sym (has-union 0 free k) ∙ i.each k g)) as (λ _. has free k ≡ true) [ inl f ↦ absurd (false≢true (sym (has-empty k) ∙ f)) | inr f ↦ f ]
+
+-- ---- the outermost of agree sets
+pub record OutermostSoFar (ws : List ℕ) (free : ℕ) (rest kept : List ℕ) : Type 0 where
+  pub rest_real : (w : ℕ) → Listed w rest → Listed w ws
+  pub real : (w : ℕ) → Listed w kept → Listed w ws
+  pub all : (w : ℕ) → Listed w ws → Listed w rest ⊎ (list_any (λ v. subset (inter w free) v) kept ≡ true)
+
+inter_inside : (w free : ℕ) → subset (inter w free) w ≡ true
+inter_inside w free = true-subset (record { each = λ k h. (and_parts (has w k) _ (sym (has-inter w free k) ∙ h)).0 })
+
+pub all_kept : (ws : List ℕ) (free w : ℕ) → Listed w ws → list_any (λ v. subset (inter w free) v) ws ≡ true
+all_kept ws free w h = list_any_at (λ v. subset (inter w free) v) w ws h (inter_inside w free)
+
+pub outermost_none : (ws : List ℕ) (free : ℕ) (rest kept : List ℕ) → HasMembers ws rest → kept ≡ [] → OutermostSoFar ws free rest kept
+outermost_none ws free rest kept m e = record { rest_real = m.each; real = λ w h. absurd (subst (Listed w) e h); all = λ w h. inl (m.every w h) }
+
+-- the last of the rest is kept or lies inside one that was
+pub outermost_kept : (ws : List ℕ) (free : ℕ) (rest rest' kept kept' : List ℕ) (x : ℕ) → rest ≡ rest' ++ x ∷ [] → kept' ≡ kept ++ x ∷ [] → OutermostSoFar ws free rest kept → OutermostSoFar ws free rest' kept'
+outermost_kept ws free rest rest' kept kept' x e f o = record {
+  rest_real = λ w h. o.rest_real w (subst (Listed w) (sym e) (Listed-append_left w rest' (x ∷ []) h));
+  real = λ w h. elim (Listed-append_cases w kept (x ∷ []) (subst (Listed w) f h)) as (λ _. Listed w ws) [ inl g ↦ o.real w g | inr g ↦ o.rest_real w (subst (Listed w) (sym e) (Listed-append_right w rest' (x ∷ []) g)) ];
+  all = λ w h. elim (o.all w h) as (λ _. Listed w rest' ⊎ (list_any (λ v. subset (inter w free) v) kept' ≡ true)) [
+    | inl g ↦ elim (Listed-append_cases w rest' (x ∷ []) (subst (Listed w) e g)) as (λ _. Listed w rest' ⊎ (list_any (λ v. subset (inter w free) v) kept' ≡ true)) [
+      | inl i ↦ inl i
+      | inr i ↦ inr (list_any_at (λ v. subset (inter w free) v) w kept' (subst (Listed w) (sym f) (Listed-append_right w kept (x ∷ []) i)) (inter_inside w free))
+    ]
+    | inr g ↦ inr (ap (list_any (λ v. subset (inter w free) v)) f ∙ list_any-append (λ v. subset (inter w free) v) kept (x ∷ []) ∙ or_left _ _ g)
+  ];
+}
+
+pub outermost_left : (ws : List ℕ) (free : ℕ) (rest rest' kept : List ℕ) (x : ℕ) → rest ≡ rest' ++ x ∷ [] → list_any (λ v. subset (inter x free) v) kept ≡ true → OutermostSoFar ws free rest kept → OutermostSoFar ws free rest' kept
+outermost_left ws free rest rest' kept x e f o = record {
+  rest_real = λ w h. o.rest_real w (subst (Listed w) (sym e) (Listed-append_left w rest' (x ∷ []) h));
+  real = o.real;
+  all = λ w h. elim (o.all w h) as (λ _. Listed w rest' ⊎ (list_any (λ v. subset (inter w free) v) kept ≡ true)) [
+    | inl g ↦ elim (Listed-append_cases w rest' (x ∷ []) (subst (Listed w) e g)) as (λ _. Listed w rest' ⊎ (list_any (λ v. subset (inter w free) v) kept ≡ true)) [
+      | inl i ↦ inl i
+      | inr i ↦ inr (same w i)
+    ]
+    | inr g ↦ inr g
+  ];
+}
+  where
+    same : (w : ℕ) → Listed w (x ∷ []) → list_any (λ v. subset (inter w free) v) kept ≡ true
+    same w (inl i) = subst (λ (u : ℕ). list_any (λ v. subset (inter u free) v) kept ≡ true) (sym i) f
+    same w (inr i) = absurd i
+
+pub outermost_all : (ws : List ℕ) (free : ℕ) (rest kept : List ℕ) → rest ≡ [] → OutermostSoFar ws free rest kept → (w : ℕ) → Listed w ws → list_any (λ v. subset (inter w free) v) kept ≡ true
+outermost_all ws free rest kept e o w h = elim (o.all w h) as (λ _. list_any (λ v. subset (inter w free) v) kept ≡ true) [ inl g ↦ absurd (subst (Listed w) e g) | inr g ↦ g ]
 
 pub branched_least : (free : ℕ) (ws : List ℕ) (t : Target) (vs xs : List ℕ) → vs ≡ filter (λ w. not (has_target w t)) ws → HasBranched vs 0 free [] xs → ListsLeast free ws t xs
 branched_least free ws t vs xs e h = record {
@@ -411,59 +474,100 @@ pub branched_as : (ws : List ℕ) (s s' free free' : ℕ) (old new new' : List �
 branched_as ws s s' free free' old new new' e f g b =
     subst (λ (vs : List ℕ). HasBranched ws s free old vs) (sym g) (subst (λ (v : ℕ). HasBranched ws v free old new) e (subst (λ (v : ℕ). HasBranched ws s' v old new) f b))
 
+pub no_length : (xs : List ℕ) → length xs ≡ 0 → xs ≡ []
+no_length [] e = refl
+no_length (x ∷ xs) e = absurd (omega arith)
+
 -- ---- the loops
--- the columns of the set that some of the agree sets lack
-pub record OwnedSoFar (own : List ℕ) (set found : ℕ) : Type 0 where
-  pub each : (d : ℕ) → has found d ≡ (has set d && list_any (λ w. not (has w d)) own)
+pub lacking_more : (k : ℕ) (ws : List ℕ) (i w : ℕ) (old found : List ℕ) → i < length ws → w ≡ get_or ws i w → not (has w k) ≡ true → found ≡ old ++ lacking k (take i ws) → found ++ w ∷ [] ≡ old ++ lacking k (take (i + 1) ws)
+lacking_more k ws i w old found l is h e =
+    ap (λ (vs : List ℕ). vs ++ w ∷ []) e ∙ append_assoc old (lacking k (take i ws)) (w ∷ [])
+    ∙ ap (λ (vs : List ℕ). old ++ vs) (sym (filter_next 0 ws i w l is (λ w. not (has w k)) ∙ ap (λ b. lacking k (take i ws) ++ cond b (w ∷ []) []) h))
 
-pub owned_none : (set found : ℕ) → found ≡ 0 → OwnedSoFar [] set found
-owned_none set found e = record { each = λ d. ap (λ (v : ℕ). has v d) e ∙ has-empty d ∙ sym (and_false (has set d)) }
-  where
-    and_false : (b : Bool) → (b && false) ≡ false
-    and_false true = refl
-    and_false false = refl
+pub lacking_same : (k : ℕ) (ws : List ℕ) (i w : ℕ) (old found : List ℕ) → i < length ws → w ≡ get_or ws i w → not (has w k) ≡ false → found ≡ old ++ lacking k (take i ws) → found ≡ old ++ lacking k (take (i + 1) ws)
+lacking_same k ws i w old found l is h e =
+    e ∙ ap (λ (vs : List ℕ). old ++ vs) (sym (filter_next 0 ws i w l is (λ w. not (has w k)) ∙ ap (λ b. lacking k (take i ws) ++ cond b (w ∷ []) []) h ∙ append-nil _))
 
-pub owned_also : (own : List ℕ) (set found w new : ℕ) → OwnedSoFar own set found → new ≡ union found (minus set w) → OwnedSoFar (own ++ w ∷ []) set new
-owned_also own set found w new s e = record {
-  each = λ d.
-      ap (λ (v : ℕ). has v d) e ∙ has-union found (minus set w) d ∙ ap (λ b. b || has (minus set w) d) (s.each d) ∙ ap (λ b. (has set d && list_any (λ w. not (has w d)) own) || b) (has-minus set w d)
-      ∙ by (has set d) (list_any (λ w. not (has w d)) own) (not (has w d))
-      ∙ sym (ap (λ b. has set d && b) (list_any-append (λ w. not (has w d)) own (w ∷ []) ∙ ap (λ b. list_any (λ w. not (has w d)) own || b) (or_false (not (has w d)))));
-}
-  where
-    by : (a b c : Bool) → ((a && b) || (a && c)) ≡ (a && (b || c))
-    by true b c = refl
-    by false b c = refl
+-- ---- own agree sets in a list for each chosen column
+in_join : (lists : List (List ℕ)) (vs : List ℕ) (w : ℕ) → Listed vs lists → Listed w vs → Listed w (join lists)
+in_join lists vs w h g = Listed-flat_map (λ us. us) vs w lists h g
 
-    or_false : (b : Bool) → (b || false) ≡ b
-    or_false true = refl
-    or_false false = refl
-
--- one agree set more of those that have the column, or of the others
-pub owned_more : (own : List ℕ) (c set found i w new : ℕ) → i < length own → w ≡ get_or own i w → has w c ≡ true → OwnedSoFar (having c (take i own)) set found → new ≡ union found (minus set w) → OwnedSoFar (having c (take (i + 1) own)) set new
-owned_more own c set found i w new l is h s e =
-    subst (λ vs. OwnedSoFar vs set new) (sym (filter_next 0 own i w l is (λ w. has w c) ∙ ap (λ d. having c (take i own) ++ cond d (w ∷ []) []) h)) (owned_also (having c (take i own)) set found w new s e)
-
-pub owned_same : (own : List ℕ) (c set found i w : ℕ) → i < length own → w ≡ get_or own i w → has w c ≡ false → OwnedSoFar (having c (take i own)) set found → OwnedSoFar (having c (take (i + 1) own)) set found
-owned_same own c set found i w l is h s =
-    subst (λ vs. OwnedSoFar vs set found) (sym (filter_next 0 own i w l is (λ w. has w c) ∙ ap (λ d. having c (take i own) ++ cond d (w ∷ []) []) h ∙ append-nil _)) s
-
-pub owned_yes : (own : List ℕ) (c i set found : ℕ) → OwnedSoFar (having c (take i own)) set found → found ≡ set → IsOwned (having c own) set
-owned_yes own c i set found s e = record {
+pub cut_owned : (s : ℕ) (lists : List (List ℕ)) → IsCut s lists → (k : ℕ) → ((vs : List ℕ) → Listed vs lists → sees vs k ≡ true) → IsOwned (having k (join lists)) s
+cut_owned s lists c k seen = record {
   each = λ d h.
-      let q = and_parts (has set d) _ (sym (s.each d) ∙ ap (λ (v : ℕ). has v d) e ∙ h) in
-      ap (list_any (λ w. not (has w d))) (sym (ap (having c) (take-append-drop i own)) ∙ filter-append (λ w. has w c) (take i own) (drop i own)) ∙ list_any-append (λ w. not (has w d)) (having c (take i own)) (having c (drop i own)) ∙ or_left _ _ q.1;
+      let run = c.every d h in
+      let w = list_any_which (λ w. has w k) run.0 (seen run.0 run.1) in
+      list_any_at (λ w. not (has w d)) w.0 (having k (join lists)) (Listed-filter (λ w. has w k) w.0 (join lists) (in_join lists run.0 w.0 run.1 w.1) w.2) (not_from_false _ (run.2.lack w.0 w.1));
 }
 
-pub owned_no : (own : List ℕ) (set found : ℕ) → OwnedSoFar own set found → (found ≡ set → ⊥) → IsUnowned own set
-owned_no own set found s n = elim (cases_Bool (subset set found)) as (λ _. IsUnowned own set) [
-  | inl e ↦ absurd (n (IsSubset-antisymm (record { each = λ k h. (and_parts (has set k) _ (sym (s.each k) ∙ h)).0 }) (subset-true e)))
-  | inr e ↦ let o = outside_of set set found (lt-pow set) e in record {
-    column = o.column;
-    chosen = o.inside;
-    none = false_from_ne_true _ (λ h. true≢false (sym (s.each o.column ∙ and_from _ _ o.inside h) ∙ o.out));
-  }
-]
+pub cut_unowned : (s : ℕ) (lists : List (List ℕ)) → IsCut s lists → (k : ℕ) → ((vs : List ℕ) × Listed vs lists × (sees vs k ≡ false)) → IsUnowned (having k (join lists)) s
+cut_unowned s lists c k w =
+    let run = c.each w.0 w.1 in record {
+      column = run.0;
+      chosen = run.1.chosen;
+      none = false_from_ne_true _ (λ h.
+          let v = list_any_which (λ v. not (has v run.0)) (having k (join lists)) h in
+          let q = Listed-filter_parts (λ v. has v k) v.0 (join lists) v.1 in
+          true≢false (sym (list_any_at (λ v. has v k) v.0 w.0 (run.1.all v.0 q.0 (not-true _ v.2)) q.1) ∙ w.2));
+    }
+
+-- the lists with a column more
+join_having : (k : ℕ) (lists : List (List ℕ)) → join (map (having k) lists) ≡ having k (join lists)
+join_having k [] = refl
+join_having k (vs ∷ lists) = ap (λ (us : List ℕ). having k vs ++ us) (join_having k lists) ∙ sym (filter-append (λ w. has w k) vs (join lists))
+
+pub join_with : (k : ℕ) (lists : List (List ℕ)) (ys : List ℕ) → join (map (having k) lists ++ ys ∷ []) ≡ having k (join lists) ++ ys
+join_with k lists ys = flat_map-append (λ us. us) (map (having k) lists) (ys ∷ []) ∙ ap₂ (λ (us vs : List ℕ). us ++ vs) (join_having k lists) (append-nil ys)
+
+pub cut_with : (ws : List ℕ) (s free : ℕ) (pending : List ℕ) (lists : List (List ℕ)) → IsBranch ws s free pending (join lists) → IsCut s lists → (c : ℕ) → has free c ≡ true → IsCut (with s c) (map (having c) lists ++ lacking c pending ∷ [])
+cut_with ws s free pending lists b cut c choice = record {
+  each = λ vs h. elim (Listed-append_cases vs (map (having c) lists) (lacking c pending ∷ []) h) as (λ _. (d : ℕ) × IsRun (with s c) (join now) vs d) [
+    | inl g ↦
+        let w = Listed-map_which (having c) vs lists g in
+        let run = cut.each w.0 w.1 in
+        (run.0, subst (λ (us : List ℕ). IsRun (with s c) (join now) us run.0) (sym w.2) (old run.0 w.0 run.1))
+    | inr g ↦ (c, last vs g)
+  ];
+  every = λ d h. elim (or_cases (has s d) (eqb d c) (sym (has-with s c d) ∙ h)) as (λ _. (vs : List ℕ) × Listed vs now × IsRun (with s c) (join now) vs d) [
+    | inl g ↦
+        let run = cut.every d g in
+        (having c run.0, Listed-append_left (having c run.0) (map (having c) lists) (lacking c pending ∷ []) (Listed-map (having c) run.0 lists run.1), old d run.0 run.2)
+    | inr g ↦ (lacking c pending, Listed-append_right (lacking c pending) (map (having c) lists) (lacking c pending ∷ []) (inl refl), subst (λ (k : ℕ). IsRun (with s c) (join now) (lacking c pending) k) (sym (eqb-true d c g)) new)
+  ];
+}
+  where
+    now : List (List ℕ)
+    now = map (having c) lists ++ lacking c pending ∷ []
+
+    parts_of : (w : ℕ) → Listed w (join now) → Listed w (having c (join lists)) ⊎ Listed w (lacking c pending)
+    parts_of w h = Listed-append_cases w (having c (join lists)) (lacking c pending) (subst (Listed w) (join_with c lists (lacking c pending)) h)
+
+    old : (d : ℕ) (vs : List ℕ) → IsRun s (join lists) vs d → IsRun (with s c) (join now) (having c vs) d
+    old d vs run = record {
+      chosen = (with_above s c).each d run.chosen;
+      lack = λ w h. run.lack w (Listed-filter_parts (λ v. has v c) w vs h).0;
+      all = λ w h n. elim (parts_of w h) as (λ _. Listed w (having c vs)) [
+        | inl g ↦ let q = Listed-filter_parts (λ v. has v c) w (join lists) g in Listed-filter (λ v. has v c) w vs (run.all w q.0 n) q.1
+        | inr g ↦ absurd (true≢false (sym ((b.holds w (Listed-filter_parts (λ v. not (has v c)) w pending g).0).each d run.chosen) ∙ n))
+      ];
+    }
+
+    new : IsRun (with s c) (join now) (lacking c pending) c
+    new = record {
+      chosen = with_has s c;
+      lack = λ w h. not-true _ (Listed-filter_parts (λ v. not (has v c)) w pending h).1;
+      all = λ w h n. elim (parts_of w h) as (λ _. Listed w (lacking c pending)) [
+        | inl g ↦ absurd (true≢false (sym (Listed-filter_parts (λ v. has v c) w (join lists) g).1 ∙ n))
+        | inr g ↦ g
+      ];
+    }
+
+    last : (vs : List ℕ) → Listed vs (lacking c pending ∷ []) → IsRun (with s c) (join now) vs c
+    last vs (inl e) = subst (λ (us : List ℕ). IsRun (with s c) (join now) us c) (sym e) new
+    last vs (inr g) = absurd g
+
+pub cut_opening : IsCut 0 []
+cut_opening = record { each = λ vs h. absurd h; every = λ d h. absurd (false≢true (sym (has-empty d) ∙ h)) }
 
 -- what one of the agree sets lacks of the free columns
 pub record FewestSoFar (pending : List ℕ) (free fewest : ℕ) : Type 0 where
@@ -503,14 +607,14 @@ lacked_more pending free lacked i w new l is s e = record {
 
 -- ---- the ends
 -- What is known while columns that all pending agree sets lack are gone through: those that are left are free still.
-pub record EndsSoFar (s free lacked rest left : ℕ) (own old mid : List ℕ) : Type 0 where
+pub record EndsSoFar (s free lacked rest left : ℕ) (old mid : List ℕ) : Type 0 where
   pub open_ones : IsSubset rest left
   pub among : IsSubset rest lacked
   pub low : IsSubset left free
-  pub ended : (ws pending : List ℕ) → IsBranch ws s free pending own → 0 < length pending → ((k : ℕ) → has lacked k ≡ true → having k pending ≡ []) → HasEnded ws s free left pending own old mid
+  pub ended : (ws pending own : List ℕ) → IsBranch ws s free pending own → 0 < length pending → ((k : ℕ) → has lacked k ≡ true → having k pending ≡ []) → ((k : ℕ) → has lacked k ≡ true → IsOwned (having k own) s) → HasEnded ws s free left pending own old mid
 
-pub ends_first : (s free lacked : ℕ) (own old : List ℕ) → IsSubset lacked free → EndsSoFar s free lacked lacked free own old old
-ends_first s free lacked own old i = record { open_ones = i; among = IsSubset-refl lacked; low = IsSubset-refl free; ended = λ ws pending b l f. record { branch = b; whole = λ new h. h } }
+pub ends_first : (s free lacked : ℕ) (old : List ℕ) → IsSubset lacked free → EndsSoFar s free lacked lacked free old old
+ends_first s free lacked old i = record { open_ones = i; among = IsSubset-refl lacked; low = IsSubset-refl free; ended = λ ws pending own b l f g. record { branch = b; whole = λ new h. h } }
 
 -- where none of some agree sets has the column, one lacks it
 one_lacks : (pending : List ℕ) (c : ℕ) → 0 < length pending → having c pending ≡ [] → list_any (λ w. not (has w c)) pending ≡ true
@@ -521,30 +625,75 @@ one_lacks (w ∷ ws) c l e = or_left _ _ (by (has w c) e)
     by true f = cc
     by false f = refl
 
-module _ (s free lacked rest left : ℕ) (own old mid : List ℕ) (e : EndsSoFar s free lacked rest left own old mid) (c : ℕ) (had : has rest c ≡ true) where
-  next : (new : List ℕ) → ((ws pending : List ℕ) → IsBranch ws s left pending own → having c pending ≡ [] → list_any (λ w. not (has w c)) pending ≡ true → HasBranched ws (with s c) (without left c) mid new)
-      → EndsSoFar s free lacked (without rest c) (without left c) own old new
-  next new first = record {
-    open_ones = without_less rest left c e.open_ones;
-    among = IsSubset-trans (without_inside rest c) e.among;
-    low = IsSubset-trans (without_inside left c) e.low;
-    ended = λ ws pending b l f.
-        let h = e.ended ws pending b l f in
-        let none = f c (e.among.each c had) in
-        record {
-          branch = branch_whole ws s left pending own h.branch c (e.open_ones.each c had);
-          whole = λ last g. h.whole last (branch_both ws s left pending own h.branch c (e.open_ones.each c had) mid new last (first ws pending h.branch none (one_lacks pending c l none)) g);
-        };
-  }
+pub ends_more : (s free lacked rest left : ℕ) (old mid : List ℕ) → EndsSoFar s free lacked rest left old mid → (c : ℕ) → has rest c ≡ true → (new : List ℕ) → new ≡ mid ++ with s c ∷ []
+    → (rest' left' : ℕ) → rest' ≡ without rest c → left' ≡ without left c → EndsSoFar s free lacked rest' left' old new
+ends_more s free lacked rest left old mid e c had new made rest' left' f g = subst (λ (v : ℕ). EndsSoFar s free lacked v left' old new) (sym f) (subst (λ (v : ℕ). EndsSoFar s free lacked (without rest c) v old new) (sym g) (record {
+  open_ones = without_less rest left c e.open_ones;
+  among = IsSubset-trans (without_inside rest c) e.among;
+  low = IsSubset-trans (without_inside left c) e.low;
+  ended = λ ws pending own b l none owned.
+      let h = e.ended ws pending own b l none owned in
+      let free_one : has left c ≡ true = e.open_ones.each c had in
+      let none_has = none c (e.among.each c had) in
+      record {
+        branch = branch_whole ws s left pending own h.branch c free_one;
+        whole = λ last i. h.whole last (branch_both ws s left pending own h.branch c free_one mid new last
+            (ended_next ws s left pending own h.branch c free_one none_has (one_lacks pending c l none_has) mid new (owned c (e.among.each c had)) made) i);
+      };
+}))
 
-  pub ends_more : IsOwned (having c own) s → (new : List ℕ) → new ≡ mid ++ with s c ∷ [] → EndsSoFar s free lacked (without rest c) (without left c) own old new
-  ends_more owned new made = next new (λ ws pending b none lacks. ended_next ws s left pending own b c (e.open_ones.each c had) none lacks mid new owned made)
+-- ---- fewer free columns
+-- Where a free column is one with which some chosen column keeps no agree set of its own, no least set from the chosen columns on has it.
+pub narrowed : (ws : List ℕ) (s free few : ℕ) (pending own : List ℕ) → IsBranch ws s free pending own → IsSubset few free → ((k : ℕ) → has free k ≡ true → has few k ≡ false → IsUnowned (having k own) s) → (old : List ℕ) → HasEnded ws s free few pending own old old
+narrowed ws s free few pending own b low unowned old = record {
+  branch = record {
+    apart = λ d h. false_from_ne_true _ (λ f. true≢false (sym (low.each d f) ∙ b.apart d h));
+    real = b.real;
+    holds = b.holds;
+    tells = λ x a i e. b.tells x a (wider x i) e;
+    own_real = b.own_real;
+    own_one = b.own_one;
+    own_all = λ x l. b.own_all x (up x l);
+    minimal = b.minimal;
+  };
+  whole = λ new h. record {
+    each = λ x i. elim (h.each x i) as (λ _. Listed x old ⊎ IsLeastFrom ws s free x) [ inl j ↦ inl j | inr j ↦ inr (up x j) ];
+    kept = h.kept;
+    every = λ x l. h.every x (record { above = l.above; within = record { each = λ k g. has-union s few k ∙ within x l k g }; stands = l.stands; smallest = l.smallest });
+  };
+}
+  where
+    wider : (x : ℕ) → IsSubset x (union s few) → IsSubset x (union s free)
+    wider x i = record { each = λ k h. has-union s free k ∙ elim (or_cases (has s k) (has few k) (sym (has-union s few k) ∙ i.each k h)) as (λ _. (has s k || has free k) ≡ true) [ inl g ↦ or_left _ _ g | inr g ↦ or_right (has s k) _ (low.each k g) ] }
 
-  pub ends_same : IsUnowned (having c own) s → (new : List ℕ) → new ≡ mid → EndsSoFar s free lacked (without rest c) (without left c) own old new
-  ends_same u new made = next new (λ ws pending b none lacks. subst (HasBranched ws (with s c) (without left c) mid) (sym made) (branch_none ws s left pending own b c (e.open_ones.each c had) u mid))
+    up : (x : ℕ) → IsLeastFrom ws s few x → IsLeastFrom ws s free x
+    up x l = record { above = l.above; within = wider x l.within; stands = l.stands; smallest = l.smallest }
 
-pub ends_as : (s free lacked rest rest' left left' : ℕ) (own old mid : List ℕ) → rest' ≡ rest → left' ≡ left → EndsSoFar s free lacked rest left own old mid → EndsSoFar s free lacked rest' left' own old mid
-ends_as s free lacked rest rest' left left' own old mid f g e = subst (λ (v : ℕ). EndsSoFar s free lacked v left' own old mid) (sym f) (subst (λ (v : ℕ). EndsSoFar s free lacked rest v own old mid) (sym g) e)
+    -- a column that is not among the few
+    out : (x : ℕ) → IsLeastFrom ws s free x → (k : ℕ) → has x k ≡ true → has free k ≡ true → has few k ≡ false → ⊥
+    out x l k h f n =
+        let u = unowned k f n in
+        let w = covered_which own (without x u.column) (b.own_all x l u.column u.chosen) in
+        let apart : k ≡ u.column → ⊥ = λ e. true≢false (sym f ∙ ap (has free) e ∙ b.apart u.column u.chosen) in
+        true≢false (sym (list_any_at (λ w. not (has w u.column)) w.set (having k own) (Listed-filter (λ w. has w k) w.set own w.listed (w.inside.each k (without_keeps x u.column k h apart))) (not_from_false _ (lacks u.column w))) ∙ u.none)
+      where
+        lacks : (d : ℕ) (w : Covers own (without x d)) → has w.set d ≡ false
+        lacks d w = false_from_ne_true _ (λ i. true≢false (sym (covered_at ws x w.set (b.own_real w.set w.listed) (record {
+          each = λ j g. elim (cases_Bool (eqb j d)) as (λ _. has w.set j ≡ true) [
+            | inl q ↦ ap (has w.set) (eqb-true j d q) ∙ i
+            | inr q ↦ w.inside.each j (has-without x d j ∙ and_from _ _ g (ap not q))
+          ];
+        })) ∙ l.stands))
+
+    within : (x : ℕ) → IsLeastFrom ws s free x → (k : ℕ) → has x k ≡ true → (has s k || has few k) ≡ true
+    within x l k g = elim (or_cases (has s k) (has free k) (sym (has-union s free k) ∙ l.within.each k g)) as (λ _. (has s k || has few k) ≡ true) [
+      | inl f ↦ or_left _ _ f
+      | inr f ↦ or_right (has s k) _ (true_from_ne_false _ (λ n. out x l k g f n))
+    ]
+
+-- one after the other
+pub ended_after : (ws : List ℕ) (s free few left : ℕ) (pending own old mid : List ℕ) → HasEnded ws s free few pending own old old → HasEnded ws s few left pending own old mid → HasEnded ws s free left pending own old mid
+ended_after ws s free few left pending own old mid f g = record { branch = g.branch; whole = λ new h. f.whole new (g.whole new h) }
 
 -- ---- the branches of a frame, after its ends
 pub branch_by : (ws : List ℕ) (s free left : ℕ) (pending own old mid : List ℕ) (e : HasEnded ws s free left pending own old mid) (k : ℕ) → has left k ≡ true → (between new : List ℕ)
@@ -565,8 +714,13 @@ branch_on ws s free pending own b k choice rest (inl e) = subst (λ (vs : List �
 branch_on ws s free pending own b k choice rest (inr e) = subst (λ (vs : List ℕ). IsBranch ws s (without free k) vs own) (sym e) (branch_without ws s free pending own b k choice)
 
 -- what the ends leave, where the lists are known by other names
-pub ended_as : (ws : List ℕ) (s free left lacked : ℕ) (pending pending' own own' old mid : List ℕ) → pending' ≡ pending → own' ≡ own → 0 < length pending'
-    → ((k : ℕ) → has lacked k ≡ true → having k pending' ≡ []) → IsBranch ws s free pending own
-    → ((vs ps : List ℕ) → IsBranch vs s free ps own' → 0 < length ps → ((k : ℕ) → has lacked k ≡ true → having k ps ≡ []) → HasEnded vs s free left ps own' old mid) → HasEnded ws s free left pending own old mid
-ended_as ws s free left lacked pending pending' own own' old mid e f l none b ended =
-    subst (λ (vs : List ℕ). HasEnded ws s free left vs own old mid) e (subst (λ (vs : List ℕ). HasEnded ws s free left pending' vs old mid) f (ended ws pending' (branch_as ws s s free free pending pending' own own' refl refl e f b) l none))
+pub ended_as : (ws : List ℕ) (s free few left lacked : ℕ) (pending pending' : List ℕ) (lists lists' : List (List ℕ)) (old mid : List ℕ) → pending' ≡ pending → lists' ≡ lists → 0 < length pending' → IsSubset few free → IsSubset lacked few
+    → ((k : ℕ) → has few k ≡ true → (vs : List ℕ) → Listed vs lists' → sees vs k ≡ true) → ((k : ℕ) → has free k ≡ true → has few k ≡ false → (vs : List ℕ) × Listed vs lists' × (sees vs k ≡ false)) → ((k : ℕ) → has lacked k ≡ true → having k pending' ≡ [])
+    → IsCut s lists → IsBranch ws s free pending (join lists)
+    → ((vs ps os : List ℕ) → IsBranch vs s few ps os → 0 < length ps → ((k : ℕ) → has lacked k ≡ true → having k ps ≡ []) → ((k : ℕ) → has lacked k ≡ true → IsOwned (having k os) s) → HasEnded vs s few left ps os old mid) → HasEnded ws s free left pending (join lists) old mid
+ended_as ws s free few left lacked pending pending' lists lists' old mid e f l low among owned unowned none cut b ended =
+    subst (λ (vs : List ℕ). HasEnded ws s free left vs (join lists) old mid) e (
+    let b' = branch_as ws s s free free pending pending' (join lists) (join lists) refl refl e refl b in
+    let n = narrowed ws s free few pending' (join lists) b' low (λ k h g. cut_unowned s lists cut k (subst (λ (ls : List (List ℕ)). (vs : List ℕ) × Listed vs ls × (sees vs k ≡ false)) f (unowned k h g))) old in
+    ended_after ws s free few left pending' (join lists) old mid n (ended ws pending' (join lists) n.branch l none
+    (λ k h. cut_owned s lists cut k (λ vs g. owned k (among.each k h) vs (subst (Listed vs) (sym f) g)))))

@@ -8,12 +8,12 @@ use Rattle.col_set.specs.declared.target.Target.{Target}
 use Rattle.col_set.specs.ColSet.{IsSubset, has, inter, subset}
 use Rattle.col_set.specs.Target.{has_target}
 use Rattle.col_set.specs.Evidence.{refuted}
-use Rattle.col_set.specs.Members.{has-empty, has-inter}
-use Rattle.col_set.specs.Subsets.{IsSubset-trans, IsSubset-antisymm, subset-true, true-subset, subset_below}
+use Rattle.col_set.specs.Members.{has-inter}
+use Rattle.col_set.specs.Subsets.{IsSubset-trans, subset-true, true-subset, subset_below}
 use Rattle.col_set.specs.Lists.{Listed, Listed-append_left, Listed-append_right, Listed-append_cases}
 use Rattle.col_set.proofs.Least.{refuted_inside}
 use Rattle.candidate_cover.specs.Growth.{IsLeastAmong, ListsLeast, IsExplored}
-use Rattle.candidate_cover.proofs.Evidence.{refuted-push, refuted-push_known, lists_known}
+use Rattle.candidate_cover.proofs.Evidence.{refuted-push, refuted-push_known}
 
 -- ---- the least sets among some columns
 -- with no agree set the empty set is the one
@@ -21,35 +21,12 @@ pub nothing_refuted : (t : Target) (x : ℕ) → refuted [] t x ≡ false
 unfolding refuted
 nothing_refuted t x = refl
 
-empty_inside : (x : ℕ) → IsSubset 0 x
-empty_inside x = record { each = λ k h. absurd (false≢true (sym (has-empty k) ∙ h)) }
-
-pub lists_empty : (u : ℕ) (t : Target) (xs : List ℕ) → xs ≡ 0 ∷ [] → ListsLeast u [] t xs
-lists_empty u t xs e = subst (ListsLeast u [] t) (sym e) (record {
-  each = λ x h. each x h;
-  every = λ x i. inl (sym (i.smallest 0 (empty_inside x) (nothing_refuted t 0)));
-})
-  where
-    each : (x : ℕ) → Listed x (0 ∷ []) → IsLeastAmong u [] t x
-    each x (inl e) = subst (IsLeastAmong u [] t) (sym e) (record { within = empty_inside u; stands = nothing_refuted t 0; smallest = λ y s g. IsSubset-antisymm s (empty_inside y) })
-    each x (inr h) = absurd h
-
 -- inside a refuted set there is none
 pub lists_none : (u : ℕ) (ws : List ℕ) (t : Target) (xs : List ℕ) → xs ≡ [] → refuted ws t u ≡ true → ListsLeast u ws t xs
 lists_none u ws t xs e r = record {
   each = λ x h. absurd (subst (Listed x) e h);
   every = λ x i. absurd (true≢false (sym (refuted_inside ws t i.within r) ∙ i.stands));
 }
-
--- one agree set after another
-pub lists_next : (u : ℕ) (ws : List ℕ) (t : Target) (i z : ℕ) (xs : List ℕ) → i < length ws → z ≡ get_or ws i z → ListsLeast u (take i ws ++ z ∷ []) t xs → ListsLeast u (take (i + 1) ws) t xs
-lists_next u ws t i z xs l is h = subst (λ vs. ListsLeast u vs t xs) (sym (take_more ws i z l ∙ ap (λ (y : ℕ). take i ws ++ y ∷ []) (sym is))) h
-
-pub lists_pass : (u : ℕ) (ws : List ℕ) (t : Target) (i z : ℕ) (xs : List ℕ) → i < length ws → z ≡ get_or ws i z → has_target z t ≡ true → ListsLeast u (take i ws) t xs → ListsLeast u (take (i + 1) ws) t xs
-lists_pass u ws t i z xs l is e h = lists_next u ws t i z xs l is (lists_known u (take i ws) t z xs e h)
-
-pub lists_all : (u : ℕ) (ws : List ℕ) (t : Target) (i : ℕ) (xs : List ℕ) → length ws ≤ i → ListsLeast u (take i ws) t xs → ListsLeast u ws t xs
-lists_all u ws t i xs l h = subst (λ vs. ListsLeast u vs t xs) (take_all i ws l) h
 
 -- ---- refuted or not, from one agree set to the next
 pub refuted_more : (ws : List ℕ) (t : Target) (x : ℕ) (i w : ℕ) → i < length ws → w ≡ get_or ws i w → refuted (take (i + 1) ws) t x ≡ (refuted (take i ws) t x || (subset x w && not (has_target w t)))

@@ -9,6 +9,7 @@ pub mod Growing
 pub mod Parts
 pub mod Places
 pub mod Remarked
+pub mod Runs
 pub mod Sorting
 pub mod Splitting
 pub mod Targets

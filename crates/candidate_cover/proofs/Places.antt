@@ -69,6 +69,23 @@ place_found xs x (Err i) o b s =
 pub place_seen : (xs : List ℕ) (x y : ℕ) (i : ℕ) → Rises report_cmp xs → i < length xs → y ≡ get_or xs i y → y ≡ x → IsPlace xs x (Ok i)
 place_seen xs x y i o l is e = place_found xs x (Ok i) o l (λ d. ap (λ (z : ℕ). report_cmp z x) (get_or_default xs i d y l ∙ sym is ∙ e) ∙ tied_itself report_total x)
 
+-- where one set stands before x, so do those before it, and where one stands after x, so do those after it
+pub all_before : (xs : List ℕ) (x y : ℕ) (i : ℕ) → Rises report_cmp xs → i < length xs → y ≡ get_or xs i y → report_cmp y x ≡ Less → (k d : ℕ) → k < i + 1 → report_cmp (get_or xs k d) x ≡ Less
+all_before xs x y i o l is e k d h =
+    let there : get_or xs i d ≡ y = get_or_default xs i d y l ∙ sym is in
+    elim (cases_lt k i) as (λ _. report_cmp (get_or xs k d) x ≡ Less) [
+      | inl g ↦ report_total.trans (get_or xs k d) y x (ap (report_cmp (get_or xs k d)) (sym there) ∙ AllPairs-rises report_cmp xs o k i d g l) e
+      | inr g ↦ ap (λ (j : ℕ). report_cmp (get_or xs j d) x) (let same : k ≡ i = omega (arith, g, h) in same) ∙ ap (λ (z : ℕ). report_cmp z x) there ∙ e
+    ]
+
+pub all_after : (xs : List ℕ) (x y : ℕ) (i : ℕ) → Rises report_cmp xs → i < length xs → y ≡ get_or xs i y → report_cmp x y ≡ Less → (k d : ℕ) → i ≤ k → k < length xs → report_cmp x (get_or xs k d) ≡ Less
+all_after xs x y i o l is e k d h m =
+    let there : get_or xs i d ≡ y = get_or_default xs i d y l ∙ sym is in
+    elim (cases_lt i k) as (λ _. report_cmp x (get_or xs k d) ≡ Less) [
+      | inl g ↦ report_total.trans x y (get_or xs k d) e (ap (λ (z : ℕ). report_cmp z (get_or xs k d)) (sym there) ∙ AllPairs-rises report_cmp xs o i k d g m)
+      | inr g ↦ ap (λ (j : ℕ). report_cmp x (get_or xs j d)) (let same : k ≡ i = omega (arith, g, h) in same) ∙ ap (report_cmp x) there ∙ e
+    ]
+
 -- ---- the place among pairs
 get_or-keys : (ps : List (ℕ × Mark)) (k : ℕ) (d : ℕ × Mark) → get_or (keys ps) k d.0 ≡ (get_or ps k d).0
 get_or-keys [] k d = refl

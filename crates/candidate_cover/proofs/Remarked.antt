@@ -17,7 +17,7 @@ use Rattle.candidate_cover.proofs.Places.{apart_from_less}
 use Rattle.candidate_cover.specs.declared.cand.Cand.{Cand}
 use Rattle.candidate_cover.specs.declared.cand.Mark.{Mark}
 use Rattle.candidate_cover.specs.Lists.{CandLists}
-use Rattle.candidate_cover.specs.Cands.{width, cands_of, with_list, is_listed, from}
+use Rattle.candidate_cover.specs.Cands.{width, cands_of, with_list, is_listed, upto_of, from}
 use Rattle.candidate_cover.specs.Marks.{cand, cands}
 
 -- ---- look-ups
@@ -80,6 +80,25 @@ listed_value (p ∷ ps) x v e = by (eqb p.0 x) refl e (λ g. listed_value ps x v
         → (c : Cand) × Listed c (cands (p ∷ ps)) × (c.left ≡ x) × (c.upto ≡ v.upto)
     by true i h rest = (cand p, inl refl, eqb-true p.0 x i, ap (λ (m : Mark). m.upto) (sym (same_Some v p.1 h)))
     by false i h rest = let w = rest h in (w.0, inr w.1, w.2, w.3)
+
+-- its row, and none where there is no value
+pub value_upto : (ps : List (ℕ × Mark)) (x : ℕ) (v : Mark) → Some v ≡ value_at ps x → Some v.upto ≡ upto_of (cands ps) x
+value_upto [] x v e = absurd (none-some v (sym e))
+value_upto (p ∷ ps) x v e = by (eqb p.0 x) e (λ g. value_upto ps x v g)
+  where
+    by : (b : Bool) → Some v ≡ option_map (λ q. q.1) (cond b (Some p) (find (λ q. eqb q.0 x) ps)) → (Some v ≡ value_at ps x → Some v.upto ≡ upto_of (cands ps) x)
+        → Some v.upto ≡ option_map (λ c. c.upto) (cond b (Some (cand p)) (find (λ c. eqb c.left x) (cands ps)))
+    by true e rest = ap (λ (m : Mark). Some m.upto) (same_Some v p.1 e)
+    by false e rest = rest e
+
+pub none_upto : (ps : List (ℕ × Mark)) (x : ℕ) → None ≡ value_at ps x → None ≡ upto_of (cands ps) x
+none_upto [] x e = refl
+none_upto (p ∷ ps) x e = by (eqb p.0 x) e (λ g. none_upto ps x g)
+  where
+    by : (b : Bool) → None ≡ option_map (λ q. q.1) (cond b (Some p) (find (λ q. eqb q.0 x) ps)) → (None ≡ value_at ps x → None ≡ upto_of (cands ps) x)
+        → None ≡ option_map (λ c. c.upto) (cond b (Some (cand p)) (find (λ c. eqb c.left x) (cands ps)))
+    by true e rest = absurd (none-some p.1 e)
+    by false e rest = rest e
 
 pub no_key_of_none : (ps : List (ℕ × Mark)) (x : ℕ) → None ≡ value_at ps x → is_key ps x ≡ false
 no_key_of_none [] x e = refl

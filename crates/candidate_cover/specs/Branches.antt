@@ -1,6 +1,7 @@
 -- How the least column sets that no agree set contains are split by a column: those with it, and those without it.
-use Rattle.std.specs.Prelude.{◌≡◌, ◌⊎◌, ℕ, Bool, true, false, not, ◌&&◌, List}
-use Rattle.std.specs.List.{filter, list_any}
+use Rattle.std.specs.Prelude.{◌≡◌, ◌≤◌, ◌-◌, ◌⊎◌, ◌++◌, ℕ, Bool, true, false, not, ◌&&◌, List, map, length, take, drop}
+use Rattle.std.specs.List.{filter, list_any, flat_map}
+use Rattle.candidate_cover.specs.declared.branching.Run.{Run}
 use Rattle.col_set.specs.ColSet.{Columns, IsSubset, has, without, union, inter, subset}
 use Rattle.col_set.specs.Lists.{Listed}
 
@@ -11,6 +12,48 @@ covered ws x = list_any (λ w. subset x w) ws
 -- the agree sets that lack the column
 abbrev pub lacking : ℕ → List Columns → List Columns
 lacking k ws = filter (λ w. not (has w k)) ws
+
+-- whether one of the agree sets has the column
+abbrev pub sees : List Columns → ℕ → Bool
+sees ws k = list_any (λ w. has w k) ws
+
+-- the agree sets of a run, and of each of some runs
+abbrev pub part : List Columns → Run → List Columns
+part own r = take (r.stop - r.start) (drop r.start own)
+
+abbrev pub parts : List Columns → List Run → List (List Columns)
+parts own runs = map (part own) runs
+
+abbrev pub join : List (List Columns) → List Columns
+join lists = flat_map (λ vs. vs) lists
+
+-- the run stands within the list
+pub record IsWithin (own : List Columns) (r : Run) : Type 0 where
+  pub order : r.start ≤ r.stop
+  pub bound : r.stop ≤ length own
+
+pub record AreWithin (own : List Columns) (runs : List Run) : Type 0 where
+  pub each : (r : Run) → Listed r runs → IsWithin own r
+
+-- behind the old agree sets and the old runs, which stand as they did, are new runs with these lists
+pub record IsEntered (old : List Columns) (old_runs : List Run) (lists : List (List Columns)) (own : List Columns) (runs : List Run) : Type 0 where
+  pub more : List Columns
+  pub own_is : own ≡ old ++ more
+  pub new : List Run
+  pub runs_is : runs ≡ old_runs ++ new
+  pub parts_are : parts own new ≡ lists
+  pub within : AreWithin own runs
+
+-- vs are those of the agree sets that lack the column d of s
+pub record IsRun (s : Columns) (own vs : List Columns) (d : ℕ) : Type 0 where
+  pub chosen : has s d ≡ true
+  pub lack : (w : Columns) → Listed w vs → has w d ≡ false
+  pub all : (w : Columns) → Listed w own → has w d ≡ false → Listed w vs
+
+-- there is a list for each column of s, of the agree sets that lack it, and no other list
+pub record IsCut (s : Columns) (lists : List (List Columns)) : Type 0 where
+  pub each : (vs : List Columns) → Listed vs lists → (d : ℕ) × IsRun s (join lists) vs d
+  pub every : (d : ℕ) → has s d ≡ true → (vs : List Columns) × Listed vs lists × IsRun s (join lists) vs d
 
 -- each column of s has one of the agree sets that lacks it
 pub record IsOwned (own : List Columns) (s : Columns) : Type 0 where

@@ -39,6 +39,10 @@ from x cands = filter (λ c. not (is_lt (report_cmp c.left x))) cands
 abbrev pub is_listed : List Cand → Columns → Bool
 is_listed cands x = list_any (λ c. c.left == x) cands
 
+-- the row below which the candidate of x is known to hold, where there is one
+abbrev pub upto_of : List Cand → Columns → Option ℕ
+upto_of cands x = option_map (λ c. c.upto) (find (λ c. c.left == x) cands)
+
 -- a candidate of which no row is known to keep it
 abbrev pub fresh : Columns → Cand
 fresh x = record { left = x; upto = 1; held = false }

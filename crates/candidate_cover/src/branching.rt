@@ -1,33 +1,45 @@
 // The least column sets that no agree set contains, split by a column: those with it and those without it.
-ghost use Rattle.std.specs.Prelude.{◌≡◌, ◌≤◌, ◌<◌, ◌++◌, ◌⊎◌, ◌&&◌, [], not, Bool, true, false, None, ℕ, List, length, take, drop, IfOk, OnOk, IfSome};
+ghost use Rattle.std.specs.Prelude.{◌≡◌, ◌≤◌, ◌<◌, ◌∷◌, ◌++◌, ◌⊎◌, ◌&&◌, [], not, map, Bool, true, false, None, ℕ, List, length, take, drop, IfOk, OnOk, IfSome};
 ghost use Rattle.std.specs.List.{filter, list_any};
 ghost use Rattle.col_set.specs.ColSet.{IsSubset, empty, has, without, inter, subset};
 ghost use Rattle.col_set.specs.Target.{IsColumnTarget, has_target};
-ghost use Rattle.candidate_cover.specs.Branches.{covered, lacking, IsOwned, IsUnowned, IsBranch, HasBranched, HasEnded, pruned};
+ghost use Rattle.col_set.specs.Lists.{Listed};
+ghost use Rattle.candidate_cover.specs.Branches.{covered, lacking, sees, part, parts, join, IsWithin, AreWithin, IsEntered, IsCut, IsOwned, IsBranch, HasBranched, HasEnded, pruned};
 ghost use Rattle.candidate_cover.specs.Growth.{having, ListsLeast};
 
+use crate::part::sorted;
 use rel_base::{ColSet, MOST_COLUMNS, Target};
 use std::alloc::{AllocError, Global};
 
 // Of more agree sets than these the ones that lie inside others are not looked for, which takes a step a pair.
 const MANY: usize = 32_768;
 
+// Where the own agree sets of one chosen column stand.
+#[derive(Clone, Copy)]
+struct Run {
+    start: usize,
+    stop: usize,
+}
+
 // The lists of the frames that stand, those of one behind those of another, in the same memory.
 //
-// A frame's lists are the ends of these: the agree sets that contain what it has chosen, and those that lack just one column of it.
+// A frame's lists are the ends of these: the agree sets that contain what it has chosen, and those that lack just one column of it,
+// in a run for each of these columns.
 #[derive(Drop)]
 struct Frames {
     pending: Vec<ColSet>,
     own: Vec<ColSet>,
+    runs: Vec<Run>,
 }
 
 // How many of the agree sets lack the column.
 fn lacking_count(pending: &[ColSet], column: u8) -> usize
     requires { column < MOST_COLUMNS }
 {
+    let single = ColSet::empty().with(column);
     let mut count = 0usize;
     for w in pending {
-        if !w.has(column) {
+        if !single.subset_of(*w) {
             count = count.saturating_add(1);
         }
     }
@@ -54,10 +66,13 @@ fn fewest_lacked(free: ColSet, pending: &[ColSet]) -> ColSet
     ensures none { result ≡ empty → covered pending.now free ≡ true }
 {
     let mut fewest = free.minus(pending[0]);
+    let mut least = fewest.len();
     for w in pending {
         let lacked = free.minus(*w);
-        if lacked.len() < fewest.len() {
+        let count = lacked.len();
+        if count < least {
             fewest = lacked;
+            least = count;
         }
     }
     fewest
@@ -93,11 +108,12 @@ fn move_having(sets: &mut [ColSet], column: u8) -> usize
     ensures kept { take result sets.new ≡ having column sets.old }
     ensures bound { result ≤ length sets.old }
 {
+    let single = ColSet::empty().with(column);
     let mut kept = 0;
     for place in 0..sets.len() {
         let w = sets[place];
         sets[kept] = w;
-        if w.has(column) {
+        if single.subset_of(w) {
             kept += 1;
         }
     }
@@ -131,30 +147,74 @@ fn push_lacking(found: &mut Vec<ColSet>, column: u8, sets: &[ColSet]) -> Result<
     requires { column < MOST_COLUMNS }
     ensures { OnOk result (found.new.items ≡ found.old.items ++ lacking column sets.now) }
 {
+    let single = ColSet::empty().with(column);
     for w in sets {
-        if !w.has(column) {
+        if !single.subset_of(*w) {
             found.push(*w)?;
         }
     }
     Ok(())
 }
 
-// Whether for each column of the set one of the agree sets that have the further column lacks it.
-fn is_owned(own: &[ColSet], column: u8, set: ColSet) -> bool
-    requires { column < MOST_COLUMNS }
-    ensures yes { result ≡ true → IsOwned (having column own.now) set }
-    ensures no { result ≡ false → IsUnowned (having column own.now) set }
+// Those of the columns that some of the agree sets have. Where all have been seen, it looks no further.
+fn seen_in(sets: &[ColSet], columns: ColSet) -> ColSet
+    ensures low { IsSubset result columns }
+    ensures seen { (k : ℕ) → has result k ≡ true → sees sets.now k ≡ true }
+    ensures unseen { (k : ℕ) → has columns k ≡ true → has result k ≡ false → sees sets.now k ≡ false }
 {
-    let mut found = ColSet::empty();
-    for w in own {
-        if w.has(column) {
-            found = found.union(set.minus(*w));
-            if found == set {
-                return true;
-            }
+    let mut left = columns;
+    for w in sets {
+        left = left.minus(*w);
+        if left == ColSet::empty() {
+            return columns;
         }
     }
-    found == set
+    columns.minus(left)
+}
+
+// Those of the columns that some of the agree sets of the run have.
+fn seen_in_run(own: &[ColSet], run: Run, columns: ColSet) -> ColSet
+    requires { IsWithin own.now run }
+    ensures low { IsSubset result columns }
+    ensures seen { (k : ℕ) → has result k ≡ true → sees (part own.now run) k ≡ true }
+    ensures unseen { (k : ℕ) → has columns k ≡ true → has result k ≡ false → sees (part own.now run) k ≡ false }
+{
+    seen_in(&own[run.start..run.stop], columns)
+}
+
+// Those of the free columns that each run has an agree set with: with each other one some chosen column keeps no agree set of its
+// own, so no least set from the chosen columns on has it.
+fn owned_columns(own: &[ColSet], runs: &[Run], free: ColSet) -> ColSet
+    requires { AreWithin own.now runs.now }
+    ensures low { IsSubset result free }
+    ensures owned { (k : ℕ) → has result k ≡ true → (vs : List ℕ) → Listed vs (parts own.now runs.now) → sees vs k ≡ true }
+    ensures unowned { (k : ℕ) → has free k ≡ true → has result k ≡ false → (vs : List ℕ) × Listed vs (parts own.now runs.now) × (sees vs k ≡ false) }
+{
+    let mut owned = free;
+    for run in runs {
+        owned = seen_in_run(own, *run, owned);
+    }
+    owned
+}
+
+// Adds those of a run's agree sets that have the column, as a run.
+fn push_run(
+    own: &mut Vec<ColSet>,
+    runs: &mut Vec<Run>,
+    run: Run,
+    column: u8,
+) -> Result<(), AllocError>
+    requires column { column < MOST_COLUMNS }
+    requires within { IsWithin own.old.items run }
+    ensures own { OnOk result (own.new.items ≡ own.old.items ++ having column (part own.old.items run)) }
+    ensures runs { OnOk result (runs.new.items ≡ runs.old.items ++ record { start = length own.old.items; stop = length own.new.items } ∷ []) }
+{
+    let start = own.len();
+    own.extend_from_within(run.start..run.stop)?;
+    keep_having(own, start, column);
+    let stop = own.len();
+    runs.push(Run { start, stop })?;
+    Ok(())
 }
 
 // Adds the chosen columns with each one more that all pending agree sets lack: no such set is refuted, and it is one of the least
@@ -164,18 +224,15 @@ fn push_ends(
     chosen: ColSet,
     free: ColSet,
     lacked: ColSet,
-    own: &[ColSet],
 ) -> Result<ColSet, AllocError>
     requires { IsSubset lacked free }
     ensures low { IfOk result (λ left. IsSubset left free) }
-    ensures ended { IfOk result (λ left. (ws pending : List ℕ) → IsBranch ws chosen free pending own.now → 0 < length pending → ((k : ℕ) → has lacked k ≡ true → having k pending ≡ []) → HasEnded ws chosen free left pending own.now found.old.items found.new.items) }
+    ensures ended { IfOk result (λ left. (ws pending own : List ℕ) → IsBranch ws chosen free pending own → 0 < length pending → ((k : ℕ) → has lacked k ≡ true → having k pending ≡ []) → ((k : ℕ) → has lacked k ≡ true → IsOwned (having k own) chosen) → HasEnded ws chosen free left pending own found.old.items found.new.items) }
 {
     let mut left = free;
     let mut rest = lacked;
     while let Some(column) = rest.first() {
-        if is_owned(own, column, chosen) {
-            found.push(chosen.with(column))?;
-        }
+        found.push(chosen.with(column))?;
         left = left.without(column);
         rest = rest.without(column);
     }
@@ -227,16 +284,23 @@ fn keep_standing(sets: &mut Vec<ColSet>, from: usize, others: &[ColSet], column:
 
 impl Frames {
     // Adds the lists of the frame that chooses the column too: the pending agree sets that have it, and as own ones those of the own
-    // ones that have it and the pending ones that lack it.
-    fn enter(&mut self, pending_from: usize, own_from: usize, column: u8) -> Result<(), AllocError>
+    // ones that have it, run by run, and in a run of their own the pending ones that lack it.
+    fn enter(&mut self, pending_from: usize, runs_from: usize, column: u8) -> Result<(), AllocError>
         requires column { column < MOST_COLUMNS }
         requires pending_from { pending_from ≤ length self.old.pending.items }
-        requires own_from { own_from ≤ length self.old.own.items }
+        requires runs_from { runs_from ≤ length self.old.runs.items }
+        requires within { AreWithin self.old.own.items self.old.runs.items }
         ensures pending { OnOk result (self.new.pending.items ≡ self.old.pending.items ++ having column (drop pending_from self.old.pending.items)) }
-        ensures own { OnOk result (self.new.own.items ≡ self.old.own.items ++ (having column (drop own_from self.old.own.items) ++ lacking column (drop pending_from self.old.pending.items))) }
+        ensures own { OnOk result (IsEntered self.old.own.items self.old.runs.items (map (having column) (parts self.old.own.items (drop runs_from self.old.runs.items)) ++ lacking column (drop pending_from self.old.pending.items) ∷ []) self.new.own.items self.new.runs.items) }
     {
-        push_having(&mut self.own, own_from, column)?;
+        for place in runs_from..self.runs.len() {
+            let run = self.runs[place];
+            push_run(&mut self.own, &mut self.runs, run, column)?;
+        }
+        let start = self.own.len();
         push_lacking(&mut self.own, column, &self.pending[pending_from..])?;
+        let stop = self.own.len();
+        self.runs.push(Run { start, stop })?;
         push_having(&mut self.pending, pending_from, column)
     }
 
@@ -247,6 +311,7 @@ impl Frames {
         requires from { pending_from ≤ length self.old.pending.items }
         ensures pending { OnOk result ((self.new.pending.items ≡ self.old.pending.items) ⊎ (self.new.pending.items ≡ take pending_from self.old.pending.items ++ pruned column free (drop pending_from self.old.pending.items))) }
         ensures own { OnOk result (self.new.own.items ≡ self.old.own.items) }
+        ensures runs { OnOk result (self.new.runs.items ≡ self.old.runs.items) }
     {
         if self.pending.len() - pending_from > MANY {
             return Ok(());
@@ -267,30 +332,33 @@ impl Frames {
 
 // Adds the least sets that have all of the chosen columns and else free ones.
 //
-// Where a chosen column has no agree set of its own, no least set has all chosen ones. The column to go by is one of the fewest that
-// a pending set lacks, which bounds the branches by what any order needs; at most a frame for each column stands at a time. The
-// frame's pending sets are gone at the end.
+// A free column with which a chosen one keeps no agree set of its own is in none of them. The column to go by is one of the fewest
+// that a pending set lacks, which bounds the branches by what any order needs; at most a frame for each column stands at a time.
+// The frame's pending sets are gone at the end.
 fn branch(
     frames: &mut Frames,
     chosen: ColSet,
     free: ColSet,
     pending_from: usize,
-    own_from: usize,
+    runs_from: usize,
     found: &mut Vec<ColSet>,
 ) -> Result<(), AllocError>
     requires pending_from { pending_from ≤ length frames.old.pending.items }
-    requires own_from { own_from ≤ length frames.old.own.items }
+    requires runs_from { runs_from ≤ length frames.old.runs.items }
+    requires within { AreWithin frames.old.own.items frames.old.runs.items }
     ensures pending { OnOk result (frames.new.pending.items ≡ take pending_from frames.old.pending.items) }
     ensures own { OnOk result (frames.new.own.items ≡ frames.old.own.items) }
-    ensures found { OnOk result ((ws : List ℕ) → IsBranch ws chosen free (drop pending_from frames.old.pending.items) (drop own_from frames.old.own.items) → HasBranched ws chosen free found.old.items found.new.items) }
+    ensures runs { OnOk result (frames.new.runs.items ≡ frames.old.runs.items) }
+    ensures found { OnOk result ((ws : List ℕ) → IsCut chosen (parts frames.old.own.items (drop runs_from frames.old.runs.items)) → IsBranch ws chosen free (drop pending_from frames.old.pending.items) (join (parts frames.old.own.items (drop runs_from frames.old.runs.items))) → HasBranched ws chosen free found.old.items found.new.items) }
 {
     let pending = &frames.pending[pending_from..];
     if pending.is_empty() {
         found.push(chosen)?;
         return Ok(());
     }
-    let lacked = lacked_by_all(free, pending);
-    let left = push_ends(found, chosen, free, lacked, &frames.own[own_from..])?;
+    let owned = owned_columns(frames.own.as_slice(), &frames.runs[runs_from..], free);
+    let lacked = lacked_by_all(owned, pending);
+    let left = push_ends(found, chosen, owned, lacked)?;
     match most_lacked(fewest_lacked(left, pending), pending) {
         None => {
             frames.pending.truncate(pending_from);
@@ -298,24 +366,47 @@ fn branch(
         }
         Some(column) => {
             let rest = left.without(column);
-            if is_owned(&frames.own[own_from..], column, chosen) {
-                let pending_end = frames.pending.len();
-                let own_end = frames.own.len();
-                frames.enter(pending_from, own_from, column)?;
-                branch(
-                    frames,
-                    chosen.with(column),
-                    rest,
-                    pending_end,
-                    own_end,
-                    found,
-                )?;
-                frames.own.truncate(own_end);
-            }
+            let pending_end = frames.pending.len();
+            let own_end = frames.own.len();
+            let runs_end = frames.runs.len();
+            frames.enter(pending_from, runs_from, column)?;
+            branch(
+                frames,
+                chosen.with(column),
+                rest,
+                pending_end,
+                runs_end,
+                found,
+            )?;
+            frames.own.truncate(own_end);
+            frames.runs.truncate(runs_end);
             frames.prune(pending_from, column, rest)?;
-            branch(frames, chosen, rest, pending_from, own_from, found)
+            branch(frames, chosen, rest, pending_from, runs_from, found)
         }
     }
+}
+
+// Of the agree sets those that lie, as far as the columns go, inside no other: the large ones are looked at first. Of too many all
+// stay.
+fn outermost(
+    alloc: Global,
+    columns: ColSet,
+    agree_sets: Vec<ColSet>,
+) -> Result<Vec<ColSet>, AllocError>
+    ensures real { IfOk result (λ kept. (w : ℕ) → Listed w kept.items → Listed w agree_sets.items) }
+    ensures all { IfOk result (λ kept. (w : ℕ) → Listed w agree_sets.items → list_any (λ v. subset (inter w columns) v) kept.items ≡ true) }
+{
+    if agree_sets.len() > MANY {
+        return Ok(agree_sets);
+    }
+    let mut rest = sorted(agree_sets);
+    let mut kept = Vec::new(alloc);
+    while let Some(w) = rest.pop() {
+        if !is_inside(kept.as_slice(), columns, w) {
+            kept.push(w)?;
+        }
+    }
+    Ok(kept)
 }
 
 // The least sets among the columns against these agree sets, in no order.
@@ -335,8 +426,9 @@ pub(crate) fn least(
         }
     }
     let mut frames = Frames {
-        pending,
+        pending: outermost(alloc, columns, pending)?,
         own: Vec::new(alloc),
+        runs: Vec::new(alloc),
     };
     let mut found = Vec::new(alloc);
     branch(&mut frames, ColSet::empty(), columns, 0, 0, &mut found)?;

@@ -13,7 +13,7 @@ ghost use Rattle.candidate_cover.specs.Pairs as pairs;
 ghost use Rattle.candidate_cover.specs.declared.cand.Cand.{Cand};
 
 use crate::cand::{Cand, Mark};
-use crate::place::{place_near, place_of};
+use crate::place::{place_about, place_near, place_of};
 use rel_base::{ColSet, RowNo};
 use std::alloc::{AllocError, Global};
 use std::marker::Model;
@@ -28,10 +28,12 @@ struct Lists {
 
 /// The candidates of a target in report order: a scan for left sides reads 16 bytes a candidate, a copy 21.
 ///
-/// Contracts see the pairs of left sides and marks.
+/// Contracts see the pairs of left sides and marks, and nothing of the place that was written last: calls that follow the list's
+/// order look there first.
 #[derive(Drop)]
 pub(crate) struct CandList {
     lists: Lists,
+    last: usize,
 }
 
 impl Model for CandList {
@@ -122,7 +124,7 @@ impl CandList {
         requires order { pairs.IsInOrder (pairs_of lists.sets.items lists.uptos.items lists.helds.items) }
         ensures { result ≡ pairs_of lists.sets.items lists.uptos.items lists.helds.items }
     {
-        CandList { lists }
+        CandList { lists, last: 0 }
     }
 
     // The empty set alone, of which nothing is known.
@@ -147,12 +149,27 @@ impl CandList {
         ensures value { result ≡ value_at self.now x }
         ensures order { pairs.IsInOrder self.now }
     {
-        match place_of(self.lists.sets.as_slice(), x) {
-            Ok(place) => Some(Mark {
-                upto: self.lists.uptos[place],
-                held: self.lists.helds[place],
-            }),
-            Err(_) => None,
+        let mut near = self.last;
+        self.get_near(x, &mut near)
+    }
+
+    // The marks of a left side, which is looked for about a place first. The place becomes the one at which it stands or would stand.
+    pub(crate) fn get_near(&self, x: ColSet, near: &mut usize) -> Option<Mark>
+        ensures value { result ≡ value_at self.now x }
+        ensures order { pairs.IsInOrder self.now }
+    {
+        match place_about(self.lists.sets.as_slice(), *near, x) {
+            Ok(place) => {
+                *near = place;
+                Some(Mark {
+                    upto: self.lists.uptos[place],
+                    held: self.lists.helds[place],
+                })
+            }
+            Err(place) => {
+                *near = place;
+                None
+            }
         }
     }
 
@@ -161,10 +178,11 @@ impl CandList {
         ensures found { result ≡ is_key self.old x }
         ensures pairs { self.new ≡ with_value self.old x mark }
     {
-        match place_of(self.lists.sets.as_slice(), x) {
+        match place_about(self.lists.sets.as_slice(), self.last, x) {
             Ok(place) => {
                 self.lists.uptos[place] = mark.upto;
                 self.lists.helds[place] = mark.held;
+                self.last = place;
                 true
             }
             Err(_) => false,
@@ -308,7 +326,7 @@ impl CandList {
         ensures found { (p : Cand → Bool) → ((c : Cand) (b : Bool) → F.post test c b → b ≡ p c) → result ≡ find p (from left (cands self.now)) }
         ensures order { pairs.IsInOrder self.now }
     {
-        let start = match place_of(self.lists.sets.as_slice(), left) {
+        let start = match place_about(self.lists.sets.as_slice(), self.last, left) {
             Ok(place) => place,
             Err(place) => place,
         };

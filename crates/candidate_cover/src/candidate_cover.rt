@@ -6,7 +6,7 @@ ghost use Rattle.col_set.specs.Target.{IsColumnTarget, has_target};
 ghost use Rattle.col_set.specs.Evidence.{least};
 ghost use Rattle.col_set.specs.Lists.{Listed};
 ghost use Rattle.candidate_cover.specs.Cands as words;
-ghost use Rattle.candidate_cover.specs.Cands.{width, cands_of, with_list, lefts, is_listed, kept_or_fresh, marked, holding, all_free, freed, from, IsInOrder};
+ghost use Rattle.candidate_cover.specs.Cands.{width, cands_of, with_list, lefts, is_listed, kept_or_fresh, marked, holding, upto_of, all_free, freed, from, IsInOrder};
 ghost use Rattle.candidate_cover.specs.AllMarked.{marked_throughout, refreshed_throughout};
 ghost use Rattle.candidate_cover.specs.Sizes.{is_between};
 ghost use Rattle.candidate_cover.specs.Drafts.{AreLeast};
@@ -98,9 +98,9 @@ impl CandidateCover {
     /// The candidates of a target in report order, where the withdrawn agree sets have left the rest.
     ///
     /// What comes back lies inside a withdrawn set that lacks the target and inside no such set of the rest; candidates that
-    /// contain one of these are dropped. Nothing changes here; `put` makes the part the target's list. A step is one test of a
-    /// column set against an agree set. It copies the target's list, compares it with each set that comes back, and takes for
-    /// each withdrawn set that lies inside no other a pass over the rest.
+    /// contain one of these are dropped. Nothing changes here; `put` makes the part the target's list. It copies the target's list,
+    /// compares it with each set that comes back, and takes for each withdrawn set that lies inside no other a pass over the rest,
+    /// where a step is one test against an agree set; what comes back is found by branches, in a microsecond or so each.
     pub fn generalise<L: Ledger>(
         &self,
         alloc: Global,
@@ -117,7 +117,7 @@ impl CandidateCover {
     {
         let columns = self.columns();
         let choices = choices(columns, target);
-        let sets = explored(alloc, columns, choices, target, rest, withdrawn, steps)?;
+        let sets = explored(alloc, choices, target, rest, withdrawn, steps)?;
         let made = generalised(alloc, sets, self.cand_list(target))?;
         Ok(Part::of(made))
     }
@@ -238,10 +238,27 @@ impl CandidateCover {
     /// The row below which a candidate is known to hold, where it is listed. It looks the candidate up.
     pub fn upto(&self, target: Target, x: ColSet) -> Option<RowNo>
         requires { IsColumnTarget (width self.now) target }
-        ensures { IfSome result (λ upto. (c : Cand) × Listed c (cands_of self.now target) × (c.left ≡ x) × (c.upto ≡ upto)) }
+        ensures listed { IfSome result (λ upto. (c : Cand) × Listed c (cands_of self.now target) × (c.left ≡ x) × (c.upto ≡ upto)) }
+        ensures value { result ≡ upto_of (cands_of self.now target) x }
     {
-        let mark = self.cand_list(target).get(x)?;
-        Some(mark.upto)
+        match self.cand_list(target).get(x) {
+            Some(mark) => Some(mark.upto),
+            None => None,
+        }
+    }
+
+    /// The row below which a candidate is known to hold, where it is listed, for who asks for many in report order.
+    ///
+    /// The answer is that of `upto`, whatever `near` is. Some places about `near` are looked at first, so that where it was left by
+    /// the candidate before, the next one takes a step; `near` becomes the place at which the candidate stands or would stand.
+    pub fn upto_near(&self, target: Target, x: ColSet, near: &mut usize) -> Option<RowNo>
+        requires { IsColumnTarget (width self.now) target }
+        ensures { result ≡ upto_of (cands_of self.now target) x }
+    {
+        match self.cand_list(target).get_near(x, near) {
+            Some(mark) => Some(mark.upto),
+            None => None,
+        }
     }
 
     /// The first candidate of a target in report order that meets the test.

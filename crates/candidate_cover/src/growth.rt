@@ -1,13 +1,12 @@
 // How candidates grow past one more agree set, over lists of column sets.
-ghost use Rattle.std.specs.Prelude.{◌≡◌, ◌≤◌, ◌<◌, ◌++◌, ◌&&◌, not, map, OnOk, IfOk, false};
+ghost use Rattle.std.specs.Prelude.{◌≡◌, ◌≤◌, ◌<◌, ◌++◌, ◌&&◌, not, map, OnOk};
 ghost use Rattle.std.specs.List.{list_any};
 ghost use Rattle.col_set.specs.ColSet.{subset, has, with};
 ghost use Rattle.col_set.specs.Target.{IsColumnTarget};
 ghost use Rattle.candidate_cover.specs.Growth as words;
 
-use rel_base::{ColSet, MOST_COLUMNS, Steps, Target};
+use rel_base::{ColSet, MOST_COLUMNS, Target};
 use std::alloc::{AllocError, Global};
-use std::sync::ledger::Ledger;
 
 // The first columns but the target.
 pub(crate) fn choices(columns: u8, target: Target) -> ColSet
@@ -26,25 +25,6 @@ pub(crate) fn has_subset(sets: &[ColSet], x: ColSet) -> bool
     ensures { result ≡ list_any (λ y. subset y x) sets.now }
 {
     sets.iter().any(|y| y.subset_of(x))
-}
-
-// The sets with exactly one column outside z. A step a set.
-pub(crate) fn near<L: Ledger>(
-    alloc: Global,
-    z: ColSet,
-    sets: &[ColSet],
-    steps: &mut Steps<L>,
-) -> Result<Vec<ColSet>, AllocError>
-    ensures { IfOk result (λ found. found.items ≡ words.near z sets.now) }
-{
-    let mut found = Vec::new(alloc);
-    for x in sets {
-        steps.tick();
-        if x.minus(z).len() == 1 {
-            found.push(*x)?;
-        }
-    }
-    Ok(found)
 }
 
 // Makes the list that of the sets that have the column.
@@ -128,22 +108,4 @@ pub(crate) fn push_all_grown(
         }
     }
     Ok(())
-}
-
-// What grows out of the sets inside z, in a list of its own.
-pub(crate) fn grown(
-    alloc: Global,
-    columns: u8,
-    choices: ColSet,
-    z: ColSet,
-    inside: &[ColSet],
-    near: &[ColSet],
-) -> Result<Vec<ColSet>, AllocError>
-    requires { columns ≤ MOST_COLUMNS }
-    ensures { IfOk result (λ sets. sets.items ≡ words.grown columns choices z inside.now near.now) }
-{
-    let mut sets = Vec::new(alloc);
-    let mut blockers = Vec::new(alloc);
-    push_all_grown(&mut sets, &mut blockers, columns, choices, z, inside, near)?;
-    Ok(sets)
 }

@@ -1,4 +1,6 @@
 // Where a left side stands in a list in report order.
+ghost use Rattle.std.specs.Prelude.{◌≡◌, ◌≤◌, ◌<◌, ℕ, true, length, slice_index_or};
+ghost use Rattle.std.specs.declared.cmp.Ordering.TheVariants.{Less};
 ghost use Rattle.col_set.specs.ColSet.{report_cmp};
 ghost use Rattle.col_set.specs.Lists.{Rises};
 ghost use Rattle.candidate_cover.specs.Place.{IsPlace};
@@ -13,13 +15,62 @@ pub(crate) fn place_of(sets: &[ColSet], x: ColSet) -> Result<usize, usize>
     sets.binary_search_by(|y| y.cmp_report(x))
 }
 
-// The place of the set, or the place at which it would stand, by a look at one place first.
+// Whether the sets up to a place stand before x.
+fn are_before(sets: &[ColSet], place: usize, x: ColSet) -> bool
+    requires order { Rises report_cmp sets.now }
+    requires place { place ≤ length sets.now }
+    ensures { result ≡ true → (k d : ℕ) → k < place → report_cmp (slice_index_or sets.now k d) x ≡ Less }
+{
+    if place == 0 {
+        return true;
+    }
+    sets[place - 1].cmp_report(x).is_lt()
+}
+
+// Whether the sets from a place on stand after x.
+fn are_after(sets: &[ColSet], place: usize, x: ColSet) -> bool
+    requires { Rises report_cmp sets.now }
+    ensures { result ≡ true → (k d : ℕ) → place ≤ k → k < length sets.now → report_cmp x (slice_index_or sets.now k d) ≡ Less }
+{
+    if place >= sets.len() {
+        return true;
+    }
+    x.cmp_report(sets[place]).is_lt()
+}
+
+// The place of the set, or the place at which it would stand, by a look at one place and the one before it first.
 pub(crate) fn place_near(sets: &[ColSet], first: usize, x: ColSet) -> Result<usize, usize>
     requires { Rises report_cmp sets.now }
     ensures { IsPlace sets.now x result }
 {
+    if first > sets.len() {
+        return place_of(sets, x);
+    }
     if first < sets.len() && sets[first] == x {
         return Ok(first);
+    }
+    if are_before(sets, first, x) && are_after(sets, first, x) {
+        return Err(first);
+    }
+    place_of(sets, x)
+}
+
+// So many places before a remembered one, and so many from there on, are looked at before the list is searched.
+const BEFORE: usize = 3;
+
+const AFTER: usize = 5;
+
+// The place of the set, or the place at which it would stand, by a look at a place and those about it first: calls mostly follow
+// the list's order, and those of several threads nearly do.
+pub(crate) fn place_about(sets: &[ColSet], near: usize, x: ColSet) -> Result<usize, usize>
+    requires { Rises report_cmp sets.now }
+    ensures { IsPlace sets.now x result }
+{
+    let end = sets.len().min(near.saturating_add(AFTER));
+    for place in near.saturating_sub(BEFORE)..end {
+        if sets[place] == x {
+            return Ok(place);
+        }
     }
     place_of(sets, x)
 }

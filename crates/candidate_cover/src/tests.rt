@@ -392,6 +392,14 @@ fn marks_stay_with_their_candidates(rt: HostRuntime) -> Result<(), Fail> {
     };
     assert!(rt; list[0] == third && list[1].upto == RowNo::first());
     assert!(rt; cover.first(Target::RowId, |cand| cand.upto.number() > 1) == Some(third));
+    let mut near = 7;
+    assert!(rt; cover.upto_near(Target::RowId, set(&[2]), &mut near) == Some(four) && near == 0);
+    assert!(rt;
+        cover
+            .upto_near(Target::RowId, set(&[0]), &mut near)
+            .is_none()
+    );
+    assert!(rt; cover.upto(Target::RowId, set(&[0])).is_none());
     Ok(())
 }
 

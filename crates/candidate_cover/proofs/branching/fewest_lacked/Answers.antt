@@ -1,16 +1,16 @@
 use Rattle.std.proofs.Common.{sym, subst}
 use Rattle.candidate_cover.proofs.Branches.{FewestSoFar, fewest_at, fewest_low, fewest_lacks, fewest_none}
 use Rattle.candidate_cover.proofs.branching.fewest_lacked.Goals as goal
-use Rattle.candidate_cover.proofs.branching.fewest_lacked.Goals.{then-len, else-len}
+use Rattle.candidate_cover.proofs.branching.fewest_lacked.Goals.{then-count-least, else-count-least}
 
 pub loop-w-init : goal.loop-w-init
 loop-w-init c = fewest_at c.args.pending.now c.args.free c.minus-fewest.result 0 c.index-pending-0.result c.requires c.index-pending-0.is c.minus-fewest.ensures
 
 pub loop-w-preserved : goal.loop-w-preserved
-loop-w-preserved c = elim c.if-len.branch [
-  | then-len w ↦ subst (FewestSoFar c.args.pending.now c.args.free) (sym w.fewest-is)
+loop-w-preserved c = elim c.if-count-least.branch [
+  | then-count-least w ↦ subst (FewestSoFar c.args.pending.now c.args.free) (sym w.fewest-is)
       (fewest_at c.args.pending.now c.args.free c.minus-lacked.result c.loop-w.w-index c.w-item.result c.loop-w-test.true c.w-item.is c.minus-lacked.ensures)
-  | else-len w ↦ subst (FewestSoFar c.args.pending.now c.args.free) (sym w.fewest-is) c.loop-w.invariant
+  | else-count-least w ↦ subst (FewestSoFar c.args.pending.now c.args.free) (sym w.fewest-is) c.loop-w.invariant
 ]
 
 pub returns-clause-low : goal.returns-clause-low

@@ -1,11 +1,15 @@
-use Rattle.std.proofs.Common.{◌∙◌, sym, arith}
+use Rattle.std.proofs.Common.{◌∙◌, ℕ, sym, ap, arith}
 use Rattle.std.proofs.lemmas.List.Filters.{FiltersInPlace-more_set}
+use Rattle.col_set.specs.ColSet.{with}
 use Rattle.candidate_cover.proofs.Splitting.{passed_in_place}
+use Rattle.candidate_cover.proofs.Branches.{single_inside}
 use Rattle.candidate_cover.proofs.branching.move_having.Goals as goal
-use Rattle.candidate_cover.proofs.branching.move_having.Goals.{then-has, else-has}
+use Rattle.candidate_cover.proofs.branching.move_having.Goals.{then-subset_of, else-subset_of}
 
 pub loop-place-preserved : goal.loop-place-preserved
-loop-place-preserved c = elim c.if-has.branch [
-  | then-has w ↦ rw w.kept-is (FiltersInPlace-more_set c.loop-place.invariant (omega arith) (sym c.has.ensures ∙ w.if-has.true) c.index-sets-place.is)
-  | else-has w ↦ rw w.kept-is (passed_in_place c.loop-place.invariant (omega arith) (sym c.has.ensures ∙ w.if-has.false) c.index-sets-place.is)
-]
+loop-place-preserved c =
+    let told = sym (single_inside c.args.column c.index-sets-place.result c.with-single.result (c.with-single.ensures ∙ ap (λ (v : ℕ). with v c.args.column) c.empty.ensures)) ∙ sym c.subset_of.ensures in
+    elim c.if-subset_of.branch [
+      | then-subset_of w ↦ rw w.kept-is (FiltersInPlace-more_set c.loop-place.invariant (omega arith) (told ∙ w.if-subset_of.true) c.index-sets-place.is)
+      | else-subset_of w ↦ rw w.kept-is (passed_in_place c.loop-place.invariant (omega arith) (told ∙ w.if-subset_of.false) c.index-sets-place.is)
+    ]

@@ -1,17 +1,14 @@
-use Rattle.std.proofs.Common.{◌≡◌, ◌<◌, ◌^◌, ◌++◌, ◌∷◌, [], List, ℕ, sym, ap, ◌∙◌, subst, take, refl, false, not, ◌&&◌}
+use Rattle.std.proofs.Common.{◌≡◌, ◌++◌, ◌∷◌, [], List, ℕ, sym, ap, ◌∙◌, subst, take, refl, false, not, ◌&&◌}
 use Rattle.std.proofs.lemmas.Bool.{true≢false}
 use Rattle.col_set.specs.Target.{has_target}
 use Rattle.col_set.specs.Evidence.{refuted}
 use Rattle.candidate_cover.specs.Growth.{ListsLeast}
-use Rattle.candidate_cover.proofs.Exploring.{explored_none, explored_more, explored_pass, explored_next, explored_as, inter_few, lacks_of, item_has}
+use Rattle.candidate_cover.proofs.Exploring.{explored_none, explored_more, explored_pass, explored_next, explored_as, lacks_of, item_has}
 use Rattle.candidate_cover.proofs.explore.explored.Goals as goal
 use Rattle.candidate_cover.proofs.explore.explored.Goals.{then-is_new+in_ok-found+in_ok-extend_from_slice+in_ok-push, else-is_new}
 
 pub loop-w-init : goal.loop-w-init
 loop-w-init g c = record { explored = explored_none c.args.choices c.args.rest.now c.args.target c.new-tops.result.items c.new-sets.result.items c.new-tops.ensures.items c.new-sets.ensures.items; idle = λ h. refl }
-
-pub least_among-requires-clause-few : goal.least_among-requires-clause-few
-least_among-requires-clause-few g c = subst (λ (x : ℕ). x < 2 ^ c.args.columns) (sym c.inter.ensures) (inter_few c.args.columns c.args.choices c.w-item.result c.requires.few)
 
 pub loop-w-preserved : goal.loop-w-preserved
 loop-w-preserved g c =

@@ -1,7 +1,9 @@
-use Rattle.std.proofs.Common.{◌∙◌, sym}
+use Rattle.std.proofs.Common.{◌<◌, ◌∙◌, length, sym, rules}
 use Rattle.std.proofs.lemmas.Bool.{eqb-true}
 use Rattle.candidate_cover.proofs.Places.{place_seen}
 use Rattle.candidate_cover.proofs.place.place_near.Goals as goal
 
 pub returns-then-eq : goal.returns-then-eq
-returns-then-eq c = place_seen c.args.sets.now c.args.x c.index-sets-first.result c.args.first c.requires c.if-first-sets.true c.index-sets-first.is (eqb-true c.index-sets-first.result c.args.x (sym c.eq.ensures ∙ c.if-eq.true))
+returns-then-eq c =
+    let l : c.args.first < length c.args.sets.now = search rules in
+    place_seen c.args.sets.now c.args.x c.index-sets-first.result c.args.first c.requires l c.index-sets-first.is (eqb-true c.index-sets-first.result c.args.x (sym c.eq.ensures ∙ c.if-eq.true))

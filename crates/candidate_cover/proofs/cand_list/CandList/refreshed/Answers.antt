@@ -1,4 +1,4 @@
-use Rattle.std.proofs.Common.{◌∙◌, sym, ap, subst, map, List, ℕ}
+use Rattle.std.proofs.Common.{◌∙◌, sym, ap, subst, map}
 use Rattle.col_set.specs.ColSet.{report_cmp}
 use Rattle.col_set.specs.Lists.{Rises}
 use Rattle.candidate_cover.specs.Cands.{fresh, kept_or_fresh}

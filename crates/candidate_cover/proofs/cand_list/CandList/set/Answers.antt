@@ -6,8 +6,8 @@ use Rattle.candidate_cover.proofs.Places.{is_key-stands, is_key-lacks, with_valu
 use Rattle.candidate_cover.proofs.Flat.{flat_rises, stands_keys, lacks_keys, flat_set, even-set}
 use Rattle.candidate_cover.proofs.cand_list.CandList.set.Goals as goal
 
-pub place_of-requires : goal.place_of-requires
-place_of-requires c = subst (Rises report_cmp) (sym c.as_slice.ensures.value) (flat_rises c.self.inside.lists.sets.items c.self.inside.lists.uptos.items c.self.inside.lists.helds.items c.self.invariant.0 c.self.invariant.1)
+pub place_about-requires : goal.place_about-requires
+place_about-requires c = subst (Rises report_cmp) (sym c.as_slice.ensures.value) (flat_rises c.self.inside.lists.sets.items c.self.inside.lists.uptos.items c.self.inside.lists.helds.items c.self.invariant.0 c.self.invariant.1)
 
 pub invariant_of-self : goal.invariant_of-self
 invariant_of-self c =

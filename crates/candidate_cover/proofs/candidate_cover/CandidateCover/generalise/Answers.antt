@@ -1,16 +1,11 @@
-use Rattle.std.proofs.Common.{◌≡◌, ◌<◌, ◌^◌, ◌∙◌, ℕ, List, ◌++◌, map, sym, ap, ap₂, subst}
+use Rattle.std.proofs.Common.{◌≡◌, ◌∙◌, ℕ, List, ◌++◌, map, sym, ap, ap₂, subst}
 use Rattle.col_set.specs.Evidence.{least}
-use Rattle.col_set.specs.Subsets.{IsSubset-refl}
 use Rattle.candidate_cover.specs.declared.cand.Cand.{Cand}
-use Rattle.candidate_cover.specs.Growth.{choices, IsExplored}
+use Rattle.candidate_cover.specs.Growth.{IsExplored}
 use Rattle.candidate_cover.specs.Cands.{lefts, kept_or_fresh}
 use Rattle.candidate_cover.specs.Marks.{cands}
-use Rattle.candidate_cover.proofs.Evidence.{choice_parts}
 use Rattle.candidate_cover.proofs.Parts.{marks_kept, general_least, general_marks}
 use Rattle.candidate_cover.proofs.candidate_cover.CandidateCover.generalise.Goals as goal
-
-pub explored-requires-clause-few : goal.explored-requires-clause-few
-explored-requires-clause-few g c = subst (λ (u : ℕ). u < 2 ^ c.columns-columns.result) (sym c.choices-choices.ensures) (choice_parts c.columns-columns.result c.args.target (choices c.columns-columns.result c.args.target) (IsSubset-refl _)).0
 
 pub returns-clause-least : goal.returns-clause-least
 returns-clause-least g c =
