@@ -160,14 +160,22 @@ impl Dict {
         self.places.len() as u32
     }
 
-    /// Makes room for so many cells to come, so that the map is not laid out anew again and again as they come. Where memory is
-    /// wanting there is less room.
+    /// Makes room for so many cells to come, nearly all of them new, so that the map is not laid out anew again and again as they come.
+    /// Where memory is wanting there is less room. Until `expect_known` no code is guessed.
     pub fn expect(&mut self, cells: usize)
         ensures { self.new ≡ self.old }
     {
+        self.recent.rest(self.alloc);
         if self.known.reserve(cells).is_ok() {
             let _ = self.places.reserve(cells);
         }
+    }
+
+    /// Looks for each cell to come among those coded lately again.
+    pub fn expect_known(&mut self)
+        ensures { self.new ≡ self.old }
+    {
+        self.recent.wake();
     }
 
     /// Drops the codes from n on, as if their cells had not been seen. It takes a step a code dropped, and no memory.

@@ -26,6 +26,7 @@ struct Guess {
 #[derive(Drop)]
 pub struct Recent {
     guesses: Vec<Guess>,
+    rests: bool,
 }
 
 impl Recent {
@@ -33,7 +34,19 @@ impl Recent {
     pub fn new(alloc: Global) -> Recent {
         Recent {
             guesses: Vec::new(alloc),
+            rests: false,
         }
+    }
+
+    // Guesses nothing until it is woken: among cells that are nearly all new a guess is a look at memory that is far, for nothing.
+    pub fn rest(&mut self, alloc: Global) {
+        self.guesses = Vec::new(alloc);
+        self.rests = true;
+    }
+
+    // Guesses again.
+    pub fn wake(&mut self) {
+        self.rests = false;
     }
 
     // The code that a cell of this mark may have.
@@ -51,6 +64,9 @@ impl Recent {
 
     // Notes the code of a cell of this mark, one of so many codes. For want of memory there are fewer guesses.
     pub fn note(&mut self, alloc: Global, mark: u64, code: u32, codes: usize) {
+        if self.rests {
+            return;
+        }
         let slots = self.guesses.len();
         if slots < MOST && slots / 2 < codes {
             self.grow(alloc, if slots < LEAST { LEAST } else { slots * 8 });

@@ -68,7 +68,7 @@ impl Column {
         requires few { length self.old.cells + length rows.now ≤ MOST_ROWS }
         ensures { OnOk result (self.new ≡ record { nulls = self.old.nulls; cells = self.old.cells ++ map (λ row. cell row place) rows.now }) }
     {
-        self.expect_as_many_new();
+        self.expect_as_before();
         for row in rows {
             self.push(row.cell(place))?;
         }
@@ -76,12 +76,14 @@ impl Column {
     }
 
     // Where nearly all cells that came were new, makes room in the dictionary for as many as there is room for codes.
-    fn expect_as_many_new(&mut self)
+    fn expect_as_before(&mut self)
         ensures { self.new ≡ self.old }
     {
         let rows = self.codes.own.len();
         if self.dict.len() as usize > rows - rows / 8 {
             self.dict.expect(self.codes.own.capacity() - rows);
+        } else {
+            self.dict.expect_known();
         }
     }
 

@@ -17,3 +17,4 @@ pub mod Coding
 pub mod Refining
 pub mod Whole
 pub mod SplitPair
+pub mod PairParts

@@ -102,6 +102,53 @@ fn split_group(
     Ok(())
 }
 
+// Adds the one part of a group of two rows, if they have one code and it has a slot, of which there are so many.
+//
+// Most groups of partitions by a few columns are pairs: for one it takes no slot, and so no look at memory that is far.
+fn split_pair(
+    groups: &mut Groups,
+    slots: usize,
+    rows: &[RowNo],
+    codes: &[u32],
+) -> Result<(), AllocError>
+    requires pair { length rows.now ≡ 2 }
+    requires coded { length codes.now ≡ length rows.now }
+    requires short { vec_len groups.old.rows + length rows.now ≤ MOST_ROWS }
+    ensures rows { OnOk result (groups.new.rows.items ≡ groups.old.rows.items ++ concat (parts slots (zip rows.now codes.now))) }
+    ensures ends { OnOk result (groups.new.ends.items ≡ groups.old.ends.items ++ ends_of (vec_len groups.old.rows) (parts slots (zip rows.now codes.now))) }
+{
+    let code = codes[0];
+    if codes[1] != code || code as usize >= slots {
+        return Ok(());
+    }
+    groups.rows.push(rows[0])?;
+    groups.rows.push(rows[1])?;
+    groups.ends.push(groups.rows.len() as u32)?;
+    Ok(())
+}
+
+// Adds the parts of a group, where all slots are clear, and leaves them clear.
+fn split_clear(
+    groups: &mut Groups,
+    slots: &mut [u32],
+    rows: &[RowNo],
+    codes: &[u32],
+) -> Result<(), AllocError>
+    requires short { vec_len groups.old.rows + length rows.now ≤ MOST_ROWS }
+    requires coded { length codes.now ≡ length rows.now }
+    requires clear { slots.old ≡ replicate (length slots.old) 0 }
+    ensures rows { OnOk result (groups.new.rows.items ≡ groups.old.rows.items ++ concat (parts (length slots.old) (zip rows.now codes.now))) }
+    ensures ends { OnOk result (groups.new.ends.items ≡ groups.old.ends.items ++ ends_of (vec_len groups.old.rows) (parts (length slots.old) (zip rows.now codes.now))) }
+    ensures clear { OnOk result (slots.new ≡ replicate (length slots.old) 0) }
+{
+    if rows.len() == 2 {
+        return split_pair(groups, slots.len(), rows, codes);
+    }
+    split_group(groups, slots, rows, codes)?;
+    clear(slots, codes);
+    Ok(())
+}
+
 // Adds the parts of each group.
 fn split_groups(
     groups: &mut Groups,
@@ -120,8 +167,7 @@ fn split_groups(
     let mut start = 0;
     for end in ends {
         let end = *end as usize;
-        split_group(groups, slots, &rows[start..end], &codes[start..end])?;
-        clear(slots, &codes[start..end]);
+        split_clear(groups, slots, &rows[start..end], &codes[start..end])?;
         start = end;
     }
     Ok(())

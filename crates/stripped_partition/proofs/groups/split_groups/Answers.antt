@@ -22,60 +22,44 @@ within bound rows codes ends rows_made ends_made slots i start is coded p l =
     let e = length-slice rows start (get_or ends i 0) (omega arith) (omega arith) in
     (a, omega arith, omega arith)
 
-pub slice_bounds-split_group-count : goal.slice_bounds-split_group-count
-slice_bounds-split_group-count c =
+pub slice_bounds-split_clear-count : goal.slice_bounds-split_clear-count
+slice_bounds-split_clear-count c =
     let w = within (length c.loop-end.slots) c.args.rows.now c.args.codes.now c.args.ends.now c.loop-end.groups.rows.items c.loop-end.groups.ends.items c.loop-end.slots c.loop-end.end-index c.loop-end.start c.requires.cut c.requires.coded c.loop-end.invariant c.loop-end-test.true in
     let a = w.0 in omega arith
 
-pub slice_bounds-split_group-start : goal.slice_bounds-split_group-start
-slice_bounds-split_group-start c =
+pub slice_bounds-split_clear-start : goal.slice_bounds-split_clear-start
+slice_bounds-split_clear-start c =
     let w = within (length c.loop-end.slots) c.args.rows.now c.args.codes.now c.args.ends.now c.loop-end.groups.rows.items c.loop-end.groups.ends.items c.loop-end.slots c.loop-end.end-index c.loop-end.start c.requires.cut c.requires.coded c.loop-end.invariant c.loop-end-test.true in
     let a = w.0 in let g : c.loop-end.start ≤ get_or c.args.ends.now c.loop-end.end-index 0 = omega arith in search rules
 
-pub slice_bounds-split_group-end : goal.slice_bounds-split_group-end
-slice_bounds-split_group-end c =
+pub slice_bounds-split_clear-end : goal.slice_bounds-split_clear-end
+slice_bounds-split_clear-end c =
     let w = within (length c.loop-end.slots) c.args.rows.now c.args.codes.now c.args.ends.now c.loop-end.groups.rows.items c.loop-end.groups.ends.items c.loop-end.slots c.loop-end.end-index c.loop-end.start c.requires.cut c.requires.coded c.loop-end.invariant c.loop-end-test.true in
     let g : get_or c.args.ends.now c.loop-end.end-index 0 ≤ length c.args.rows.now = w.1 in search rules
 
-pub slice_bounds-split_group-count-in-loop-end : goal.slice_bounds-split_group-count-in-loop-end
-slice_bounds-split_group-count-in-loop-end c =
+pub slice_bounds-split_clear-count-in-loop-end : goal.slice_bounds-split_clear-count-in-loop-end
+slice_bounds-split_clear-count-in-loop-end c =
     let w = within (length c.loop-end.slots) c.args.rows.now c.args.codes.now c.args.ends.now c.loop-end.groups.rows.items c.loop-end.groups.ends.items c.loop-end.slots c.loop-end.end-index c.loop-end.start c.requires.cut c.requires.coded c.loop-end.invariant c.loop-end-test.true in
     let a = w.0 in omega arith
 
-pub slice_bounds-split_group-start-in-loop-end : goal.slice_bounds-split_group-start-in-loop-end
-slice_bounds-split_group-start-in-loop-end c =
+pub slice_bounds-split_clear-start-in-loop-end : goal.slice_bounds-split_clear-start-in-loop-end
+slice_bounds-split_clear-start-in-loop-end c =
     let w = within (length c.loop-end.slots) c.args.rows.now c.args.codes.now c.args.ends.now c.loop-end.groups.rows.items c.loop-end.groups.ends.items c.loop-end.slots c.loop-end.end-index c.loop-end.start c.requires.cut c.requires.coded c.loop-end.invariant c.loop-end-test.true in
     let a = w.0 in let g : c.loop-end.start ≤ get_or c.args.ends.now c.loop-end.end-index 0 = omega arith in search rules
 
-pub slice_bounds-split_group-end-in-loop-end : goal.slice_bounds-split_group-end-in-loop-end
-slice_bounds-split_group-end-in-loop-end c =
+pub slice_bounds-split_clear-end-in-loop-end : goal.slice_bounds-split_clear-end-in-loop-end
+slice_bounds-split_clear-end-in-loop-end c =
     let w = within (length c.loop-end.slots) c.args.rows.now c.args.codes.now c.args.ends.now c.loop-end.groups.rows.items c.loop-end.groups.ends.items c.loop-end.slots c.loop-end.end-index c.loop-end.start c.requires.cut c.requires.coded c.loop-end.invariant c.loop-end-test.true in
     let b = w.1 in let e = c.requires.coded in
     let g : get_or c.args.ends.now c.loop-end.end-index 0 ≤ length c.args.codes.now = omega arith in search rules
 
-pub split_group-requires-clause-short : goal.split_group-requires-clause-short
-split_group-requires-clause-short c =
+pub split_clear-requires-clause-short : goal.split_clear-requires-clause-short
+split_clear-requires-clause-short c =
     let w = within (length c.loop-end.slots) c.args.rows.now c.args.codes.now c.args.ends.now c.loop-end.groups.rows.items c.loop-end.groups.ends.items c.loop-end.slots c.loop-end.end-index c.loop-end.start c.requires.cut c.requires.coded c.loop-end.invariant c.loop-end-test.true in
     let s = w.2 in omega (arith, c.loop-end.groups.rows.ok.0)
 
-pub split_group-requires-clause-clear : goal.split_group-requires-clause-clear
-split_group-requires-clause-clear c = c.loop-end.invariant.clear
-
-pub slice_bounds-clear-count : goal.slice_bounds-clear-count
-slice_bounds-clear-count c =
-    let w = within (length c.loop-end.slots) c.args.rows.now c.args.codes.now c.args.ends.now c.loop-end.groups.rows.items c.loop-end.groups.ends.items c.loop-end.slots c.loop-end.end-index c.loop-end.start c.requires.cut c.requires.coded c.loop-end.invariant c.loop-end-test.true in
-    let a = w.0 in omega arith
-
-pub slice_bounds-clear-start : goal.slice_bounds-clear-start
-slice_bounds-clear-start c =
-    let w = within (length c.loop-end.slots) c.args.rows.now c.args.codes.now c.args.ends.now c.loop-end.groups.rows.items c.loop-end.groups.ends.items c.loop-end.slots c.loop-end.end-index c.loop-end.start c.requires.cut c.requires.coded c.loop-end.invariant c.loop-end-test.true in
-    let a = w.0 in let g : c.loop-end.start ≤ get_or c.args.ends.now c.loop-end.end-index 0 = omega arith in search rules
-
-pub slice_bounds-clear-end : goal.slice_bounds-clear-end
-slice_bounds-clear-end c =
-    let w = within (length c.loop-end.slots) c.args.rows.now c.args.codes.now c.args.ends.now c.loop-end.groups.rows.items c.loop-end.groups.ends.items c.loop-end.slots c.loop-end.end-index c.loop-end.start c.requires.cut c.requires.coded c.loop-end.invariant c.loop-end-test.true in
-    let b = w.1 in let e = c.requires.coded in
-    let g : get_or c.args.ends.now c.loop-end.end-index 0 ≤ length c.args.codes.now = omega arith in search rules
+pub split_clear-requires-clause-clear : goal.split_clear-requires-clause-clear
+split_clear-requires-clause-clear c = c.loop-end.invariant.clear
 
 -- one more group is split
 more : (rows codes ends rows_made ends_made slots : List ℕ) (i start made : ℕ) → IsCut rows ends → length codes ≡ length rows → Splitted (length slots) (zip rows codes) ends rows_made ends_made slots i start → i < length ends
@@ -98,9 +82,9 @@ loop-end-preserved c =
     let at = c.loop-end.groups in
     let made : vec_len at.rows ≡ length at.rows.items = omega (arith, at.rows.ok.0) in
     more c.args.rows.now c.args.codes.now c.args.ends.now at.rows.items at.ends.items c.loop-end.slots c.loop-end.end-index c.loop-end.start (vec_len at.rows) c.requires.cut c.requires.coded c.loop-end.invariant c.loop-end-test.true
-    (get_or c.args.ends.now c.loop-end.end-index 0) c.split_group.new.groups.rows.items c.split_group.new.groups.ends.items c.clear.new.slots refl made c.in_ok-split_group.ensures.rows c.in_ok-split_group.ensures.ends
-    (c.clear.auto.slots ∙ c.split_group.auto.slots)
-    (c.clear.ensures ∙ ap (λ (n : ℕ). replicate n 0) (sym c.clear.auto.slots))
+    (get_or c.args.ends.now c.loop-end.end-index 0) c.split_clear.new.groups.rows.items c.split_clear.new.groups.ends.items c.split_clear.new.slots refl made c.in_ok-split_clear.ensures.rows c.in_ok-split_clear.ensures.ends
+    c.split_clear.auto.slots
+    (c.in_ok-split_clear.ensures.clear ∙ ap (λ (n : ℕ). replicate n 0) (sym c.split_clear.auto.slots))
 
 pub returns-clause-flat : goal.returns-clause-flat
 returns-clause-flat c = subst (λ (b : ℕ). IsFlat c.loop-end.groups.rows.items c.loop-end.groups.ends.items (flat_map (parts b) (cut 0 (zip c.args.rows.now c.args.codes.now) c.args.ends.now))) c.loop-end.auto.slots
