@@ -1,5 +1,5 @@
 -- Pairs of rows that are compared one after another.
-use Rattle.std.proofs.Common.{inl, inr, ◌≡◌, ◌≢◌, ◌⊎◌, ℕ, ◌+◌, ◌<◌, ◌≤◌, eqb, Bool, true, false, not, refl, sym, ap, ap₂, ◌∙◌, subst, arith, List, [], ◌∷◌, ◌++◌, map, length, get_or, slice_index, IsPermutation}
+use Rattle.std.proofs.Common.{inl, inr, ◌≡◌, ◌≢◌, ◌⊎◌, ℕ, ◌+◌, ◌<◌, ◌≤◌, eqb, true, false, refl, sym, ap, ap₂, ◌∙◌, subst, arith, List, [], ◌∷◌, ◌++◌, length, get_or, slice_index, IsPermutation}
 use Rattle.std.specs.List.{All, filter, list_any}
 use Rattle.std.proofs.lemmas.Bool.{eqb-true, true≢false, cases_eq}
 use Rattle.std.proofs.lemmas.List.Elements.{All-push}

@@ -1,9 +1,8 @@
 -- Cursors that go back to new candidates.
-use Rattle.std.proofs.Common.{inl, inr, ◌≡◌, ℕ, ◌+◌, ◌<◌, ◌≤◌, Bool, true, false, if◌then◌else◌, refl, sym, ap, ◌∙◌, subst, arith, Option, Some, None}
+use Rattle.std.proofs.Common.{◌≡◌, ℕ, ◌<◌, ◌≤◌, Bool, true, false, if◌then◌else◌, refl, sym, ◌∙◌, arith, Option, Some, None}
 use Rattle.std.specs.List.{find}
 use Rattle.std.specs.Ordering.{is_lt}
 use Rattle.std.proofs.lemmas.Bool.{true≢false}
-use Rattle.std.proofs.lemmas.Option.{same_Some}
 use Rattle.col_set.specs.declared.target.Target.{Target}
 use Rattle.col_set.specs.declared.target.Target.TheVariants.{Col, RowId}
 use Rattle.col_set.specs.ColSet.{report_cmp}

@@ -1,5 +1,5 @@
 -- All pairs of live rows as evidence, and what holds after they were booked.
-use Rattle.std.proofs.Common.{inl, inr, ◌≡◌, ◌≢◌, ◌⊎◌, ℕ, zero, suc, ◌<◌, max, true, false, refl, sym, ap, ap₂, ◌∙◌, subst, arith, List, [], ◌∷◌, ◌++◌, map, get_or, length}
+use Rattle.std.proofs.Common.{inl, inr, ◌≡◌, ◌≢◌, ℕ, zero, suc, ◌<◌, max, true, false, refl, sym, ap, ◌∙◌, subst, arith, List, [], ◌∷◌, map, get_or}
 use Rattle.std.specs.List.{All, Contains}
 use Rattle.std.proofs.lemmas.Bool.{true≢false, true_from_ne_false, cases_order}
 use Rattle.std.proofs.lemmas.List.{length-map}
@@ -10,20 +10,19 @@ use Rattle.col_set.specs.Target.{IsColumnTarget, has_target}
 use Rattle.col_set.specs.Lists.{Listed, Listed-map_which}
 use Rattle.col_set.proofs.Least.{refuted_inside}
 use Rattle.col_set.proofs.Places.{Listed-contained}
-use Rattle.rel_base.specs.CodeTable.{CodeTable, live_at}
+use Rattle.rel_base.specs.CodeTable.{CodeTable}
 use Rattle.rel_base.specs.RowState.{RowState, IsRowState, width, next, row}
 use Rattle.rel_base.specs.Shows.{Shows, code_agree}
 use Rattle.rel_base.specs.Validity.{agree_of}
 use Rattle.rel_base.proofs.Agree.{agree-symm}
 use Rattle.rel_base.proofs.Shown.{code_agree-shown}
 use Rattle.rel_base.proofs.States.{All-listed, All-from, live_positive, live_numbered}
-use Rattle.negative_cover.specs.declared.negative_cover.Witness.{Witness}
 use Rattle.negative_cover.specs.Witnesses.{sets_of}
 use Rattle.candidate_cover.specs.declared.cand.Cand.{Cand}
 use Rattle.candidate_cover.specs.Lists.{CandLists}
 use Rattle.candidate_cover.specs.Cands.{cands_of, lefts}
 use Rattle.candidate_cover.specs.AllMarked.{all_marked, marked_throughout}
-use Rattle.candidate_cover.specs.Drafts.{Drafted, is_news}
+use Rattle.candidate_cover.specs.Drafts.{is_news}
 use Rattle.cover_steps.specs.Core.{Core, cands}
 use Rattle.cover_steps.specs.Sound.{IsMarked, Sound}
 use Rattle.cover_steps.proofs.Keeping.{cand-least, cand-marked}

@@ -1,20 +1,17 @@
 -- A pass over the candidates, and evidence that is booked all at once.
-use Rattle.std.proofs.Common.{inl, inr, ◌≡◌, ◌⊎◌, ℕ, false, ◌^◌, ◌<◌, refl, sym, ap, ◌∙◌, subst, List, [], ◌++◌, append-nil, length, get_or}
+use Rattle.std.proofs.Common.{inl, inr, ◌≡◌, ◌⊎◌, ℕ, false, refl, sym, ◌∙◌, subst, List, [], ◌++◌, append-nil, length, get_or}
 use Rattle.std.specs.List.{All}
-use Rattle.col_set.specs.declared.target.Target.{Target}
 use Rattle.col_set.specs.Target.{IsColumnTarget}
 use Rattle.col_set.specs.Lists.{Listed, Listed-append_cases}
 use Rattle.rel_base.specs.CodeTable.{CodeTable}
-use Rattle.rel_base.specs.JobParts.{JobParts}
-use Rattle.rel_base.specs.RowState.{RowState, width, next}
+use Rattle.rel_base.specs.RowState.{width}
 use Rattle.rel_base.proofs.States.{All-listed, All-from}
 use Rattle.negative_cover.specs.declared.negative_cover.Witness.{Witness}
 use Rattle.negative_cover.specs.Witnesses.{sets_of}
-use Rattle.candidate_cover.specs.declared.cand.Cand.{Cand}
 use Rattle.candidate_cover.specs.Lists.{CandLists}
 use Rattle.candidate_cover.specs.Drafts.{Drafted, is_news}
 use Rattle.cover_steps.specs.Core.{Core, renewed}
-use Rattle.cover_steps.specs.Sound.{IsWitness, IsMarked, Sound, Fits}
+use Rattle.cover_steps.specs.Sound.{IsWitness, Sound}
 use Rattle.cover_steps.proofs.Fitting.{Fits-shown}
 use Rattle.cover_steps.proofs.Keeping.{Sound-renewed, Follows-itself, cand-least, cand-marked}
 use Rattle.cover_core.specs.declared.evidence.Evidence.{Evidence}

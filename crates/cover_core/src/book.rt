@@ -13,7 +13,7 @@ ghost use Rattle.cover_steps.specs.Core.{opened_core, entries, refutes_some, fir
 ghost use Rattle.cover_steps.specs.Steps as steps;
 ghost use Rattle.cover_steps.specs.Sound.{Sound, Fits};
 ghost use Rattle.negative_cover.specs.Witnesses.{sets_of};
-ghost use Rattle.candidate_cover.specs.Cands.{width as width_of};
+ghost use Rattle.candidate_cover.specs.AllMarked.{refreshed_throughout};
 ghost use Rattle.candidate_cover.specs.Drafts.{is_news};
 ghost use Rattle.cover_core.specs.Evidences.{IsEvidence, IsAllTold};
 ghost use Rattle.cover_core.specs.Judged.{IsHeld};
@@ -27,7 +27,7 @@ use crate::answers::{Draw, Refutation, Release, Settling};
 use crate::concerned::Concerned;
 use crate::cursor::{Cursors, Unfinished, is_late};
 use crate::evidence::{Evidence, news_of};
-use crate::judging::{Alone, Beside, Judges};
+use crate::judging::{Alone, Beside, Judges, judged_by_parts};
 use crate::known::Known;
 use crate::listed::listed;
 use crate::order::Order;
@@ -41,6 +41,7 @@ use crate::verdict::store_of;
 use crate::waiting::{Sizes, Waiting, count, of_sizes};
 use candidate_cover::{CandidateCover, Marking};
 use negative_cover::{NegativeCover, Witness};
+use ports::{Gate, OpenGate};
 use rel_base::{Batch, Covers, Job, Limits, Nulls, Relation, RowNo, Snapshot};
 use row_log::{Applying, RowLog};
 use std::alloc::{AllocError, Global};
@@ -49,6 +50,7 @@ use std::mem;
 use std::sync::Arc;
 use std::sync::ledger::Blank;
 use std::thread::Threads;
+use validator::Store;
 
 // Of so many live rows all pairs are compared.
 const FEW_ROWS: u32 = 1500;
@@ -365,70 +367,62 @@ impl Book {
         ensures fits { (job : JobParts) → Fits self.old.rows job → Fits self.new.rows job }
         ensures sound { Sound self.new }
     {
-        self.finish_with(&Alone)
-    }
-
-    /// What `finish` does, whose verdicts are made by so many workers at most beside each other; one worker is the thread of the caller
-    /// and no other.
-    ///
-    /// Each further worker has groups of rows of its own, for which there is once more the room of one store in all, and is let go of
-    /// with them at the end. A pass of few candidates is for the caller's thread alone.
-    pub fn finish_by<R: Threads + Sync>(
-        &mut self,
-        rt: &R,
-        workers: u8,
-    ) -> Result<Covers, AllocError>
-        ensures covers { IfOk result (λ found. found ≡ covers self.new.rows) }
-        ensures settled { OnOk result (first_unfinished_of self.new ≡ None) }
-        ensures free { OnOk result (All (λ e. e.1.held ≡ false) (entries self.new)) }
-        ensures rows { self.new.rows ≡ self.old.rows }
-        ensures witnesses { Extends self.old.witnesses self.new.witnesses }
-        ensures fits { (job : JobParts) → Fits self.old.rows job → Fits self.new.rows job }
-        ensures sound { Sound self.new }
-    {
-        self.finish_beside(rt, workers, LEAST_SHARED)
-    }
-
-    // What `finish_by` does, where this many candidates of a pass are worth threads.
-    pub(crate) fn finish_beside<R: Threads + Sync>(
-        &mut self,
-        rt: &R,
-        workers: u8,
-        least: usize,
-    ) -> Result<Covers, AllocError>
-        ensures covers { IfOk result (λ found. found ≡ covers self.new.rows) }
-        ensures settled { OnOk result (first_unfinished_of self.new ≡ None) }
-        ensures free { OnOk result (All (λ e. e.1.held ≡ false) (entries self.new)) }
-        ensures rows { self.new.rows ≡ self.old.rows }
-        ensures witnesses { Extends self.old.witnesses self.new.witnesses }
-        ensures fits { (job : JobParts) → Fits self.old.rows job → Fits self.new.rows job }
-        ensures sound { Sound self.new }
-    {
-        if workers < 2 {
-            return self.finish();
-        }
-        self.spread(workers - 1)?;
-        let found = self.finish_with(&Beside { rt, least });
-        self.stores.gather();
-        found
-    }
-
-    // What `finish` does, with verdicts by these.
-    fn finish_with<J: Judges>(&mut self, judges: &J) -> Result<Covers, AllocError>
-        requires { J.ready }
-        ensures covers { IfOk result (λ found. found ≡ covers self.new.rows) }
-        ensures settled { OnOk result (first_unfinished_of self.new ≡ None) }
-        ensures free { OnOk result (All (λ e. e.1.held ≡ false) (entries self.new)) }
-        ensures rows { self.new.rows ≡ self.old.rows }
-        ensures witnesses { Extends self.old.witnesses self.new.witnesses }
-        ensures fits { (job : JobParts) → Fits self.old.rows job → Fits self.new.rows job }
-        ensures sound { Sound self.new }
-    {
         self.free();
-        self.search(judges)?;
+        self.search(&Alone { gate: &OpenGate })?;
         while self.advance()? {}
         self.free();
         self.covers()
+    }
+
+    /// Seeks and books evidence as `finish` does, and answers what it saw to hold, but leaves each candidate to be drawn: nothing is
+    /// known of any, and none is held.
+    ///
+    /// So whoever draws the candidates finds most of them to be right, and knows most verdicts. It takes the time of `finish`, and a copy
+    /// of the candidates. The verdicts of a pass are made by so many workers at most beside each other, where the pass has many
+    /// candidates; one worker is the thread of the caller and no other. Each further worker has groups of rows of its own, for which
+    /// there is once more the room of one store in all, and which stay in the book. The gate is passed each time that
+    /// some thousands of verdicts were made.
+    ///
+    /// After want of memory the rows are the same, and the book is sound, with all witnesses that were booked so far.
+    pub fn seek<R: Threads + Sync, G: Gate>(
+        &mut self,
+        rt: &R,
+        workers: u8,
+        gate: &G,
+    ) -> Result<Known, AllocError>
+        ensures known { IfOk result (IsTrueOf self.new.rows) }
+        ensures unmarked { IfOk result (λ known. self.new.candidates ≡ refreshed_throughout known.candidates) }
+        ensures rows { self.new.rows ≡ self.old.rows }
+        ensures witnesses { Extends self.old.witnesses self.new.witnesses }
+        ensures fits { (job : JobParts) → Fits self.old.rows job → Fits self.new.rows job }
+        ensures sound { Sound self.new }
+    {
+        self.seek_beside(rt, workers, gate, LEAST_SHARED)
+    }
+
+    // What `seek` does, where this many candidates of a pass are worth threads.
+    pub(crate) fn seek_beside<R: Threads + Sync, G: Gate>(
+        &mut self,
+        rt: &R,
+        workers: u8,
+        gate: &G,
+        least: usize,
+    ) -> Result<Known, AllocError>
+        ensures known { IfOk result (IsTrueOf self.new.rows) }
+        ensures unmarked { IfOk result (λ known. self.new.candidates ≡ refreshed_throughout known.candidates) }
+        ensures rows { self.new.rows ≡ self.old.rows }
+        ensures witnesses { Extends self.old.witnesses self.new.witnesses }
+        ensures fits { (job : JobParts) → Fits self.old.rows job → Fits self.new.rows job }
+        ensures sound { Sound self.new }
+    {
+        self.free();
+        if workers < 2 {
+            self.search(&Alone { gate })?;
+        } else {
+            self.spread(workers - 1)?;
+            self.search(&Beside { rt, gate, least })?;
+        }
+        self.forget()
     }
 
     // Makes so many further stores.
@@ -436,61 +430,32 @@ impl Book {
         ensures same { self.new ≡ self.old }
         ensures sound { Sound self.new }
     {
-        self.stores.spread(self.alloc, &self.snapshot, count)
+        self.stores.spread(self.alloc, count)
     }
 
-    /// Seeks and books evidence as `finish` does, and answers what it saw to hold, but leaves each candidate to be drawn: nothing is
-    /// known of any, and none is held.
-    ///
-    /// So whoever draws the candidates finds most of them to be right, and knows most verdicts. It takes the time and the memory of
-    /// `finish`, and a copy of the candidates. After want of memory the rows are the same, and the book is sound, with all witnesses
-    /// that were booked so far.
-    pub fn seek(&mut self) -> Result<Known, AllocError>
-        ensures known { IfOk result (IsTrueOf self.new.rows) }
-        ensures wide { IfOk result (λ known. width_of known.candidates ≡ width self.new.rows) }
-        ensures rows { self.new.rows ≡ self.old.rows }
-        ensures witnesses { Extends self.old.witnesses self.new.witnesses }
+    /// Hands out the groups of rows that it keeps, to so many workers at most, in place of which it has none. A worker's store goes
+    /// over to the rows of its job (`Store::renew`); some have none to begin with. So a batch renews nothing in the call, and what
+    /// look-ups of new rows made serves whoever works next.
+    pub fn lend(&mut self, workers: usize) -> Result<Vec<Option<Store>>, AllocError>
+        ensures same { self.new ≡ self.old }
         ensures sound { Sound self.new }
     {
-        self.seek_with(&Alone)
+        self.stores.lend(self.alloc, &self.snapshot, workers)
     }
 
-    /// What `seek` does, whose verdicts are made by so many workers at most beside each other, as those of `finish_by` are.
-    pub fn seek_by<R: Threads + Sync>(&mut self, rt: &R, workers: u8) -> Result<Known, AllocError>
-        ensures known { IfOk result (IsTrueOf self.new.rows) }
-        ensures wide { IfOk result (λ known. width_of known.candidates ≡ width self.new.rows) }
-        ensures rows { self.new.rows ≡ self.old.rows }
-        ensures witnesses { Extends self.old.witnesses self.new.witnesses }
+    /// Takes back what it lent, as far as there is memory to share its rows with each store.
+    pub fn take_back(&mut self, lent: Vec<Option<Store>>)
+        ensures same { self.new ≡ self.old }
         ensures sound { Sound self.new }
     {
-        if workers < 2 {
-            return self.seek();
-        }
-        self.spread(workers - 1)?;
-        let least = LEAST_SHARED;
-        let known = self.seek_with(&Beside { rt, least });
-        self.stores.gather();
-        known
-    }
-
-    // What `seek` does, with verdicts by these.
-    fn seek_with<J: Judges>(&mut self, judges: &J) -> Result<Known, AllocError>
-        requires { J.ready }
-        ensures known { IfOk result (IsTrueOf self.new.rows) }
-        ensures wide { IfOk result (λ known. width_of known.candidates ≡ width self.new.rows) }
-        ensures rows { self.new.rows ≡ self.old.rows }
-        ensures witnesses { Extends self.old.witnesses self.new.witnesses }
-        ensures sound { Sound self.new }
-    {
-        self.free();
-        self.search(judges)?;
-        self.forget()
+        // A store that is lost is made anew when it is wanted.
+        let _ = self.stores.take_back(self.alloc, &self.snapshot, lent);
     }
 
     // Hands out all candidates with their marks, in place of which it has them without.
     fn forget(&mut self) -> Result<Known, AllocError>
         ensures known { IfOk result (IsTrueOf self.new.rows) }
-        ensures wide { IfOk result (λ known. width_of known.candidates ≡ width self.new.rows) }
+        ensures unmarked { IfOk result (λ known. self.new.candidates ≡ refreshed_throughout known.candidates) }
         ensures rows { self.new.rows ≡ self.old.rows }
         ensures witnesses { self.new.witnesses ≡ self.old.witnesses }
         ensures sound { Sound self.new }
@@ -500,11 +465,16 @@ impl Book {
         let candidates = mem::replace(&mut self.candidates, unmarked);
         self.cursors = Cursors::start();
         self.first = first_unfinished(&self.candidates, &mut self.cursors.unfinished, next);
-        Ok(Known { candidates, next })
+        Ok(Known {
+            candidates,
+            next,
+            live: self.rows.live_len(),
+        })
     }
 
-    // Lets go of all candidates, and of what is outdated.
-    fn free(&mut self)
+    /// Lets go of all candidates, so that none is held; jobs that are out may still come back. It lets go of what is outdated too, takes a
+    /// step a candidate, and no memory.
+    pub fn free(&mut self)
         ensures free { All (λ e. e.1.held ≡ false) (entries self.new) }
         ensures settled { first_unfinished_of self.old ≡ None → first_unfinished_of self.new ≡ None }
         ensures rows { self.new.rows ≡ self.old.rows }
@@ -593,7 +563,7 @@ impl Book {
         let list = of_sizes(alloc, &self.candidates, &self.order, sizes, next)?;
         let snapshot = self.snapshot.clone()?;
         let (rows, stores) = (&self.rows, &mut self.stores);
-        let judged = judges.judged(alloc, rows, &snapshot, list.as_slice(), stores)?;
+        let judged = judged_by_parts(judges, alloc, rows, &snapshot, list.as_slice(), stores)?;
         let few = judged.found.len() < list.len();
         self.mark_held(&snapshot, judged.held.as_slice())?;
         self.book_all(judged.found)?;

@@ -9,6 +9,7 @@ use crate::evidence::{Evidence, is_told, push_evidence, recent};
 use crate::stores::Stores;
 use crate::verdict::violations_on;
 use crate::waiting::Waiting;
+use ports::{Gate, Point};
 use rel_base::{Job, Snapshot};
 use row_log::RowLog;
 use std::alloc::{AllocError, Global};
@@ -20,6 +21,12 @@ use validator::Store;
 
 // How many pairs of rows a pass asks for where a dependency does not hold.
 const MOST_VIOLATIONS: usize = 64;
+
+// So many candidates are validated between two passes of the gate, at most.
+const PART: usize = 1 << 14;
+
+// The number of who seeks, at the gate.
+const SEEKER: u32 = 0;
 
 // The candidates that hold, and evidence against others.
 #[derive(Drop)]
@@ -48,13 +55,18 @@ pub(crate) trait Judges {
         ensures held { IfOk result (λ judged. All (IsHeld rows.now snapshot.now.value) judged.held.items) }
         ensures found { IfOk result (λ judged. All (IsEvidence rows.now) judged.found.items) }
         ensures stores { stores.new ≡ stores.old };
+
+    // Passes the gate.
+    fn sought(&self);
 }
 
 // The thread of the caller and no other.
 #[derive(Drop)]
-pub(crate) struct Alone;
+pub(crate) struct Alone<'a, G> {
+    pub(crate) gate: &'a G,
+}
 
-impl Judges for Alone {
+impl<'a, G: Gate> Judges for Alone<'a, G> {
     ghost ready = { Unit {0} };
 
     fn judged(
@@ -67,16 +79,21 @@ impl Judges for Alone {
     ) -> Result<Verdicts, AllocError> {
         stores.judged(alloc, rows, snapshot, list)
     }
+
+    fn sought(&self) {
+        self.gate.at(SEEKER, Point::Sought);
+    }
 }
 
 // Threads beside each other, one for each store, where there are so many candidates at least.
 #[derive(Drop)]
-pub(crate) struct Beside<'a, R> {
+pub(crate) struct Beside<'a, R, G> {
     pub(crate) rt: &'a R,
+    pub(crate) gate: &'a G,
     pub(crate) least: usize,
 }
 
-impl<'a, R: Threads + Sync> Judges for Beside<'a, R> {
+impl<'a, R: Threads + Sync, G: Gate> Judges for Beside<'a, R, G> {
     ghost ready = { IsSync R.row };
 
     fn judged(
@@ -89,6 +106,41 @@ impl<'a, R: Threads + Sync> Judges for Beside<'a, R> {
     ) -> Result<Verdicts, AllocError> {
         stores.judged_by(self.rt, alloc, rows, snapshot, self.least, list)
     }
+
+    fn sought(&self) {
+        self.gate.at(SEEKER, Point::Sought);
+    }
+}
+
+// Validates candidates part by part, and passes the gate after each.
+pub(crate) fn judged_by_parts<J: Judges>(
+    judges: &J,
+    alloc: Global,
+    rows: &RowLog,
+    snapshot: &Arc<Snapshot>,
+    list: &[Waiting],
+    stores: &mut Stores,
+) -> Result<Verdicts, AllocError>
+    requires ready { J.ready }
+    requires same { stores.old ≡ snapshot.now.value }
+    requires asked { All (IsAsked rows.now snapshot.now.value) list.now }
+    ensures held { IfOk result (λ judged. All (IsHeld rows.now snapshot.now.value) judged.held.items) }
+    ensures found { IfOk result (λ judged. All (IsEvidence rows.now) judged.found.items) }
+    ensures stores { stores.new ≡ stores.old }
+{
+    let mut all = Verdicts {
+        held: Vec::new(alloc),
+        found: Vec::new(alloc),
+    };
+    let mut rest = list;
+    while !rest.is_empty() {
+        let (part, later) = rest.split_at(rest.len().min(PART));
+        let judged = judges.judged(alloc, rows, snapshot, part, stores)?;
+        all = together(all, judged)?;
+        judges.sought();
+        rest = later;
+    }
+    Ok(all)
 }
 
 // Validates candidates one after another on a store of the snapshot, but for those that evidence just found refutes.

@@ -1,11 +1,11 @@
 // Dependencies that were seen to hold.
-ghost use Rattle.std.specs.Prelude.{IsTrue};
+ghost use Rattle.std.specs.Prelude.{◌↔◌, IsTrue};
 ghost use Rattle.col_set.specs.Target.{IsColumnTarget};
 ghost use Rattle.candidate_cover.specs.Cands.{width};
-ghost use Rattle.cover_core.specs.Told.{Tells};
+ghost use Rattle.cover_core.specs.Told.{Answers};
 
 use candidate_cover::CandidateCover;
-use rel_base::{ColSet, RowNo, Target};
+use rel_base::{Job, RowNo};
 
 /// Dependencies and keys that were seen to hold in the rows that a book had, 21 bytes each (`Book::seek`). Threads share it by
 /// reference: it never changes.
@@ -13,15 +13,23 @@ use rel_base::{ColSet, RowNo, Target};
 pub struct Known {
     pub(crate) candidates: CandidateCover,
     pub(crate) next: RowNo,
+    pub(crate) live: u32,
 }
 
 impl Known {
-    /// Whether it tells that the left side determines the target. It looks the left side up.
-    pub fn tells(&self, target: Target, left: ColSet) -> bool
-        requires { IsColumnTarget (width self.now.candidates) target }
-        ensures { IsTrue result → Tells self.now target left }
+    /// Whether it answers a job: whether the job is of as many rows below the same number, and its dependency is one of those that
+    /// were seen to hold.
+    ///
+    /// It looks the left side up. Whoever asks for jobs in the order in which they are drawn keeps `near` from one call to the next,
+    /// at first 0, so that a look-up takes a few steps; the answer does not depend on it.
+    pub fn answers(&self, job: &Job, near: &mut usize) -> bool
+        requires { IsColumnTarget (width self.now.candidates) job.now.target }
+        ensures { IsTrue result ↔ Answers self.now job.now }
     {
-        match self.candidates.upto(target, left) {
+        if job.to() != self.next || job.snapshot().live_count() != self.live {
+            return false;
+        }
+        match self.candidates.upto_near(job.target(), job.left(), near) {
             Some(upto) => self.next <= upto,
             None => false,
         }

@@ -8,19 +8,20 @@ ghost use Rattle.cover_core.specs.Evidences.{IsEvidence};
 ghost use Rattle.cover_core.specs.Judged.{IsAsked, IsHeld};
 
 use crate::judging::{Verdicts, both_halves, judged, share};
-use crate::verdict::{STORE_ROOM, violations_on};
+use crate::verdict::{STORE_ROOM, store_of, violations_on};
 use crate::waiting::Waiting;
 use rel_base::{Job, RowNo, Snapshot};
 use row_log::RowLog;
 use std::alloc::{AllocError, Global};
 use std::marker::Model;
-use std::slice;
 use std::sync::Arc;
 use std::sync::ledger::{Blank, Ledger};
 use std::thread::Threads;
+use std::{mem, slice};
 use validator::{OldGroups, Store};
 
-// The store of a book, and while threads search beside each other one more of the same snapshot for each further thread.
+// The store of a book, and one more of the same snapshot for each further thread that searches beside it. While the book is shared,
+// all are lent to those who share it.
 //
 // Contracts see the codes of the snapshot.
 #[derive(Drop)]
@@ -52,29 +53,63 @@ impl Stores {
         }
     }
 
-    // Makes so many further stores, which are empty and share the room of one. After want of memory there are fewer.
-    pub(crate) fn spread(
-        &mut self,
-        alloc: Global,
-        snapshot: &Arc<Snapshot>,
-        count: u8,
-    ) -> Result<(), AllocError>
-        requires { self.old ≡ snapshot.now.value }
+    // Makes so many further stores in place of those that there are. They are empty, share the room of one, and go by the weights that
+    // the book's own has. After want of memory there are fewer.
+    pub(crate) fn spread(&mut self, alloc: Global, count: u8) -> Result<(), AllocError>
         ensures { self.new ≡ self.old }
     {
+        self.others.clear();
         let room = STORE_ROOM / count.max(1) as usize;
         for _ in 0..count {
-            let other = Store::of(alloc, snapshot.clone()?, room);
+            let other = self.own.another(alloc, room)?;
             self.others.push(other)?;
         }
         Ok(())
     }
 
-    // Lets go of all stores but the book's own.
-    pub(crate) fn gather(&mut self)
+    // Hands out all stores, one to each of so many places as far as they go, and keeps an empty one.
+    pub(crate) fn lend(
+        &mut self,
+        alloc: Global,
+        snapshot: &Arc<Snapshot>,
+        places: usize,
+    ) -> Result<Vec<Option<Store>>, AllocError>
+        requires { self.old ≡ snapshot.now.value }
         ensures { self.new ≡ self.old }
     {
-        self.others.clear();
+        let mut lent = Vec::with_capacity(alloc, places)?;
+        let empty = store_of(alloc, snapshot)?;
+        let mut others = mem::replace(&mut self.others, Vec::new(alloc));
+        lent.push(Some(mem::replace(&mut self.own, empty)))?;
+        for _ in 1..places {
+            lent.push(others.pop())?;
+        }
+        Ok(lent)
+    }
+
+    // Takes back what was lent, for this snapshot, as far as there is memory for it.
+    pub(crate) fn take_back(
+        &mut self,
+        alloc: Global,
+        snapshot: &Arc<Snapshot>,
+        lent: Vec<Option<Store>>,
+    ) -> Result<(), AllocError>
+        requires { self.old ≡ snapshot.now.value }
+        ensures { self.new ≡ self.old }
+    {
+        let mut is_first = true;
+        for place in lent {
+            if let Some(mut store) = place {
+                store.renew(alloc, snapshot.clone()?);
+                if is_first {
+                    self.own = store;
+                    is_first = false;
+                } else {
+                    self.others.push(store)?;
+                }
+            }
+        }
+        Ok(())
     }
 
     // Goes over to another snapshot, with the book's own store alone.

@@ -83,6 +83,23 @@ impl Store {
         }
     }
 
+    /// An empty store for the same snapshot, with room for this many row numbers, that goes by the weights which this one found: so who
+    /// works beside its owner takes the same columns first. It fails only where no further owner of the snapshot can be counted.
+    pub fn another(&self, alloc: Global, room: usize) -> Result<Store, AllocError>
+        ensures { IfOk result (λ store. store ≡ self.now) }
+    {
+        let snapshot = self.snapshot.clone()?;
+        let rows = snapshot.to().number() as usize;
+        Ok(Store {
+            snapshot,
+            shelf: Shelf::of(alloc, rows, room, self.shelf.order),
+            slots: Vec::new(alloc),
+            links: Vec::new(alloc),
+            earlier: None,
+            room,
+        })
+    }
+
     /// Goes over to another snapshot, mostly a later one of the same relation. It takes no memory, and some steps a column. What it
     /// lets go of is handed out, so that its caller chooses when that takes its time.
     ///

@@ -1,30 +1,31 @@
 // What a book seeks, and what it leaves to be drawn.
-use super::{finish, letters};
+use super::{drawn, finish, letters};
 use crate::{Book, Known};
+use ports::OpenGate;
 use rel_base::{ColSet, Target};
 use std::alloc::AllocError;
 use std::test::Fail;
+use std::thread::Threads;
 
 // Seeks, once more where memory is wanting.
-fn seek(book: &mut Book) -> Result<Known, AllocError> {
-    match book.seek() {
+fn seek<R: Threads + Sync>(rt: &R, book: &mut Book) -> Result<Known, AllocError> {
+    match book.seek(rt, 1, &OpenGate) {
         Ok(known) => Ok(known),
-        Err(_) => book.seek(),
+        Err(_) => book.seek(rt, 1, &OpenGate),
     }
 }
 
-// It tells the keys and nothing smaller, and each candidate is left to be drawn.
+// It answers the job of a key, and each candidate is left to be drawn.
 #[test]
 fn what_was_sought_is_told_and_left_to_be_drawn(rt: HostRuntime) -> Result<(), Fail> {
     let alloc = rt.alloc();
     let found = finish(&mut letters(&rt, alloc)?)?;
     let mut book = letters(&rt, alloc)?;
-    let known = seek(&mut book)?;
-    for key in found.keys() {
-        assert!(rt; known.tells(Target::RowId, *key));
-    }
-    assert!(rt; !known.tells(Target::RowId, ColSet::empty()));
+    let known = seek(&rt, &mut book)?;
     assert!(rt; !book.settled());
+    let job = drawn(&mut book)?.ok_or("no job")?;
+    assert!(rt; job.target() == Target::RowId && job.left() != ColSet::empty());
+    assert!(rt; job.from().number() == 1 && known.answers(&job, &mut 0));
     let again = finish(&mut book)?;
     assert!(rt; again.keys() == found.keys() && again.fds() == found.fds());
     Ok(())

@@ -1,4 +1,4 @@
-use Rattle.std.proofs.Common.{◌≡◌, ℕ, ◌<◌, ◌∙◌, sym, ap, arith}
+use Rattle.std.proofs.Common.{◌<◌, ◌∙◌, sym, ap, arith}
 use Rattle.rel_base.specs.CodeTable.{live_at}
 use Rattle.cover_core.proofs.AllPairs.{coded_more, coded_same}
 use Rattle.cover_core.proofs.all_pairs.coded_rows.Goals as goal

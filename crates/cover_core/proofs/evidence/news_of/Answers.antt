@@ -1,4 +1,4 @@
-use Rattle.std.proofs.Common.{inl, inr, ◌≡◌, ◌≢◌, ◌⊎◌, ℕ, false, ◌∙◌, ◌++◌, ◌∷◌, [], List, sym, ap, subst, Some, None}
+use Rattle.std.proofs.Common.{inl, inr, ◌≡◌, ◌⊎◌, ℕ, false, ◌∙◌, ◌++◌, ◌∷◌, [], List, sym, subst, Some}
 use Rattle.std.specs.List.{All}
 use Rattle.rel_base.proofs.States.{All-from}
 use Rattle.std.proofs.lemmas.List.Sorted.{Contains-permutation}
@@ -8,7 +8,7 @@ use Rattle.col_set.specs.Lists.{Listed}
 use Rattle.col_set.proofs.Places.{Contains-listed, Listed-contained}
 use Rattle.negative_cover.specs.declared.negative_cover.Witness.{Witness}
 use Rattle.candidate_cover.specs.Cands.{width}
-use Rattle.candidate_cover.specs.Drafts.{Drafted, is_news}
+use Rattle.candidate_cover.specs.Drafts.{is_news}
 use Rattle.cover_core.specs.declared.evidence.Evidence.{Evidence}
 use Rattle.cover_core.specs.Evidences.{IsEvidence, IsNews}
 use Rattle.cover_core.proofs.Evidences.{All-front, All-back, All-permuted, news_none, same_option, popped, emptied}

@@ -1,5 +1,5 @@
 use Rattle.std.proofs.Common.{sym, ◌∙◌, arith}
-use Rattle.candidate_cover.specs.Cands.{cands_of, width}
+use Rattle.candidate_cover.specs.Cands.{width}
 use Rattle.cover_steps.proofs.Renewing.{renewed_list-unconcerned}
 use Rattle.cover_core.proofs.Concerning.{unconcerned}
 use Rattle.cover_core.proofs.Refuting.{within_128}

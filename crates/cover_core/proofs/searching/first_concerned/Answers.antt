@@ -1,9 +1,7 @@
-use Rattle.std.proofs.Common.{ℕ, sym, ap, ◌∙◌, Bool, true, false, Option, None, if◌then◌else◌, arith, refl}
+use Rattle.std.proofs.Common.{ℕ, sym, ap, ◌∙◌, Bool, false, None, if◌then◌else◌}
 use Rattle.std.specs.List.{find}
-use Rattle.candidate_cover.specs.Cands.{cands_of, from, width}
-use Rattle.candidate_cover.specs.declared.cand.Cand.{Cand}
+use Rattle.candidate_cover.specs.Cands.{cands_of, from}
 use Rattle.candidate_cover.proofs.Remarked.{from_empty}
-use Rattle.cover_core.proofs.Refuting.{within_128}
 use Rattle.cover_core.proofs.searching.first_concerned.Goals as goal
 
 pub returns-clause-found : goal.returns-clause-found

@@ -1,4 +1,4 @@
-use Rattle.std.proofs.Common.{sym, ap, ◌∙◌, Option, Some, None}
+use Rattle.std.proofs.Common.{sym, ap, ◌∙◌, Option, Some}
 use Rattle.std.specs.Option.{option_map}
 use Rattle.cover_steps.specs.Core.{is_unfinished}
 use Rattle.cover_core.specs.declared.cursor.Unfinished.{Unfinished}

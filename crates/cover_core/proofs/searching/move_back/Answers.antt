@@ -1,10 +1,10 @@
-use Rattle.std.proofs.Common.{◌≡◌, ◌<◌, ℕ, sym, refl, subst, arith, below_more}
+use Rattle.std.proofs.Common.{◌≡◌, ◌<◌, sym, refl, subst, arith, below_more}
 use Rattle.std.specs.List.{find}
 use Rattle.col_set.specs.declared.target.Target.TheVariants.{Col, RowId}
 use Rattle.candidate_cover.specs.Cands.{cands_of}
 use Rattle.cover_core.specs.Concerning.{concerns}
 use Rattle.cover_core.specs.Past.{rank, IsPast}
-use Rattle.cover_core.proofs.Back.{NoneSoFar, if-none, if-some, back-row, back-column, stays-back}
+use Rattle.cover_core.proofs.Back.{if-none, if-some, back-row, back-column, stays-back}
 use Rattle.cover_core.proofs.searching.move_back.Goals as goal
 
 pub returns-in-Some : goal.returns-in-Some

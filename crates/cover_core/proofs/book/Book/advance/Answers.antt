@@ -1,4 +1,4 @@
-use Rattle.std.proofs.Common.{◌∙◌, ℕ, refl, sym, ap, subst, arith, List}
+use Rattle.std.proofs.Common.{◌∙◌, ℕ, refl, sym, subst, arith, List}
 use Rattle.std.specs.List.{All}
 use Rattle.cover_steps.specs.Sound.{Sound}
 use Rattle.validator.specs.Verdicts.{IsVerdict}

@@ -1,6 +1,4 @@
-use Rattle.std.proofs.Common.{◌∙◌, ap, subst}
-use Rattle.cover_steps.specs.Core.{Core}
-use Rattle.cover_core.specs.Told.{IsTrueOf}
+use Rattle.std.proofs.Common.{◌∙◌}
 use Rattle.cover_core.proofs.Calls.{with_lists}
 use Rattle.cover_core.proofs.Forgetting.{IsBook-refreshed, told_true}
 use Rattle.cover_core.proofs.Cursors.{past-both, to_search, searched}
@@ -16,7 +14,7 @@ invariant_of-self c =
     (book, c.self.invariant.1, w.past, w.first)
 
 pub returns-clause-known : goal.returns-clause-known
-returns-clause-known c = told_true _ _ _ c.self.invariant.0 c.self.view_is (record { candidates = c.replace-candidates.result; next = c.next-next.result }) c.replace-candidates.ensures.value c.next-next.ensures.value
+returns-clause-known c = told_true _ _ _ c.self.invariant.0 c.self.view_is (record { candidates = c.replace-candidates.result; next = c.next-next.result; live = c.live_len.result }) c.replace-candidates.ensures.value c.next-next.ensures.value c.live_len.ensures.value
 
 pub returns-clause-sound : goal.returns-clause-sound
 returns-clause-sound c = (IsBook-refreshed _ _ _ c.self.invariant.0 c.self.view_is _ (c.replace-candidates.ensures.after ∙ c.in_ok-unmarked.ensures)).sound

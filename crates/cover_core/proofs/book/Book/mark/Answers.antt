@@ -1,6 +1,5 @@
-use Rattle.std.proofs.Common.{◌∙◌, sym}
 use Rattle.cover_core.proofs.Calls.{with_lists}
-use Rattle.cover_core.proofs.Whole.{MarkAll, mark-all}
+use Rattle.cover_core.proofs.Whole.{mark-all}
 use Rattle.cover_core.proofs.Cursors.{past-remarked, to_search, searched, target-of}
 use Rattle.cover_core.proofs.book.Book.mark.Goals as goal
 

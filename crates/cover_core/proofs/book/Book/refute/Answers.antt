@@ -4,7 +4,7 @@ use Rattle.negative_cover.specs.Witnesses.{sets_of}
 use Rattle.cover_core.specs.Concerning.{AreConcerned}
 use Rattle.cover_core.proofs.Calls.{are_least}
 use Rattle.cover_core.proofs.Concerning.{known-found, news-found, same-unconcerned, renewed-width}
-use Rattle.cover_core.proofs.Whole.{RefuteAll, refute-all, live-found}
+use Rattle.cover_core.proofs.Whole.{refute-all, live-found}
 use Rattle.cover_core.proofs.Turn.{on-err}
 use Rattle.cover_core.proofs.Cursors.{past-but, past-moved, searched}
 use Rattle.cover_core.proofs.book.Book.refute.Goals as goal

@@ -3,7 +3,7 @@ use Rattle.candidate_cover.specs.Lists.{CandLists}
 use Rattle.cover_core.specs.Past.{ArePast, IsFirst}
 use Rattle.cover_core.specs.declared.answers.Release.TheVariants as releases
 use Rattle.cover_core.proofs.Calls.{with_lists}
-use Rattle.cover_core.proofs.Whole.{ReleaseAll, release-all}
+use Rattle.cover_core.proofs.Whole.{release-all}
 use Rattle.cover_core.proofs.Cursors.{past-released, past-dropped, to_search, searched, target-of}
 use Rattle.cover_core.proofs.book.Book.release.Goals as goal
 

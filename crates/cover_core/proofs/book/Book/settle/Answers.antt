@@ -1,4 +1,4 @@
-use Rattle.std.proofs.Common.{◌≡◌, ◌∙◌, ap, sym, refl, None}
+use Rattle.std.proofs.Common.{◌≡◌, ◌∙◌, ap, refl, None}
 use Rattle.rel_base.specs.Covers.{covers}
 use Rattle.cover_steps.specs.Core.{Core, listed_covers, first_unfinished}
 use Rattle.cover_core.proofs.Calls.{listed-is, listed-exact}

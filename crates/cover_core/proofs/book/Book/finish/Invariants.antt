@@ -1,9 +1,9 @@
 use Rattle.cover_core.specs.Work.{work}
 use Rattle.cover_core.proofs.Turn.{IsTurned}
-use Rattle.cover_core.proofs.book.Book.finish_with.Given as goal
+use Rattle.cover_core.proofs.book.Book.finish.Given as goal
 
 abbrev pub invariant-loop : goal.invariant-loop
-invariant-loop g l = IsTurned l.fn.self l.self
+invariant-loop l = IsTurned l.fn.self l.self
 
 abbrev pub decreases-loop : goal.decreases-loop
-decreases-loop g l = work l.self
+decreases-loop l = work l.self
