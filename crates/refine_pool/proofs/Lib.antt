@@ -4,3 +4,4 @@ pub mod Feeding
 pub mod Ending
 pub mod Crewing
 pub mod Working
+pub mod Left

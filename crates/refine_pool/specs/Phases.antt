@@ -1,5 +1,5 @@
 -- What a phase comes to.
-use Rattle.std.specs.Prelude.{◌≡◌, ℕ, List, [], ◌∷◌, Result, Ok, Err}
+use Rattle.std.specs.Prelude.{◌≡◌, ℕ, List, [], ◌∷◌, take, length, Result, Ok, Err, None}
 use Rattle.std.specs.List.{Contains}
 use Rattle.rel_base.specs.declared.batch.Op.{Op}
 use Rattle.rel_base.specs.declared.why.Why.{Why}
@@ -8,7 +8,8 @@ use Rattle.rel_base.specs.Batches.{after, kept_or_after, insert_count, delete_co
 use Rattle.negative_cover.specs.declared.negative_cover.Witness.{Witness}
 use Rattle.row_log.specs.declared.applying.Applying.{Applying}
 use Rattle.row_log.specs.declared.applying.Applying.TheVariants.{Applied, Refused}
-use Rattle.cover_steps.specs.Core.{Core}
+use Rattle.cover_steps.specs.Core.{Core, first_unfinished}
+use Rattle.cover_steps.specs.Sound.{Sound}
 use Rattle.cover_steps.specs.Laws.{Stands}
 
 -- what a batch is answered that leaves these rows, or that fails at this operation
@@ -34,3 +35,18 @@ pub record AreThoseOf (r : RowState) (batches : List (List Op)) (new : RowState)
 -- each witness of the one book whose two rows are live in the other is listed there
 abbrev pub KeepsWitnesses : Core → Core → Type 0
 KeepsWitnesses given book = (w : Witness) → Contains given.witnesses w → Stands book.rows w → Contains book.witnesses w
+
+-- From the given book, these batches leave this one, and these replies.
+pub record IsLeft (given : Core) (batches : List (List Op)) (book : Core) (told : List Applying) : Type 0 where
+  pub sound : Sound book
+  pub witnesses : KeepsWitnesses given book
+  pub those : AreThoseOf given.rows batches book.rows told
+
+-- as many of the batches as there are replies
+abbrev pub IsSoFar : Core → List (List Op) → Core → List Applying → Type 0
+IsSoFar given batches book told = IsLeft given (take (length told) batches) book told
+
+-- all of them, and each candidate is known to hold in all rows
+pub record IsWhole (given : Core) (batches : List (List Op)) (book : Core) (told : List Applying) : Type 0 where
+  pub left : IsLeft given batches book told
+  pub finished : first_unfinished book ≡ None

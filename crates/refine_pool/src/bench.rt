@@ -11,6 +11,7 @@ use rel_base::{Job, RowNo, Snapshot, Steps};
 use sampler::window;
 use std::alloc::{AllocError, Global};
 use std::marker::Brand;
+use std::sync::Arc;
 use std::sync::ledger::{Blank, Ledger};
 use validator::Store;
 
@@ -32,13 +33,23 @@ pub struct Bench {
 }
 
 impl Bench {
-    // An empty bench for the rows of this job, which outlives it.
-    fn of(alloc: Global, job: &Job) -> Result<Bench, AllocError>
+    // A bench for the rows of this job, which outlives it, of a store that served other rows, or of an empty one.
+    fn of(alloc: Global, used: Option<Store>, job: &Job) -> Result<Bench, AllocError>
         ensures { IfOk result (λ bench. bench.job ≡ job.now) }
     {
-        let store = Store::of(alloc, job.shared().clone()?, STORE_ROOM);
+        let rows = job.shared().clone()?;
+        let store = match used {
+            Some(store) => renewed(alloc, store, rows),
+            None => Store::of(alloc, rows, STORE_ROOM),
+        };
         let job = job.again()?;
         Ok(Bench { job, store })
+    }
+
+    /// Its store, for later work.
+    pub fn into_store(self) -> Store {
+        let Bench { store, .. } = self;
+        store
     }
 
     // Whether the job tells of as many rows, below the same number, as the bench is for.
@@ -49,18 +60,24 @@ impl Bench {
         self.job.to() == job.to() && kept.live_count() == asked.live_count()
     }
 
-    /// The bench that is kept, where it serves the job, or else a new one for the job's rows.
-    pub fn for_job(alloc: Global, kept: Option<Bench>, job: &Job) -> Result<Bench, AllocError>
+    /// The bench that is kept, where it serves the job, or else one for the job's rows, of the store that was kept or is spare.
+    pub fn for_job(
+        alloc: Global,
+        kept: Option<Bench>,
+        spare: &mut Option<Store>,
+        job: &Job,
+    ) -> Result<Bench, AllocError>
         requires { IfSome kept (λ bench. Serves bench.job job.now) }
         ensures one { IfOk result (λ bench. (kept ≡ Some bench) ⊎ (bench.job ≡ job.now)) }
         ensures alike { IfOk result (λ bench. Alike bench.job.snapshot job.now.snapshot) }
     {
-        if let Some(bench) = kept {
-            if bench.is_for(job) {
-                return Ok(bench);
-            }
+        let Some(bench) = kept else {
+            return Bench::of(alloc, spare.take(), job);
+        };
+        if bench.is_for(job) {
+            return Ok(bench);
         }
-        Bench::of(alloc, job)
+        Bench::of(alloc, Some(bench.into_store()), job)
     }
 
     /// Pairs of rows that break the job's dependency, from groups of their own, and none where it holds.
@@ -94,6 +111,14 @@ impl Bench {
         pairs.truncate(MOST_NEIGHBOURS);
         Ok(pairs)
     }
+}
+
+// A store that goes over to these rows.
+fn renewed(alloc: Global, mut store: Store, rows: Arc<Snapshot>) -> Store
+    ensures { result ≡ rows.value }
+{
+    store.renew(alloc, rows);
+    store
 }
 
 // Steps are not counted.

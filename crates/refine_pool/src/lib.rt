@@ -9,8 +9,10 @@
 #![tactic(auto)]
 
 mod bench;
+mod bulk;
 mod crew;
 mod feeder;
+mod preparing;
 mod refining;
 mod rounds;
 #[cfg(test)]

@@ -1,9 +1,10 @@
 // The rounds of a phase: workers beside the batches, and workers after them.
-ghost use Rattle.std.specs.Prelude.{◌≡◌, ◌<◌, ◌≤◌, ◌*◌, ◌+◌, ◌++◌, ℕ, [], take, length, vec_capacity};
+ghost use Rattle.std.specs.Prelude.{◌≡◌, ◌<◌, ◌≤◌, ◌*◌, ◌+◌, ◌++◌, ℕ, [], take, length, vec_capacity, IfSome};
 ghost use Rattle.std.specs.List.{All};
 ghost use denote.Param.Send.{IsSync};
 ghost use Rattle.rel_base.specs.RowState.{width};
 ghost use Rattle.rel_base.specs.Batches.{IsAsWide};
+ghost use Rattle.cover_core.specs.Told.{IsTrueOf};
 ghost use Rattle.desk_lock.specs.History.{GoesOn};
 ghost use Rattle.desk_lock.specs.Views.{InHome};
 ghost use Rattle.desk_lock.specs.Passes.{view};
@@ -12,13 +13,14 @@ ghost use Rattle.refine_pool.specs.Crews.{OnDone, Owns, IsPosted, TakesOver, Wen
 
 use crate::crew::{Ending, Posts, Shift, crew};
 use crate::feeder::{Fed, feed};
-use cover_core::Applying;
+use cover_core::{Applying, Known};
 use desk::{Desk, FeederPass, WorkerPass};
 use ports::Gate;
 use rel_base::Batch;
 use std::alloc::Global;
 use std::sync::Wait;
 use std::thread::{Threads, join};
+use validator::Store;
 
 // Lets the workers work beside the batches, and where there are any, lets as many go on after them. It ends with want of memory
 // where the feeder met it, or each worker of the last round.
@@ -31,12 +33,15 @@ pub fn rounds<R: Threads + Wait + Sync, G: Gate + Sync>(
     replies: Vec<Applying>,
     workers: u32,
     gate: &G,
+    known: Option<&Known>,
+    lent: &mut [Option<Store>],
 ) -> Fed
     requires own { IsAt desk.now feeder.pass }
     requires numbers { Owns feeder.pass 0 (2 * workers + 1) × (numbers desk.now ≡ 2 * workers + 1) }
     requires fresh { seen feeder.pass ≡ [] }
     requires wide { All (All (IsAsWide (width (opened_book desk.now).rows))) batches.items }
     requires room { (replies.items ≡ []) × (length batches.items ≤ vec_capacity replies) }
+    requires known { IfSome known (λ known. IsTrueOf (opened_book desk.now).rows known.now) }
     requires workers { (0 < workers) × (workers ≤ 16) }
     ensures own { IsAt desk.now result.pass.pass }
     ensures whole { (n : ℕ) → n < numbers desk.now → InHome (view result.pass.pass) n }
@@ -45,7 +50,18 @@ pub fn rounds<R: Threads + Wait + Sync, G: Gate + Sync>(
     ensures settled { OnDone result.ending (SettledLast (seen result.pass.pass)) }
 {
     if batches.is_empty() {
-        return last_round(rt, alloc, desk, feeder, replies, workers + 1, workers, gate);
+        return last_round(
+            rt,
+            alloc,
+            desk,
+            feeder,
+            replies,
+            workers + 1,
+            workers,
+            gate,
+            known,
+            lent,
+        );
     }
     let fed = feeding_round(
         rt,
@@ -57,11 +73,15 @@ pub fn rounds<R: Threads + Wait + Sync, G: Gate + Sync>(
         workers + 1,
         workers,
         gate,
+        known,
+        lent,
     );
     match fed.ending {
         Ending::Done => {
             let Fed { pass, replies, .. } = fed;
-            last_round(rt, alloc, desk, pass, replies, 1, workers, gate)
+            last_round(
+                rt, alloc, desk, pass, replies, 1, workers, gate, known, lent,
+            )
         }
         Ending::NoMemory => fed,
     }
@@ -77,9 +97,12 @@ fn last_round<R: Threads + Wait + Sync, G: Gate + Sync>(
     first: u32,
     workers: u32,
     gate: &G,
+    known: Option<&Known>,
+    lent: &mut [Option<Store>],
 ) -> Fed
     requires own { IsAt desk.now feeder.pass }
     requires numbers { Owns feeder.pass 0 (first + workers) × (0 < first) }
+    requires known { IfSome known (λ known. IsTrueOf (opened_book desk.now).rows known.now) }
     requires workers { (0 < workers) × (first + workers ≤ 64) }
     ensures own { IsAt desk.now result.pass.pass }
     ensures over { TakesOver feeder.pass result.pass.pass }
@@ -88,7 +111,16 @@ fn last_round<R: Threads + Wait + Sync, G: Gate + Sync>(
     ensures settled { OnDone result.ending (SettledLast (seen result.pass.pass)) }
 {
     let worker = desk.hire(&mut feeder, first);
-    let shift = crew(rt, alloc, desk, worker, Posts::of(first, workers), gate);
+    let shift = crew(
+        rt,
+        alloc,
+        desk,
+        worker,
+        Posts::of(first, workers),
+        gate,
+        known,
+        lent,
+    );
     let Shift { pass, ending } = shift;
     desk.join(&mut feeder, pass);
     Fed {
@@ -109,9 +141,12 @@ fn feeding_round<R: Threads + Wait + Sync, G: Gate + Sync>(
     first: u32,
     workers: u32,
     gate: &G,
+    known: Option<&Known>,
+    lent: &mut [Option<Store>],
 ) -> Fed
     requires own { IsAt desk.now feeder.pass }
     requires numbers { Owns feeder.pass 0 (first + workers) × (0 < first) }
+    requires known { IfSome known (λ known. IsTrueOf (opened_book desk.now).rows known.now) }
     requires workers { (0 < workers) × (first + workers ≤ 64) }
     requires fresh { seen feeder.pass ≡ [] }
     requires wide { All (All (IsAsWide (width (opened_book desk.now).rows))) batches.items }
@@ -131,9 +166,9 @@ fn feeding_round<R: Threads + Wait + Sync, G: Gate + Sync>(
             ensures { IsAt desk.entry.now result.pass.pass × WentOn feeder.pass result.pass.pass × IsFed desk.entry.now result.pass.pass (take (length result.replies.items) batches.items) result.replies.items × OnDone result.ending (length result.replies.items ≡ length batches.items) }
         { feed(rt, desk, feeder, batches, replies, gate) },
         move || -> Shift
-            requires { IsSync R.row × IsSync G.row × IsAt desk.now worker.pass × IsPosted worker.pass posts }
+            requires { IsSync R.row × IsSync G.row × IsAt desk.now worker.pass × IsPosted worker.pass posts × IfSome known (λ known. IsTrueOf (opened_book desk.now).rows known.now) }
             ensures { IsAt desk.entry.now result.pass.pass × TakesOver worker.pass result.pass.pass }
-        { crew(rt, alloc, desk, worker, posts, gate) },
+        { crew(rt, alloc, desk, worker, posts, gate, known, lent) },
     );
     let Fed {
         mut pass,

@@ -1,37 +1,55 @@
 // One worker.
-ghost use Rattle.std.specs.Prelude.{◌≡◌, ◌⊎◌, ◌<◌, [], true, IfOk, IfSome};
+ghost use Rattle.std.specs.Prelude.{◌≡◌, ◌⊎◌, ◌<◌, [], true, IfOk, IfSome, IsTrue};
 ghost use Rattle.std.specs.Bool.{OnTrue};
 ghost use Rattle.validator.specs.Verdicts.{IsFitting};
 ghost use Rattle.rel_base.specs.Shows.{holds_in};
-ghost use Rattle.desk.specs.Desks.{seen, IsAt, WasDrawn};
+ghost use Rattle.cover_core.specs.Told.{IsTrueOf};
+ghost use Rattle.desk.specs.Desks.{opened_book, seen, IsAt, WasDrawn};
 ghost use Rattle.refine_pool.specs.Crews.{OnDone, SettledAfter, WentOn};
 ghost use Rattle.refine_pool.specs.Benches.{HasJob};
-ghost use Rattle.refine_pool.specs.Work.{AreDifferent, Serves};
+ghost use Rattle.refine_pool.specs.Work.{AreDifferent, IsRightOf, Serves};
 
 use crate::bench::Bench;
 use crate::crew::{Ending, Shift};
-use cover_core::Draw;
+use cover_core::{Draw, Known, Refutation};
 use desk::{Desk, WorkerPass};
 use ports::{Gate, Point};
 use rel_base::{Job, RowNo};
 use std::alloc::{AllocError, Global};
 use std::sync::Wait;
 use std::thread::yield_now;
+use validator::Store;
 
-// The distances of windows grow up to this one.
+// The distances of windows stay below this one.
 const MOST_DISTANCE: u32 = 1_000_000;
 
 // What a worker keeps from one draw to the next.
 #[derive(Drop)]
 struct Hand {
-    // There is one from its first job on.
+    // There is one from the first job on of which the verdict was not known.
     bench: Option<Bench>,
+    // A store for it, which was kept from other rows.
+    spare: Option<Store>,
+    // Where a verdict was last found among those that are known.
+    near: usize,
     // That of its next window.
     distance: u32,
     ghost apart: { 0 < distance },
 }
 
-/// Draws, validates and books until a draw finds all settled, or memory is wanting.
+impl Hand {
+    // What is left of it for later work.
+    fn into_store(self) -> Option<Store> {
+        let Hand { bench, spare, .. } = self;
+        match bench {
+            Some(bench) => Some(bench.into_store()),
+            None => spare,
+        }
+    }
+}
+
+/// Draws, validates and books until a draw finds all settled, or memory is wanting. It begins with the store that it is lent, if it
+/// is lent one, and leaves the one that it used.
 pub fn work<R: Wait, G: Gate>(
     rt: &R,
     alloc: Global,
@@ -39,26 +57,29 @@ pub fn work<R: Wait, G: Gate>(
     mut pass: WorkerPass,
     who: u32,
     gate: &G,
+    known: Option<&Known>,
+    lent: &mut Option<Store>,
 ) -> Shift
-    requires { IsAt desk.now pass.pass }
+    requires at { IsAt desk.now pass.pass }
+    requires known { IfSome known (λ known. IsTrueOf (opened_book desk.now).rows known.now) }
     ensures own { IsAt desk.now result.pass.pass }
     ensures on { WentOn pass.pass result.pass.pass }
     ensures settled { OnDone result.ending (SettledAfter (seen pass.pass) (seen result.pass.pass)) }
 {
-    let (bench, distance) = (None, 1);
-    let mut hand = Hand { bench, distance };
+    let mut hand = Hand {
+        bench: None,
+        spare: lent.take(),
+        near: 0,
+        distance: 1,
+    };
     for _ in rt.forever() {
-        match draw(rt, alloc, desk, &mut pass, &mut hand, who, gate) {
-            Ok(false) => {}
-            Ok(true) => {
-                let ending = Ending::Done;
-                return Shift { pass, ending };
-            }
-            Err(_) => {
-                let ending = Ending::NoMemory;
-                return Shift { pass, ending };
-            }
-        }
+        let ending = match draw(rt, alloc, desk, &mut pass, &mut hand, who, gate, known) {
+            Ok(false) => continue,
+            Ok(true) => Ending::Done,
+            Err(_) => Ending::NoMemory,
+        };
+        *lent = hand.into_store();
+        return Shift { pass, ending };
     }
     unreachable!()
 }
@@ -72,8 +93,10 @@ fn draw<R: Wait, G: Gate>(
     hand: &mut Hand,
     who: u32,
     gate: &G,
+    known: Option<&Known>,
 ) -> Result<bool, AllocError>
     requires own { IsAt desk.now pass.old.pass }
+    requires known { IfSome known (λ known. IsTrueOf (opened_book desk.now).rows known.now) }
     requires bench { IfSome hand.old.bench (λ bench. WasDrawn desk.now pass.old.pass bench.job) }
     ensures own { IsAt desk.now pass.new.pass }
     ensures on { WentOn pass.old.pass pass.new.pass }
@@ -82,7 +105,7 @@ fn draw<R: Wait, G: Gate>(
 {
     match desk.draw(rt, pass)? {
         Draw::Job(job) => {
-            attend(rt, alloc, desk, pass, hand, who, gate, job)?;
+            attend(rt, alloc, desk, pass, hand, who, gate, known, job)?;
             Ok(false)
         }
         Draw::Busy { .. } => {
@@ -103,10 +126,12 @@ fn attend<R: Wait, G: Gate>(
     hand: &mut Hand,
     who: u32,
     gate: &G,
+    known: Option<&Known>,
     job: Job,
 ) -> Result<(), AllocError>
     requires own { IsAt desk.now pass.old.pass }
     requires drawn { WasDrawn desk.now pass.old.pass job }
+    requires known { IfSome known (λ known. IsRightOf known.now job) }
     requires bench { IfSome hand.old.bench (λ bench. WasDrawn desk.now pass.old.pass bench.job) }
     requires serves { IfSome hand.old.bench (λ bench. Serves bench.job job) }
     ensures own { IsAt desk.now pass.new.pass }
@@ -114,34 +139,49 @@ fn attend<R: Wait, G: Gate>(
     ensures bench { IfSome hand.new.bench (λ bench. WasDrawn desk.now pass.new.pass bench.job) }
 {
     gate.at(who, Point::Drawn);
-    let is_first = hand.bench.is_none();
-    match judge(alloc, hand, &job) {
+    match judge(alloc, hand, known, &job) {
         Ok(pairs) => {
             gate.at(who, Point::Judged);
             let booked = book(rt, desk, pass, job, pairs.as_slice());
             gate.at(who, Point::Booked);
-            booked?;
+            booked
         }
         Err(error) => {
             desk.release(rt, pass, job);
-            return Err(error);
+            Err(error)
         }
     }
-    if is_first {
-        look_around(rt, alloc, desk, pass, hand, who)?;
+}
+
+// Whether what is known answers the job.
+fn is_known(known: Option<&Known>, job: &Job, near: &mut usize) -> bool
+    requires { IfSome known (λ known. IsRightOf known.now job.now) }
+    ensures { IsTrue result → holds_in job.now.snapshot job.now.left job.now.target ≡ true }
+{
+    match known {
+        Some(known) => known.answers(job, near),
+        None => false,
     }
-    Ok(())
 }
 
 // Pairs of rows that break a job's dependency, and none where it holds. The bench stays as long as jobs tell of the same rows.
-fn judge(alloc: Global, hand: &mut Hand, job: &Job) -> Result<Vec<(RowNo, RowNo)>, AllocError>
+fn judge(
+    alloc: Global,
+    hand: &mut Hand,
+    known: Option<&Known>,
+    job: &Job,
+) -> Result<Vec<(RowNo, RowNo)>, AllocError>
+    requires known { IfSome known (λ known. IsRightOf known.now job.now) }
     requires fitting { IsFitting job.now }
     requires serves { IfSome hand.old.bench (λ bench. Serves bench.job job.now) }
     ensures pairs { IfOk result (λ pairs. AreDifferent pairs.items) }
     ensures none { IfOk result (λ pairs. pairs.items ≡ [] → holds_in job.now.snapshot job.now.left job.now.target ≡ true) }
     ensures bench { IfSome hand.new.bench (λ bench. (bench.job ≡ job.now) ⊎ HasJob hand.old.bench bench.job) }
 {
-    let mut bench = Bench::for_job(alloc, hand.bench.take(), job)?;
+    if is_known(known, job, &mut hand.near) {
+        return Ok(Vec::new(alloc));
+    }
+    let mut bench = Bench::for_job(alloc, hand.bench.take(), &mut hand.spare, job)?;
     let pairs = bench.violations(alloc, job);
     hand.bench = Some(bench);
     pairs
@@ -168,28 +208,31 @@ fn book<R: Wait>(
     }
     let refuted = refute_all(rt, desk, pass, pairs);
     desk.release(rt, pass, job);
-    refuted
+    refuted?;
+    Ok(())
 }
 
-// Says what pairs of rows tell.
+// Says what pairs of rows tell, and answers whether some of it was news.
 fn refute_all<R: Wait>(
     rt: &R,
     desk: &Desk,
     pass: &mut WorkerPass,
     pairs: &[(RowNo, RowNo)],
-) -> Result<(), AllocError>
+) -> Result<bool, AllocError>
     requires own { IsAt desk.now pass.old.pass }
     requires pairs { AreDifferent pairs.now }
     ensures own { IsAt desk.now pass.new.pass }
     ensures on { WentOn pass.old.pass pass.new.pass }
 {
+    let mut is_news = false;
     for pair in pairs {
-        desk.refute(rt, pass, pair.0, pair.1)?;
+        is_news |= desk.refute(rt, pass, pair.0, pair.1)? == Refutation::Booked;
     }
-    Ok(())
+    Ok(is_news)
 }
 
-// Says what rows near each other tell, among those of the last job, where there was one. The next time it looks further.
+// Says what rows near each other tell, among those of the last job that it validated, where there was one. The next time it looks
+// further, where this brought news.
 fn look_around<R: Wait>(
     rt: &R,
     alloc: Global,
@@ -204,12 +247,14 @@ fn look_around<R: Wait>(
     ensures bench { hand.new.bench ≡ hand.old.bench }
 {
     let distance = hand.distance;
+    if distance >= MOST_DISTANCE {
+        return Ok(());
+    }
     let pairs = match &hand.bench {
         Some(bench) => bench.neighbours(alloc, who, distance)?,
         None => return Ok(()),
     };
-    if distance < MOST_DISTANCE {
-        hand.distance = distance + 1;
-    }
-    refute_all(rt, desk, pass, pairs.as_slice())
+    let is_news = refute_all(rt, desk, pass, pairs.as_slice())?;
+    hand.distance = if is_news { distance + 1 } else { MOST_DISTANCE };
+    Ok(())
 }

@@ -11,7 +11,7 @@ const MOST_TURNS: u32 = 100_000_000;
 const PASSERS: usize = 17;
 
 // The points of a gate.
-const POINTS: usize = 4;
+const POINTS: usize = 5;
 
 #[derive(Clone, Copy, PartialEq, Eq)]
 pub struct Stop {
@@ -40,10 +40,11 @@ pub struct HoldingGate {
 // The place of a stop's count.
 fn place_of(stop: Stop) -> usize {
     let point = match stop.point {
-        Point::Drawn => 0,
-        Point::Judged => 1,
-        Point::Booked => 2,
-        Point::Fed => 3,
+        Point::Sought => 0,
+        Point::Drawn => 1,
+        Point::Judged => 2,
+        Point::Booked => 3,
+        Point::Fed => 4,
     };
     (stop.who as usize) * POINTS + point
 }
