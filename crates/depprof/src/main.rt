@@ -2,14 +2,15 @@
 #![tactic(auto)]
 
 mod file_shelf;
+mod progress;
 mod streams;
 #[cfg(test)]
 mod tests;
 mod words;
 
 use file_shelf::FileShelf;
-use ports::OpenGate;
 use profile_cli::run;
+use progress::Progress;
 use rel_base::Limits;
 use std::process::ExitCode;
 use streams::{StandardIn, StandardOut};
@@ -20,6 +21,7 @@ fn main(rt: HostRuntime) -> ExitCode {
         Ok(words) => {
             let mut shelf = FileShelf::new(&rt);
             let mut input = StandardIn::new(&rt);
+            let progress = Progress::asked(&rt);
             run(
                 &rt,
                 rt.alloc(),
@@ -27,7 +29,7 @@ fn main(rt: HostRuntime) -> ExitCode {
                 &mut shelf,
                 &mut input,
                 &mut out,
-                &OpenGate,
+                &progress,
                 Limits::standard(),
             )
         }

@@ -1,14 +1,19 @@
 use crate::file_shelf::FileShelf;
+use crate::progress::Progress;
 use crate::streams::{StandardIn, StandardOut, write_some};
 use crate::words::{WordsFault, end_without};
 use ports::{
-    Closing, Creating, Loading, OpenGate, Reading, Shelf, Sink, Source, Storing, SureSink, Writing,
-    load_file, store_file,
+    Closing, Creating, Gate, Loading, OpenGate, Point, Reading, Shelf, Sink, Source, Storing,
+    SureSink, Writing, load_file, store_file,
 };
 use profile_cli::{Outcome, run, usage_line};
 use rel_base::{Limits, Name};
+use std::fmt::Display;
 use std::io::Write;
+use std::rt::Clock;
+use std::sync::atomic::{AtomicU64, Ordering};
 use std::test::Fail;
+use std::time::Duration;
 use std::{env, fs, io};
 
 // A path in the system's folder for such files, which no other run of the tests uses.
@@ -121,4 +126,69 @@ impl Write for Unflushed {
 #[test]
 fn a_failed_flush_is_a_failed_write(rt: HostRuntime) {
     assert!(rt; write_some(&mut Unflushed, b"a line").is_none());
+}
+
+// A clock whose every reading is a second after the one before it, or that fails, and a standard error that counts lines, or fails.
+#[derive(Drop)]
+struct Outer {
+    readings: AtomicU64,
+    lines: AtomicU64,
+    has_clock: bool,
+    takes_lines: bool,
+}
+
+impl Clock for Outer {
+    fn monotonic(&self) -> io::Result<Duration> {
+        let second = self.readings.fetch_add(1, Ordering::SeqCst);
+        if self.has_clock {
+            Ok(Duration::from_secs(second))
+        } else {
+            Err(io::Error::from(io::ErrorKind::Unsupported))
+        }
+    }
+
+    fn since_1970(&self) -> io::Result<Duration> {
+        self.monotonic()
+    }
+}
+
+impl Eprint for Outer {
+    fn eprint<D: Display + Drop>(&self, _value: D) -> io::Result<()> {
+        Ok(())
+    }
+
+    fn eprintln<D: Display + Drop>(&self, _value: D) -> io::Result<()> {
+        self.lines.fetch_add(1, Ordering::SeqCst);
+        if self.takes_lines {
+            Ok(())
+        } else {
+            Err(io::Error::from(io::ErrorKind::BrokenPipe))
+        }
+    }
+}
+
+// Whether there is a clock, whether lines are taken, and how many are written while a gate is passed five times.
+static TELLINGS: [(bool, bool, u64); 3] = [(true, true, 5), (true, false, 5), (false, true, 0)];
+
+#[test]
+fn progress_is_told_as_seconds_go_by(rt: HostRuntime) {
+    for (has_clock, takes_lines, wanted) in &TELLINGS {
+        let outer = Outer {
+            readings: AtomicU64::new(0),
+            lines: AtomicU64::new(0),
+            has_clock: *has_clock,
+            takes_lines: *takes_lines,
+        };
+        let progress = Progress::told(&outer);
+        for point in [
+            Point::Sought,
+            Point::Drawn,
+            Point::Judged,
+            Point::Booked,
+            Point::Fed,
+        ] {
+            progress.at(1, point);
+        }
+        assert!(rt; outer.lines.load(Ordering::SeqCst) == *wanted);
+    }
 }

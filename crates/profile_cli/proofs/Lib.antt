@@ -14,3 +14,4 @@ pub mod RowParts
 pub mod Witnessed
 pub mod Tables
 pub mod Drawn
+pub mod Waits

@@ -63,7 +63,7 @@ pub fails_within : (at : ℕ) (r : RowState) (why : Why) (ops : List Op) → aft
 fails_within at r why ops e = let w = after-fails 1 at r why ops e in let a = w.0 in let b = w.1 in (omega arith, omega arith)
 
 -- ---- an item leaves the width
-kept-width : (r : RowState) (ops : List Op) (a : Result RowState (ℕ × Why)) → after r ops ≡ a → width (kept_or_after r a) ≡ width r
+pub kept-width : (r : RowState) (ops : List Op) (a : Result RowState (ℕ × Why)) → after r ops ≡ a → width (kept_or_after r a) ≡ width r
 kept-width r ops (Ok s) is = ap length (after-names 1 r s ops is)
 kept-width r ops (Err e) is = refl
 

@@ -14,3 +14,4 @@ pub mod Session
 pub mod Items
 pub mod Columns
 pub mod FilesRead
+pub mod Waiting

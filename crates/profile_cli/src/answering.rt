@@ -4,7 +4,7 @@ ghost use Rattle.ports.specs.Faults.{SameFaults};
 ghost use Rattle.ports.specs.Files.{Nothing};
 ghost use Rattle.profile_cli.specs.Ends.{IsInputFault, IsInputRefusal, IsReadThrough, IsUnwritten, OnRead, Runs};
 ghost use Rattle.profile_cli.specs.Outcomes.{IfReadFault, IfRefused, OnDone, UnlessFaulted};
-ghost use Rattle.profile_cli.specs.Task.{task_of};
+ghost use Rattle.profile_cli.specs.Task.{HasWorkers, task_of};
 
 use crate::Outcome;
 use crate::demo::demo_text_of;
@@ -15,32 +15,43 @@ use crate::reports::reports_of;
 use crate::request::Request;
 use crate::session::session_of;
 use crate::writing::write_made;
-use ports::{Loading, Shelf, Sink, Source, load};
+use ports::{Gate, Loading, Shelf, Sink, Source, load};
 use rel_base::{Limits, Relation};
 use std::alloc::{AllocError, Global};
+use std::sync::Wait;
 use std::thread::Threads;
 
 // What the request writes by the relations of its files and by the input. A further command is one more case.
-fn made_of<R: Threads + Sync>(
+fn made_of<R: Threads + Wait + Sync, G: Gate + Sync>(
     rt: &R,
     alloc: Global,
     request: &Request,
+    gate: &G,
     limits: Limits,
     mut relations: Vec<Relation>,
     input: &[u8],
 ) -> Result<Made, AllocError>
     requires relations { length relations.items ≡ length (task_of request.now).reads }
     requires short { length input.now < 2 ^ 32 }
+    requires workers { HasWorkers (task_of request.now) }
     ensures { IfOk result (λ made. made ≡ (task_of request.now).writes limits relations.items input.now) }
 {
     match request {
         Request::Profile { options, files } => {
-            let text = reports_of(rt, alloc, *options, limits, files.as_slice(), relations)?;
+            let text = reports_of(
+                rt,
+                alloc,
+                *options,
+                gate,
+                limits,
+                files.as_slice(),
+                relations,
+            )?;
             Ok(Made::text_alone(alloc, text))
         }
         Request::Session { options, file } => {
             let relation = relations.swap_remove(0);
-            let text = session_of(rt, alloc, *options, limits, file, relation, input)?;
+            let text = session_of(rt, alloc, *options, gate, limits, file, relation, input)?;
             Ok(Made::text_alone(alloc, text))
         }
         Request::Normalize {
@@ -52,6 +63,7 @@ fn made_of<R: Threads + Sync>(
                 rt,
                 alloc,
                 *workers,
+                gate,
                 limits,
                 prefix,
                 file,
@@ -59,14 +71,14 @@ fn made_of<R: Threads + Sync>(
             )
         }
         Request::Demo { workers, seed } => {
-            let text = demo_text_of(rt, alloc, *workers, limits, *seed)?;
+            let text = demo_text_of(rt, alloc, *workers, gate, limits, *seed)?;
             Ok(Made::text_alone(alloc, text))
         }
     }
 }
 
 /// Reads the input, if the request has it read, and writes what the request asks for by the relations of its files, or why there is nothing to write.
-pub(crate) fn answer<R: Threads + Sync, H: Shelf, I: Source, O: Sink>(
+pub(crate) fn answer<R: Threads + Wait + Sync, H: Shelf, I: Source, O: Sink, G: Gate + Sync>(
     rt: &R,
     alloc: Global,
     request: &Request,
@@ -74,10 +86,12 @@ pub(crate) fn answer<R: Threads + Sync, H: Shelf, I: Source, O: Sink>(
     shelf: &mut H,
     input: &mut I,
     out: &mut O,
+    gate: &G,
     limits: &Limits,
 ) -> Outcome
     requires closed { H.opened shelf.old ≡ Nothing }
     requires relations { length relations.items ≡ length (task_of request.now).reads }
+    requires workers { HasWorkers (task_of request.now) }
     ensures runs { Runs (OnRead (task_of request.now) limits.now relations.items (I.left input.old)) result
         (H.content shelf.old) (H.content shelf.new) (O.held out.old) (O.held out.new) (O.faults out.old) (O.faults out.new) H.write_faults H.write_last shelf.old shelf.new }
     ensures refused { IfRefused result (λ file rec why. IsInputRefusal limits.now (task_of request.now).reads_input file rec why (I.left input.old) (I.left input.new)) }
@@ -92,12 +106,20 @@ pub(crate) fn answer<R: Threads + Sync, H: Shelf, I: Source, O: Sink>(
     ensures opens { H.opens shelf.new ≡ H.opens shelf.old }
 {
     if !request.reads_input() {
-        let made = made_of(rt, alloc, request, *limits, relations, &[]);
+        let made = made_of(rt, alloc, request, gate, *limits, relations, &[]);
         return write_made(made, shelf, out);
     }
     match load(alloc, input, limits.bytes) {
         Loading::Loaded(bytes) => {
-            let made = made_of(rt, alloc, request, *limits, relations, bytes.as_slice());
+            let made = made_of(
+                rt,
+                alloc,
+                request,
+                gate,
+                *limits,
+                relations,
+                bytes.as_slice(),
+            );
             write_made(made, shelf, out)
         }
         Loading::TooLong => refuse_input(alloc, out),

@@ -1,20 +1,24 @@
 // The relation that `demo` makes, and the counts of what `normalize` would write for it.
-ghost use Rattle.std.specs.Prelude.{◌≡◌, ◌++◌, ◌∷◌, ◌<◌, ◌^◌, [], length, map, decimal, IfOk, OnOk};
+ghost use Rattle.std.specs.Prelude.{◌≡◌, ◌++◌, ◌∷◌, ◌<◌, ◌≤◌, ◌^◌, [], None, length, map, decimal, IfOk, OnOk};
 ghost use Rattle.csv.specs.Records.{fields_of, partial_of};
 ghost use Rattle.rel_base.specs.declared.nulls.Nulls.TheVariants.{Equal};
 ghost use Rattle.rel_base.specs.Inclusion.{all_columns, inclusions};
 ghost use Rattle.rel_base.specs.RowState.{opened};
+ghost use Rattle.cover_steps.specs.Core.{first_unfinished as first_unfinished_of};
 ghost use Rattle.profile_cli.specs.Demo as words;
 
 use crate::columns::Columns;
+use crate::covering::{covers_of, settled};
 use crate::normalizing::tables_of;
 use cover_core::Book;
 use csv::ByteRecord;
 use itoa::Buffer;
+use ports::Gate;
 use rel_base::{Limits, Nulls, Relation, Row};
 use report_text::demo_line;
 use row_log::RowLog;
 use std::alloc::{AllocError, Global};
+use std::sync::Wait;
 use std::thread::Threads;
 
 const ROWS: u32 = 5_000;
@@ -142,17 +146,18 @@ fn count_inclusions<R: Threads + Sync>(
     columns.count_inclusions(rt, alloc, workers)
 }
 
-// The line of the counts of what `normalize` would write for a book's rows.
+// The line of the counts of what `normalize` would write for a book's rows, of which each candidate is known to hold.
 fn counted<R: Threads + Sync>(
     rt: &R,
     alloc: Global,
     workers: u8,
     seed: u32,
-    book: &mut Book,
+    book: &Book,
 ) -> Result<Vec<u8>, AllocError>
-    ensures { IfOk result (λ text. text.items ≡ words.demo_text seed book.old.rows) }
+    requires { first_unfinished_of book.now ≡ None }
+    ensures { IfOk result (λ text. text.items ≡ words.demo_text seed book.now.rows) }
 {
-    let found = book.finish_by(rt, workers)?;
+    let found = covers_of(book)?;
     let inclusions = count_inclusions(rt, alloc, workers, book.rows())?;
     let tables = tables_of(alloc, book.rows(), &found)?;
     demo_line(
@@ -166,16 +171,19 @@ fn counted<R: Threads + Sync>(
 }
 
 /// The line of counts that `demo` writes for a seed.
-pub(crate) fn demo_text_of<R: Threads + Sync>(
+pub(crate) fn demo_text_of<R: Threads + Wait + Sync, G: Gate + Sync>(
     rt: &R,
     alloc: Global,
     workers: u8,
+    gate: &G,
     limits: Limits,
     seed: u32,
 ) -> Result<Vec<u8>, AllocError>
+    requires { (0 < workers) × (workers ≤ 16) }
     ensures { IfOk result (λ text. text.items ≡ words.demo_text seed (opened Equal limits.rows (words.demo_content seed))) }
 {
     let relation = demo_relation(alloc, seed)?;
-    let mut book = Book::open_by(rt, alloc, relation, limits, Nulls::Equal, workers)?;
-    counted(rt, alloc, workers, seed, &mut book)
+    let coded = Book::open_by(rt, alloc, relation, limits, Nulls::Equal, workers)?;
+    let book = settled(rt, alloc, workers, gate, coded)?;
+    counted(rt, alloc, workers, seed, &book)
 }

@@ -4,6 +4,7 @@
 mod answering;
 mod columns;
 mod command;
+mod covering;
 mod demo;
 mod ending;
 pub mod laws;

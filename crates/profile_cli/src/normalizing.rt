@@ -1,13 +1,15 @@
 // The tables of `normalize`.
-ghost use Rattle.std.specs.Prelude.{◌≡◌, ◌==◌, ◌+◌, ◌++◌, ◌<◌, ◌^◌, ℕ, map, not, IfOk, OnOk, length};
+ghost use Rattle.std.specs.Prelude.{◌≡◌, ◌==◌, ◌+◌, ◌++◌, ◌<◌, ◌≤◌, ◌^◌, ℕ, None, map, not, IfOk, OnOk, length};
 ghost use Rattle.std.specs.List.{All, enumerate_from, filter, range_with_len};
 ghost use Rattle.rel_base.specs.declared.nulls.Nulls.TheVariants.{Equal};
 ghost use Rattle.rel_base.specs.Covers.{covers, least_covers};
 ghost use Rattle.rel_base.specs.Projection.{part};
 ghost use Rattle.rel_base.specs.RowState.{opened, width, IsRowState};
+ghost use Rattle.cover_steps.specs.Core.{first_unfinished as first_unfinished_of};
 ghost use Rattle.negative_cover.specs.Witnesses.{sets_of};
 ghost use Rattle.profile_cli.specs.Normalize as words;
 
+use crate::covering::settled;
 use crate::made::Made;
 use crate::projecting::projected;
 use crate::session::push_whole_report;
@@ -15,12 +17,13 @@ use bcnf_split::split;
 use cover_core::Book;
 use key_finder::table_keys_of;
 use lossless_join::project;
-use ports::Text;
+use ports::{Gate, Text};
 use rel_base::{ColSet, Covers, Limits, Name, Nulls, Relation, Row, Table};
 use report_text::{Lines, table_file};
 use row_log::RowLog;
 use std::alloc::{AllocError, Global};
 use std::slice;
+use std::sync::Wait;
 use std::thread::Threads;
 
 // The number of the table at a place. There is no memory for as many tables as would go beyond the numbers.
@@ -167,12 +170,14 @@ fn push_normalized<R: Threads + Sync>(
     prefix: &Name,
     file: &Name,
     lines: &mut Lines,
-    book: &mut Book,
+    book: &Book,
 ) -> Result<Vec<(Name, Text)>, AllocError>
-    requires equal { book.old.rows.nulls ≡ Equal }
-    requires live { book.old.rows.live ≡ range_with_len 1 (length book.old.rows.given) }
-    ensures text { OnOk result (lines.new ≡ lines.old ++ (words.normalized prefix.now file.now book.old.rows).text) }
-    ensures files { IfOk result (λ files. files.items ≡ (words.normalized prefix.now file.now book.old.rows).files) }
+    requires equal { book.now.rows.nulls ≡ Equal }
+    requires live { book.now.rows.live ≡ range_with_len 1 (length book.now.rows.given) }
+    requires finished { first_unfinished_of book.now ≡ None }
+    requires evidence { covers book.now.rows ≡ least_covers (width book.now.rows) (sets_of book.now.witnesses) }
+    ensures text { OnOk result (lines.new ≡ lines.old ++ (words.normalized prefix.now file.now book.now.rows).text) }
+    ensures files { IfOk result (λ files. files.items ≡ (words.normalized prefix.now file.now book.now.rows).files) }
 {
     let found = push_whole_report(rt, alloc, workers, lines, file, book)?;
     let tables = tables_of(alloc, book.rows(), &found)?;
@@ -185,19 +190,22 @@ fn push_normalized<R: Threads + Sync>(
 ///
 /// The relation is let go as soon as it is coded: the rows of the tables are made of the codes again. The other keys are found by the agree sets of
 /// the witnesses alone, without a look at the rows.
-pub(crate) fn normalized_of<R: Threads + Sync>(
+pub(crate) fn normalized_of<R: Threads + Wait + Sync, G: Gate + Sync>(
     rt: &R,
     alloc: Global,
     workers: u8,
+    gate: &G,
     limits: Limits,
     prefix: &Name,
     file: &Name,
     relation: Relation,
 ) -> Result<Made, AllocError>
+    requires { (0 < workers) × (workers ≤ 16) }
     ensures { IfOk result (λ made. made ≡ words.normalized prefix.now file.now (opened Equal limits.rows relation)) }
 {
-    let mut book = Book::open_by(rt, alloc, relation, limits, Nulls::Equal, workers)?;
+    let coded = Book::open_by(rt, alloc, relation, limits, Nulls::Equal, workers)?;
+    let book = settled(rt, alloc, workers, gate, coded)?;
     let mut lines = Lines::new(alloc);
-    let files = push_normalized(rt, alloc, workers, prefix, file, &mut lines, &mut book)?;
+    let files = push_normalized(rt, alloc, workers, prefix, file, &mut lines, &book)?;
     Ok(Made::of(files, lines.into_text()?))
 }

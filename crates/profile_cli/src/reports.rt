@@ -1,33 +1,32 @@
 // The text of a run.
-ghost use Rattle.std.specs.Prelude.{◌≡◌, ◌++◌, length, map, IfOk, OnOk};
-ghost use Rattle.negative_cover.specs.Witnesses.{sets_of};
-ghost use Rattle.rel_base.specs.Covers.{covers, least_covers};
-ghost use Rattle.rel_base.specs.RowState.{opened, width};
+ghost use Rattle.std.specs.Prelude.{◌≡◌, ◌++◌, ◌<◌, ◌≤◌, None, length, map, IfOk, OnOk};
+ghost use Rattle.rel_base.specs.Covers.{covers};
+ghost use Rattle.rel_base.specs.RowState.{opened};
+ghost use Rattle.cover_steps.specs.Core.{first_unfinished as first_unfinished_of};
 ghost use Rattle.profile_cli.specs.Reports.{report_of, reports};
 
 use crate::columns::Columns;
+use crate::covering::{covers_of, settled};
 use crate::request::Options;
 use cover_core::Book;
+use ports::Gate;
 use rel_base::{Covers, Limits, Name, Relation};
 use report_text::Lines;
 use std::alloc::{AllocError, Global};
+use std::sync::Wait;
 use std::thread::Threads;
 
-/// Adds the report of a book's rows, and gives the covers that so many workers at most found for it. The agree sets of the witnesses
-/// leave them, too.
-pub(crate) fn push_report_of<R: Threads + Sync>(
-    rt: &R,
-    workers: u8,
+/// Adds the report of a book's rows, of which each candidate is known to hold, and gives their covers.
+pub(crate) fn push_report_of(
     lines: &mut Lines,
     name: &Name,
-    book: &mut Book,
+    book: &Book,
 ) -> Result<Covers, AllocError>
-    ensures text { OnOk result (lines.new ≡ lines.old ++ report_of name.now book.old.rows) }
-    ensures covers { IfOk result (λ found. found ≡ covers book.old.rows) }
-    ensures evidence { OnOk result (covers book.old.rows ≡ least_covers (width book.old.rows) (sets_of book.new.witnesses)) }
-    ensures rows { book.new.rows ≡ book.old.rows }
+    requires { first_unfinished_of book.now ≡ None }
+    ensures text { OnOk result (lines.new ≡ lines.old ++ report_of name.now book.now.rows) }
+    ensures covers { IfOk result (λ found. found ≡ covers book.now.rows) }
 {
-    let found = book.finish_by(rt, workers)?;
+    let found = covers_of(book)?;
     let rows = book.rows();
     lines.push_report(name, rows.names(), u64::from(rows.live_len()), &found)?;
     Ok(found)
@@ -36,22 +35,25 @@ pub(crate) fn push_report_of<R: Threads + Sync>(
 /// The reports of these relations, under these names, and then the inclusions among all their columns.
 ///
 /// A relation is let go as soon as it is coded, and its codes as soon as its report is made: its columns' distinct cells are kept.
-pub(crate) fn reports_of<R: Threads + Sync>(
+pub(crate) fn reports_of<R: Threads + Wait + Sync, G: Gate + Sync>(
     rt: &R,
     alloc: Global,
     options: Options,
+    gate: &G,
     limits: Limits,
     names: &[Name],
     relations: Vec<Relation>,
 ) -> Result<Vec<u8>, AllocError>
-    requires { length relations.items ≡ length names.now }
+    requires named { length relations.items ≡ length names.now }
+    requires workers { (0 < options.workers) × (options.workers ≤ 16) }
     ensures { IfOk result (λ text. text.items ≡ reports names.now (map (opened options.nulls limits.rows) relations.items)) }
 {
     let mut lines = Lines::new(alloc);
     let mut columns = Columns::new(alloc);
     for (place, relation) in relations.into_iter().enumerate() {
-        let mut book = Book::open_by(rt, alloc, relation, limits, options.nulls, options.workers)?;
-        push_report_of(rt, options.workers, &mut lines, &names[place], &mut book)?;
+        let coded = Book::open_by(rt, alloc, relation, limits, options.nulls, options.workers)?;
+        let book = settled(rt, alloc, options.workers, gate, coded)?;
+        push_report_of(&mut lines, &names[place], &book)?;
         columns.push(alloc, book.rows())?;
     }
     columns.push_inclusions(rt, alloc, options.workers, &mut lines)?;

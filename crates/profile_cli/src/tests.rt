@@ -2,6 +2,7 @@
 ghost use Rattle.std.specs.Prelude.{◌≡◌, ◌<◌, IfOk};
 ghost use Rattle.ports.specs.Files.{Nothing};
 
+mod beside;
 mod hostile;
 mod reports;
 mod sessions;
@@ -11,7 +12,7 @@ mod tables;
 mod words;
 
 use crate::{Outcome, run};
-use ports::{Kind, MemShelf, MemSink, MemSource, OpenGate, Text};
+use ports::{Gate, Kind, MemShelf, MemSink, MemSource, OpenGate, Text};
 use rel_base::{Limits, Name};
 use reports::{FILES_IN_ORDER, ONE_FILE};
 use sessions::{BATCHES, REPORTS};
@@ -103,12 +104,14 @@ fn shelf_of(
     MemShelf::with(alloc, held, 12, outside.room, fails, outside.largest)
 }
 
-// A run, what it came to, and what it wrote.
-fn run_of<R: Threads + Wait + Sync>(
+// A run of these words by this gate, what it came to, and what it wrote. The case gives its files and its input.
+fn run_by<R: Threads + Wait + Sync, G: Gate + Sync>(
     rt: &R,
     alloc: Global,
+    words: Vec<String>,
     case: &Case<'_>,
     outside: &Outside,
+    gate: &G,
     limits: Limits,
 ) -> Result<Ran, AllocError>
     requires { 0 < outside.now.largest }
@@ -119,9 +122,8 @@ fn run_of<R: Threads + Wait + Sync>(
     let mut input = MemSource::of(bytes, vec![in alloc; outside.read]?, largest);
     let fails = vec![in alloc; outside.write]?;
     let mut out = MemSink::with_room(alloc, outside.room, fails, largest)?;
-    let words = words_of(alloc, case.words)?;
     let outcome = run(
-        rt, alloc, words, &mut shelf, &mut input, &mut out, &OpenGate, limits,
+        rt, alloc, words, &mut shelf, &mut input, &mut out, gate, limits,
     );
     let text = Vec::from_slice(alloc, out.bytes())?;
     Ok(Ran {
@@ -129,6 +131,20 @@ fn run_of<R: Threads + Wait + Sync>(
         text,
         shelf,
     })
+}
+
+// A run, what it came to, and what it wrote.
+fn run_of<R: Threads + Wait + Sync>(
+    rt: &R,
+    alloc: Global,
+    case: &Case<'_>,
+    outside: &Outside,
+    limits: Limits,
+) -> Result<Ran, AllocError>
+    requires { 0 < outside.now.largest }
+{
+    let words = words_of(alloc, case.words)?;
+    run_by(rt, alloc, words, case, outside, &OpenGate, limits)
 }
 
 // How much of these pieces, one after another, the text is.

@@ -11,7 +11,7 @@ ghost use Rattle.profile_cli.specs.Contents.{first_refusal};
 ghost use Rattle.profile_cli.specs.Ends.{IsFileFault, IsFileRefusal, IsInput, IsInputFault, IsInputRefusal, AreAccepted, IsPut, IsReadThrough, IsUnwritten, IsWhole, OnSources, OnTold, Runs, StopsAtFile, StopsAtSink};
 ghost use Rattle.profile_cli.specs.Outcomes.{OnDone, OnUsage, IfRefused, IfReadFault, OnWriteFault, OnNoMemory, UnlessFaulted, UnlessWritten, IsDoneOrNoMemory, IsUsageOrNoMemory, IsRefusedOrNoMemory};
 ghost use Rattle.profile_cli.specs.Output.{output, refusal};
-ghost use Rattle.profile_cli.specs.Task.{files_read, task_of};
+ghost use Rattle.profile_cli.specs.Task.{files_read, HasWorkers, task_of};
 ghost use Rattle.profile_cli.specs.Usage.{usage_text};
 ghost use Rattle.profile_cli.specs.declared.request.Request.{Request};
 
@@ -33,6 +33,9 @@ use std::thread::Threads;
 /// these the inclusions among the columns of all of them.
 ///
 /// `session FILE` reads the file and then a change text, the input, to its end, and answers its batches and requests for a report in their order.
+///
+/// The covers of a relation are found by a phase of as many workers as the words ask for. In a session one phase takes the batches between two reports, and
+/// one more those behind the last. Each phase passes the gate.
 ///
 /// What a command reads and writes is said by `task_of`, and what a run writes by `output`.
 pub fn run<R: Threads + Wait + Sync, H: Shelf, I: Source, O: Sink, G: Gate + Sync>(
@@ -120,7 +123,7 @@ pub fn run<R: Threads + Wait + Sync, H: Shelf, I: Source, O: Sink, G: Gate + Syn
     ensures no_input { words_of.command (texts words.items) ≡ None → input.new ≡ input.old }
 {
     match request_of(alloc, words.as_slice()) {
-        Ok(Some(request)) => perform(rt, alloc, request, shelf, input, out, &limits),
+        Ok(Some(request)) => perform(rt, alloc, request, shelf, input, out, gate, &limits),
         Ok(None) => {
             put_all(out, usage_line());
             Outcome::Usage
@@ -130,16 +133,18 @@ pub fn run<R: Threads + Wait + Sync, H: Shelf, I: Source, O: Sink, G: Gate + Syn
 }
 
 // Does what a request asks for.
-fn perform<R: Threads + Sync, H: Shelf, I: Source, O: Sink>(
+fn perform<R: Threads + Wait + Sync, H: Shelf, I: Source, O: Sink, G: Gate + Sync>(
     rt: &R,
     alloc: Global,
     request: Request,
     shelf: &mut H,
     input: &mut I,
     out: &mut O,
+    gate: &G,
     limits: &Limits,
 ) -> Outcome
-    requires { H.opened shelf.old ≡ Nothing }
+    requires closed { H.opened shelf.old ≡ Nothing }
+    requires workers { HasWorkers (task_of request) }
     ensures runs { Runs (OnTold (task_of request) limits.now (H.content shelf.old) (I.left input.old)) result
         (H.content shelf.old) (H.content shelf.new) (O.held out.old) (O.held out.new) (O.faults out.old) (O.faults out.new) H.write_faults H.write_last shelf.old shelf.new }
     ensures refused { IfRefused result (λ file rec why.
@@ -161,7 +166,9 @@ fn perform<R: Threads + Sync, H: Shelf, I: Source, O: Sink>(
 {
     match read_files(alloc, shelf, request.files(), limits) {
         FilesRead::Read(relations) => {
-            answer(rt, alloc, &request, relations, shelf, input, out, limits)
+            answer(
+                rt, alloc, &request, relations, shelf, input, out, gate, limits,
+            )
         }
         FilesRead::Refused { place, rec, why } => {
             refuse(alloc, request.into_file(place), rec, why, out)

@@ -3,9 +3,9 @@ use super::Case;
 
 pub const K: &[(&str, &str)] = &[("k.csv", "k,v\n1,x\n1,y\n2,z\n")];
 
-const K_HEAD: &str = "column,1,k\ncolumn,2,v\n";
+pub const K_HEAD: &str = "column,1,k\ncolumn,2,v\n";
 
-const WORDS: &[&str] = &["depprof", "session", "k.csv"];
+pub const WORDS: &[&str] = &["depprof", "session", "k.csv"];
 
 pub static BATCHES: [Case<'static>; 8] = [
     Case {

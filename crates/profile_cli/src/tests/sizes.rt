@@ -1,6 +1,7 @@
 // Inputs at the limits and beyond them.
+use super::beside::expect_by_any;
 use super::sessions::K;
-use super::{Case, Outside, R, R_REPORT, Ran, SURE, expect, run_of};
+use super::{Case, Outside, R, R_REPORT, Ran, SURE, run_of};
 use rel_base::{Limits, MOST_BYTES, MOST_CELL_BYTES, MOST_COLUMNS, MOST_ROWS};
 use std::alloc::{AllocError, Global};
 use std::sync::Wait;
@@ -179,7 +180,7 @@ fn limits_hold(rt: HostRuntime) -> Result<(), Fail> {
         assert!(rt; 0 < columns && columns <= MOST_COLUMNS && rows <= MOST_ROWS);
         assert!(rt; cell <= MOST_CELL_BYTES && bytes <= MOST_BYTES);
         let limits = Limits::smaller(columns, rows, cell, bytes);
-        expect(&rt, rt.alloc(), &limited.case, limits)?;
+        expect_by_any(&rt, rt.alloc(), &limited.case, &SURE, limits)?;
     }
     Ok(())
 }

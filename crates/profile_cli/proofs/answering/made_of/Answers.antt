@@ -10,12 +10,13 @@ use Rattle.profile_cli.specs.Written.{text_alone}
 use Rattle.profile_cli.specs.declared.request.Request.{Request}
 use Rattle.profile_cli.specs.declared.request.Request.TheVariants.{Profile}
 use Rattle.profile_cli.proofs.Storing.{at_place}
+use Rattle.profile_cli.proofs.Tasks.{some_workers}
 use Rattle.profile_cli.proofs.Texts.{IfOk-map}
 use Rattle.profile_cli.proofs.answering.made_of.Goals as goal
 
-pub reports_of-requires-after_bounds : goal.reports_of-requires-after_bounds
+pub reports_of-requires-clause-named : goal.reports_of-requires-clause-named
 unfolding task_of
-reports_of-requires-after_bounds g c κs within = c.requires.relations ∙ ap (λ (r : Request). length (task_of r).reads) c.in-Profile.is ∙ ap length (sym c.as_slice.ensures)
+reports_of-requires-clause-named g c κs within = c.requires.relations ∙ ap (λ (r : Request). length (task_of r).reads) c.in-Profile.is ∙ ap length (sym c.as_slice.ensures)
 
 pub swap_remove-relation-requires : goal.swap_remove-relation-requires
 unfolding task_of
@@ -62,3 +63,19 @@ unfolding task_of
 returns-in_ok-text-in-Demo g c =
     c.text_alone-in-Demo.ensures ∙ ap text_alone c.in_ok-text-in-Demo.ensures
     ∙ ap (λ (r : Request). (task_of r).writes c.args.limits c.args.relations.items c.args.input.now) (sym c.in-Demo.is)
+
+pub reports_of-requires-clause-workers : goal.reports_of-requires-clause-workers
+unfolding task_of
+reports_of-requires-clause-workers g c κs within = some_workers c.args.request.now c.in-Profile.options.workers (sym (ap (λ (r : Request). (task_of r).workers) c.in-Profile.is)) c.requires.workers
+
+pub session_of-requires-clause-workers : goal.session_of-requires-clause-workers
+unfolding task_of
+session_of-requires-clause-workers g c κs within = some_workers c.args.request.now c.in-Session.options.workers (sym (ap (λ (r : Request). (task_of r).workers) c.in-Session.is)) c.requires.workers
+
+pub normalized_of-requires-after_bounds : goal.normalized_of-requires-after_bounds
+unfolding task_of
+normalized_of-requires-after_bounds g c κs within = some_workers c.args.request.now c.in-Normalize.workers (sym (ap (λ (r : Request). (task_of r).workers) c.in-Normalize.is)) c.requires.workers
+
+pub demo_text_of-requires-after_bounds : goal.demo_text_of-requires-after_bounds
+unfolding task_of
+demo_text_of-requires-after_bounds g c κs within = some_workers c.args.request.now c.in-Demo.workers (sym (ap (λ (r : Request). (task_of r).workers) c.in-Demo.is)) c.requires.workers

@@ -9,9 +9,9 @@ use Rattle.profile_cli.proofs.demo.counted.Goals as goal
 
 pub returns : goal.returns
 returns g c =
-    let same : c.rows.result.now ≡ c.args.book.now.rows = c.rows.ensures.rows ∙ c.in_ok-found.ensures.rows in
-    let again : c.rows-2.result.now ≡ c.args.book.now.rows = c.rows-2.ensures.rows ∙ c.in_ok-found.ensures.rows in
-    let found : c.in_ok-found.found ≡ covers c.args.book.now.rows = c.in_ok-found.ensures.covers ∙ ap covers c.in_ok-found.ensures.rows in
+    let same : c.rows.result.now ≡ c.args.book.now.rows = c.rows.ensures.rows in
+    let again : c.rows-2.result.now ≡ c.args.book.now.rows = c.rows-2.ensures.rows in
+    let found : c.in_ok-found.found ≡ covers c.args.book.now.rows = c.in_ok-found.ensures in
     IfOk-map c.demo_line.result
     (λ text e. e ∙ demo-counted c.args.seed c.args.book.now.rows _ _ _ _ c.in_ok-tables.tables.items
     (ap length (c.keys.ensures ∙ ap (λ (l : CoverLists). l.keys) found))

@@ -10,4 +10,4 @@ use Rattle.profile_cli.proofs.demo.demo_text_of.Goals as goal
 pub returns : goal.returns
 returns g c =
     IfOk-map c.counted.result
-    (λ text e. e ∙ ap (demo_text c.args.seed) (ap (λ (b : Core). b.rows) c.in_ok-book.ensures ∙ ap (λ (r : Content). opened Equal c.args.limits.rows r) c.in_ok-relation.ensures)) c.counted.ensures
+    (λ text e. e ∙ ap (demo_text c.args.seed) (c.in_ok-book.ensures.rows ∙ ap (λ (b : Core). b.rows) c.in_ok-coded.ensures ∙ ap (λ (r : Content). opened Equal c.args.limits.rows r) c.in_ok-relation.ensures)) c.counted.ensures

@@ -7,7 +7,7 @@ use Rattle.profile_cli.proofs.normalizing.normalized_of.Goals as goal
 
 pub returns : goal.returns
 returns g c =
-    let rows : c.in_ok-book.book.rows ≡ opened Equal c.args.limits.rows c.args.relation = ap (λ (b : Core). b.rows) c.in_ok-book.ensures in
+    let rows : c.in_ok-book.book.rows ≡ opened Equal c.args.limits.rows c.args.relation = c.in_ok-book.ensures.rows ∙ ap (λ (b : Core). b.rows) c.in_ok-coded.ensures in
     let files : c.in_ok-files.files.items ≡ (normalized c.args.prefix.now c.args.file.now (opened Equal c.args.limits.rows c.args.relation)).files =
     c.in_ok-files.ensures.files ∙ ap (λ (r : RowState). (normalized c.args.prefix.now c.args.file.now r).files) rows in
     let text : c.in_ok-into_text.field-0.items ≡ (normalized c.args.prefix.now c.args.file.now (opened Equal c.args.limits.rows c.args.relation)).text =

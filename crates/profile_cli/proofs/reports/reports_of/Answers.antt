@@ -33,18 +33,18 @@ loop-place-preserved g c =
     let at : place ≡ 0 + n = ap (λ (p : ℕ × Content). p.0) met in
     let same : place ≡ n = omega arith in
     let here : relation ≡ get_or rs n relation = ap (λ (p : ℕ × Content). p.1) met in
-    let as_many : length rs ≡ length names = c.requires in
+    let as_many : length rs ≡ length names = c.requires.named in
     let inside : place < length names = omega arith in
     let states : List RowState = map f rs in
     let counted : length states ≡ length rs = length-map rs f in
-    let rows : c.push_report_of.new.book.rows ≡ f relation = c.in_ok-push_report_of.ensures.rows ∙ ap (λ (b : Core). b.rows) c.in_ok-book.ensures in
+    let rows : c.in_ok-book.book.rows ≡ f relation = c.in_ok-book.ensures.rows ∙ ap (λ (b : Core). b.rows) c.in_ok-coded.ensures in
     subst (λ (m : ℕ). AreReports names states m c.push_report_of.new.lines c.push.new.self.widths.items c.push.new.self.cells.items)
     (sym (length-append c.loop-place.yielded ((place, relation) ∷ [])))
     (AreReports-more names states n c.loop-place.lines c.push_report_of.new.lines c.loop-place.columns.widths.items c.push.new.self.widths.items c.loop-place.columns.cells.items c.push.new.self.cells.items
     c.index-names-place.result (f relation) (omega arith) (omega arith)
     (name_at names place c.index-names-place.result inside c.index-names-place.is ∙ ap (λ (i : ℕ). get_or names i []) same)
     (ap f here ∙ sym (get_or-map f rs n relation (f relation) h))
-    (c.in_ok-push_report_of.ensures.text ∙ ap (λ (b : Core). c.loop-place.lines ++ report_of c.index-names-place.result b.rows) c.in_ok-book.ensures)
+    (c.in_ok-push_report_of.ensures.text ∙ ap (λ (r : RowState). c.loop-place.lines ++ report_of c.index-names-place.result r) rows)
     (λ before are. subst (λ (r : RowState). AreColumnsOf (before ++ r ∷ []) c.push.new.self.widths.items c.push.new.self.cells.items) (c.rows.ensures.rows ∙ rows) (c.in_ok-push.ensures before are))
     c.loop-place.invariant)
 
@@ -66,18 +66,18 @@ loop-place-preserved-in_ok-push g c =
     let at : place ≡ 0 + n = ap (λ (p : ℕ × Content). p.0) met in
     let same : place ≡ n = omega arith in
     let here : relation ≡ get_or rs n relation = ap (λ (p : ℕ × Content). p.1) met in
-    let as_many : length rs ≡ length names = c.requires in
+    let as_many : length rs ≡ length names = c.requires.named in
     let inside : place < length names = omega arith in
     let states : List RowState = map f rs in
     let counted : length states ≡ length rs = length-map rs f in
-    let rows : c.push_report_of.new.book.rows ≡ f relation = c.in_ok-push_report_of.ensures.rows ∙ ap (λ (b : Core). b.rows) c.in_ok-book.ensures in
+    let rows : c.in_ok-book.book.rows ≡ f relation = c.in_ok-book.ensures.rows ∙ ap (λ (b : Core). b.rows) c.in_ok-coded.ensures in
     subst (λ (m : ℕ). AreReports names states m c.push_report_of.new.lines c.push.new.self.widths.items c.push.new.self.cells.items)
     (sym (length-append c.loop-place.yielded ((place, relation) ∷ [])))
     (AreReports-more names states n c.loop-place.lines c.push_report_of.new.lines c.loop-place.columns.widths.items c.push.new.self.widths.items c.loop-place.columns.cells.items c.push.new.self.cells.items
     c.index-names-place.result (f relation) (omega arith) (omega arith)
     (name_at names place c.index-names-place.result inside c.index-names-place.is ∙ ap (λ (i : ℕ). get_or names i []) same)
     (ap f here ∙ sym (get_or-map f rs n relation (f relation) h))
-    (c.in_ok-push_report_of.ensures.text ∙ ap (λ (b : Core). c.loop-place.lines ++ report_of c.index-names-place.result b.rows) c.in_ok-book.ensures)
+    (c.in_ok-push_report_of.ensures.text ∙ ap (λ (r : RowState). c.loop-place.lines ++ report_of c.index-names-place.result r) rows)
     (λ before are. subst (λ (r : RowState). AreColumnsOf (before ++ r ∷ []) c.push.new.self.widths.items c.push.new.self.cells.items) (c.rows.ensures.rows ∙ rows) (c.in_ok-push.ensures before are))
     c.loop-place.invariant)
 
@@ -89,7 +89,7 @@ push_inclusions-requires-after_bounds g c κs lives =
     (YieldsList-from_enumerate (YieldsList-at c.enumerate-place-items.ensures.source (YieldsList-from_vec rs c.into_iter.ensures.rest (c.into_iter.ensures.len ∙ c.args.relations.ok.0))) c.enumerate-place-items.ensures.count))
     c.loop-place.yielded c.loop-place.place-iterator c.loop-place.yielded_by c.next.result c.next.new.self c.in-None.is c.next.ensures.steps in
     let all : length c.loop-place.yielded ≡ length rs = end.1 ∙ length-enumerate_from 0 rs in
-    let as_many : length rs ≡ length c.args.names.now = c.requires in
+    let as_many : length rs ≡ length c.args.names.now = c.requires.named in
     let counted : length states ≡ length rs = length-map rs (opened c.args.options.nulls c.args.limits.rows) in
     (states, (AreReports-whole c.args.names.now states (length c.loop-place.yielded) c.loop-place.lines c.loop-place.columns.widths.items c.loop-place.columns.cells.items (omega arith) (omega arith) c.loop-place.invariant).1)
 
@@ -101,7 +101,7 @@ returns g c =
     (YieldsList-from_enumerate (YieldsList-at c.enumerate-place-items.ensures.source (YieldsList-from_vec rs c.into_iter.ensures.rest (c.into_iter.ensures.len ∙ c.args.relations.ok.0))) c.enumerate-place-items.ensures.count))
     c.loop-place.yielded c.loop-place.place-iterator c.loop-place.yielded_by c.next.result c.next.new.self c.in-None.is c.next.ensures.steps in
     let all : length c.loop-place.yielded ≡ length rs = end.1 ∙ length-enumerate_from 0 rs in
-    let as_many : length rs ≡ length c.args.names.now = c.requires in
+    let as_many : length rs ≡ length c.args.names.now = c.requires.named in
     let counted : length states ≡ length rs = length-map rs (opened c.args.options.nulls c.args.limits.rows) in
     let whole = AreReports-whole c.args.names.now states (length c.loop-place.yielded) c.loop-place.lines c.loop-place.columns.widths.items c.loop-place.columns.cells.items (omega arith) (omega arith) c.loop-place.invariant in
     IfOk-map c.into_text.result

@@ -1,52 +1,65 @@
-use Rattle.std.proofs.Common.{◌∙◌, ◌++◌, sym, ap, arith, subst}
-use Rattle.rel_base.specs.RowState.{width}
-use Rattle.batch_update.specs.declared.item.Item.{Item}
-use Rattle.batch_update.specs.declared.item.Item.TheVariants.{Batch, Bad}
-use Rattle.profile_cli.specs.Items.{IsAnswerable}
-use Rattle.profile_cli.specs.Session.{item_rows, item_text}
-use Rattle.profile_cli.proofs.Texts.{OnOk-always, OnOk-map}
+use Rattle.std.proofs.Common.{◌≡◌, ◌∙◌, ◌++◌, ◌+◌, ◌-◌, ℕ, List, length, ap, sym, subst, arith, Result}
+use Rattle.rel_base.specs.RowState.{RowState}
+use Rattle.rel_base.specs.Batches.{after, kept_or_after}
+use Rattle.rel_base.specs.declared.batch.Op.{Op}
+use Rattle.rel_base.specs.declared.why.Why.{Why}
+use Rattle.row_log.specs.declared.applying.Applying.{Applying}
+use Rattle.row_log.specs.declared.applying.Applying.TheVariants.{Applied}
+use Rattle.report_text.specs.Outcome.{applied_line}
+use Rattle.profile_cli.specs.Session.{batch_line}
+use Rattle.profile_cli.specs.Waiting.{IsReply}
+use Rattle.profile_cli.proofs.Waits.{adds_up, refused_at}
 use Rattle.profile_cli.proofs.session.push_answer.Goals as goal
 
-pub overflow_cast-no : goal.overflow_cast-no
-overflow_cast-no g c =
-    let h : IsAnswerable (width c.args.book.now.rows) (Batch c.in-Batch.no c.in-Batch.first c.in-Batch.batch) = subst (IsAnswerable (width c.args.book.now.rows)) c.in-Batch.is c.requires in
-    let small = h.0 in
+pub overflow_add-live : goal.overflow_add-live
+overflow_add-live c =
+    let a = adds_up c.args.first c.requires.0 c.requires.1 c.in-Applied.inserted c.in-Applied.deleted c.args.live
+    (subst (λ (reply : Applying). IsReply c.args.first c.requires.0 c.requires.1 reply c.args.live) c.in-Applied.is c.requires.2) in
+    let fits = a.fits in
     omega arith
 
-pub push_batch-requires-clause-wide : goal.push_batch-requires-clause-wide
-push_batch-requires-clause-wide g c =
-    let h : IsAnswerable (width c.args.book.now.rows) (Batch c.in-Batch.no c.in-Batch.first c.in-Batch.batch) = subst (IsAnswerable (width c.args.book.now.rows)) c.in-Batch.is c.requires in
-    h.2
-
-pub push_batch-requires-clause-records : goal.push_batch-requires-clause-records
-push_batch-requires-clause-records g c =
-    let h : IsAnswerable (width c.args.book.now.rows) (Batch c.in-Batch.no c.in-Batch.first c.in-Batch.batch) = subst (IsAnswerable (width c.args.book.now.rows)) c.in-Batch.is c.requires in
-    h.1
-
-pub overflow_cast-no-in-Bad : goal.overflow_cast-no-in-Bad
-overflow_cast-no-in-Bad g c =
-    let small : IsAnswerable (width c.args.book.now.rows) (Bad c.in-Bad.no c.in-Bad.rec c.in-Bad.why) = subst (IsAnswerable (width c.args.book.now.rows)) c.in-Bad.is c.requires in
+pub overflow_sub-live : goal.overflow_sub-live
+overflow_sub-live c =
+    let a = adds_up c.args.first c.requires.0 c.requires.1 c.in-Applied.inserted c.in-Applied.deleted c.args.live
+    (subst (λ (reply : Applying). IsReply c.args.first c.requires.0 c.requires.1 reply c.args.live) c.in-Applied.is c.requires.2) in
+    let sum = a.live_is in
     omega arith
 
-pub returns-in-Batch-clause-text : goal.returns-in-Batch-clause-text
-returns-in-Batch-clause-text g c =
-    OnOk-map c.push_batch.result (λ e. e ∙ ap (λ (x : Item). c.args.lines.now ++ item_text c.args.name.now c.args.book.now.rows x) (sym c.in-Batch.is)) c.push_batch.ensures.text
+pub overflow_add-first : goal.overflow_add-first
+overflow_add-first c =
+    let is = subst (λ (reply : Applying). IsReply c.args.first c.requires.0 c.requires.1 reply c.args.live) c.in-Refused.is c.requires.2 in
+    let w = refused_at c.args.first c.requires.0 c.requires.1 c.in-Refused.at c.in-Refused.why c.args.live is in
+    let most = w.2 in
+    let short = is.short in
+    omega arith
 
-pub returns-in-Batch-clause-rows : goal.returns-in-Batch-clause-rows
-returns-in-Batch-clause-rows g c =
-    OnOk-map c.push_batch.result (λ e. e ∙ ap (item_rows c.args.book.now.rows) (sym c.in-Batch.is)) c.push_batch.ensures.rows
+pub overflow_sub-first : goal.overflow_sub-first
+overflow_sub-first c =
+    let w = refused_at c.args.first c.requires.0 c.requires.1 c.in-Refused.at c.in-Refused.why c.args.live
+    (subst (λ (reply : Applying). IsReply c.args.first c.requires.0 c.requires.1 reply c.args.live) c.in-Refused.is c.requires.2) in
+    let least = w.1 in
+    omega arith
 
-pub returns-in-Bad-clause-text : goal.returns-in-Bad-clause-text
-returns-in-Bad-clause-text g c =
-    OnOk-map c.push_refused_line.result (λ e. e ∙ ap (λ (x : Item). c.args.lines.now ++ item_text c.args.name.now c.args.book.now.rows x) (sym c.in-Bad.is)) c.push_refused_line.ensures.ok
+-- the rows after a batch that was applied
+live_after : (first : ℕ) (r : RowState) (ops : List Op) (inserted deleted live : ℕ) (reply : Applying) → reply ≡ Applied inserted deleted → IsReply first r ops reply live
+    → live + inserted - deleted ≡ length (kept_or_after r (after r ops)).live
+live_after first r ops inserted deleted live reply is h =
+    let a = adds_up first r ops inserted deleted live (subst (λ (given : Applying). IsReply first r ops given live) is h) in
+    let sum = a.live_is in
+    let same : live + inserted - deleted ≡ length a.rows.live = omega arith in
+    same ∙ ap (λ (o : Result RowState (ℕ × Why)). length (kept_or_after r o).live) (sym a.after_is)
 
-pub returns-in-Bad-clause-rows : goal.returns-in-Bad-clause-rows
-returns-in-Bad-clause-rows g c = OnOk-always c.push_refused_line.result (ap (item_rows c.args.book.now.rows) (sym c.in-Bad.is))
+line_after : (number first : ℕ) (r : RowState) (ops : List Op) (inserted deleted live : ℕ) (reply : Applying) → reply ≡ Applied inserted deleted → IsReply first r ops reply live
+    → applied_line number inserted deleted (live + inserted - deleted) ≡ batch_line number first ops (after r ops)
+line_after number first r ops inserted deleted live reply is h =
+    let a = adds_up first r ops inserted deleted live (subst (λ (given : Applying). IsReply first r ops given live) is h) in
+    let sum = a.live_is in
+    let same : live + inserted - deleted ≡ length a.rows.live = omega arith in
+    (λ i. applied_line number (a.inserts i) (a.deletes i) (same i)) ∙ ap (batch_line number first ops) (sym a.after_is)
 
-pub returns-in-Report-clause-text : goal.returns-in-Report-clause-text
-returns-in-Report-clause-text g c =
-    OnOk-map c.push_report_now.result (λ e. e ∙ ap (λ (x : Item). c.args.lines.now ++ item_text c.args.name.now c.args.book.now.rows x) (sym c.in-Report.is)) c.push_report_now.ensures.text
+pub returns-in_ok-push_applied_line-in-Applied-clause-text : goal.returns-in_ok-push_applied_line-in-Applied-clause-text
+returns-in_ok-push_applied_line-in-Applied-clause-text c r ops h =
+    c.in_ok-push_applied_line-in-Applied.ensures.ok ∙ ap (λ (line : List ℕ). c.args.lines.now ++ line) (line_after c.args.no c.args.first r ops c.in-Applied.inserted c.in-Applied.deleted c.args.live c.args.reply c.in-Applied.is h)
 
-pub returns-in-Report-clause-rows : goal.returns-in-Report-clause-rows
-returns-in-Report-clause-rows g c =
-    OnOk-always c.push_report_now.result (c.push_report_now.ensures.rows ∙ ap (item_rows c.args.book.now.rows) (sym c.in-Report.is))
+pub returns-in_ok-push_applied_line-in-Applied-clause-live : goal.returns-in_ok-push_applied_line-in-Applied-clause-live
+returns-in_ok-push_applied_line-in-Applied-clause-live c r ops h = live_after c.args.first r ops c.in-Applied.inserted c.in-Applied.deleted c.args.live c.args.reply c.in-Applied.is h

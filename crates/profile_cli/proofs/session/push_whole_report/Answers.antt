@@ -1,4 +1,4 @@
-use Rattle.std.proofs.Common.{◌≡◌, ◌∙◌, ◌++◌, ◌∷◌, [], subst}
+use Rattle.std.proofs.Common.{◌≡◌, ◌++◌, ◌∷◌, [], subst}
 use Rattle.rel_base.specs.RowState.{RowState}
 use Rattle.profile_cli.specs.Reports.{inclusion_lines}
 use Rattle.profile_cli.proofs.SessionAnswers.{reports-one}
@@ -9,6 +9,5 @@ push_inclusions-requires-after_bounds g c κs within = (c.rows.result.now ∷ []
 
 pub returns-clause-text : goal.returns-clause-text
 returns-clause-text g c =
-    let rows : c.rows.result.now ≡ c.args.book.now.rows = c.rows.ensures.rows ∙ c.in_ok-found.ensures.rows in
     reports-one c.args.name.now c.args.book.now.rows c.args.lines.now c.push_report_of.new.lines c.push_inclusions.new.lines c.in_ok-found.ensures.text
-    (subst (λ (r : RowState). c.push_inclusions.new.lines ≡ c.push_report_of.new.lines ++ inclusion_lines (r ∷ [])) rows (c.in_ok-push_inclusions.ensures (c.rows.result.now ∷ []) (c.in_ok-push.ensures [] c.new-columns.ensures)))
+    (subst (λ (r : RowState). c.push_inclusions.new.lines ≡ c.push_report_of.new.lines ++ inclusion_lines (r ∷ [])) c.rows.ensures.rows (c.in_ok-push_inclusions.ensures (c.rows.result.now ∷ []) (c.in_ok-push.ensures [] c.new-columns.ensures)))

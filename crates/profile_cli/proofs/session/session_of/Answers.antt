@@ -1,4 +1,4 @@
-use Rattle.std.proofs.Common.{◌≡◌, ◌∙◌, ℕ, List, length, ap, ap₂, subst, sym}
+use Rattle.std.proofs.Common.{◌≡◌, ◌∙◌, ℕ, List, length, ap, ap₂, subst}
 use Rattle.std.specs.List.{All}
 use Rattle.rel_base.specs.RowState.{RowState, opened, width}
 use Rattle.batch_update.specs.Changes.{changes}
@@ -10,12 +10,11 @@ use Rattle.profile_cli.proofs.SessionAnswers.{all_answerable}
 use Rattle.profile_cli.proofs.Texts.{IfOk-map}
 use Rattle.profile_cli.proofs.session.session_of.Goals as goal
 
-pub answers_to-requires-after_bounds : goal.answers_to-requires-after_bounds
-answers_to-requires-after_bounds g c κs within =
+pub answers_to-requires-clause-items : goal.answers_to-requires-clause-items
+answers_to-requires-clause-items g c κs within =
     let wide : c.len-columns.result ≡ width c.in_ok-book.book.rows = c.len-columns.ensures ∙ ap length c.names.ensures.value ∙ ap width c.rows.ensures.rows in
-    subst (λ (items : List Item). All (IsAnswerable (width c.in_ok-book.book.rows)) items) (sym c.deref.ensures.value)
-    (subst (λ (n : ℕ). All (IsAnswerable n) c.in_ok-items.items.items) wide
-    (all_answerable c.len-columns.result (length c.args.bytes.now) c.in_ok-items.items.items c.requires c.in_ok-items.ensures.numbers c.in_ok-items.ensures.wide))
+    subst (λ (n : ℕ). All (IsAnswerable n) c.in_ok-items.items.items) wide
+    (all_answerable c.len-columns.result (length c.args.bytes.now) c.in_ok-items.items.items c.requires.short c.in_ok-items.ensures.numbers c.in_ok-items.ensures.wide)
 
 pub returns : goal.returns
 returns g c =
@@ -23,5 +22,5 @@ returns g c =
     let rows : c.in_ok-book.book.rows ≡ opened c.args.options.nulls c.args.limits.rows c.args.relation = ap (λ (b : Core). b.rows) c.in_ok-book.ensures in
     IfOk-map c.answers_to.result
     (λ text e. e ∙ ap₂ (λ (r : RowState) (items : List Item). answers c.args.name.now r items) rows
-    (c.deref.ensures.value ∙ c.in_ok-items.ensures.items ∙ ap (λ (n : ℕ). changes c.args.bytes.now n c.args.limits) (wide ∙ ap width rows)))
+    (c.in_ok-items.ensures.items ∙ ap (λ (n : ℕ). changes c.args.bytes.now n c.args.limits) (wide ∙ ap width rows)))
     c.answers_to.ensures

@@ -5,7 +5,7 @@ use Rattle.profile_cli.specs.Command.{command, texts}
 use Rattle.profile_cli.specs.Ends.{AreAccepted, IsFileFault, IsFileRefusal, IsInputFault, IsInputRefusal, IsReadThrough, IsUnwritten, IsWhole, OnSources, OnTold, Runs, StopsAtFile, StopsAtSink}
 use Rattle.profile_cli.specs.Outcomes.{IfReadFault}
 use Rattle.profile_cli.specs.Output.{output, refusal}
-use Rattle.profile_cli.specs.Task.{files_read, task_of}
+use Rattle.profile_cli.specs.Task.{files_read, HasWorkers, task_of}
 use Rattle.profile_cli.specs.declared.request.Request.{Request}
 use Rattle.profile_cli.proofs.Ends.{IfReadFault-map, IfRefused-map, OnDone-map, OnWriteFault-map, complete, done, lines, no_usage, none_is_some, not_accepted, sinks, some_same, write_fault}
 use Rattle.profile_cli.proofs.top_call.run.Goals as goal
@@ -245,3 +245,6 @@ returns-in-Ok-Some-clause-not_accepted g c other files bytes file rec why words 
     (subst (λ (r : Request). IfReadFault c.perform.result (λ file. IsFileFault c.args.limits (H.content c.args.shelf.now) (task_of r) file H.read_faults H.read_last c.args.shelf.now c.perform.new.shelf c.args.input.now c.perform.new.input (H.opens c.args.shelf.now) (H.opens c.perform.new.shelf)
     ⊎ (AreAccepted c.args.limits (H.content c.args.shelf.now) (task_of r).reads H.read_faults H.read_last c.args.shelf.now c.perform.new.shelf × IsInputFault c.args.limits (task_of r).reads_input file (I.left c.args.input.now) (I.left c.perform.new.input) (I.faults c.args.input.now) (I.faults c.perform.new.input)))) same c.perform.ensures.read_fault)
     some shelf from
+
+pub perform-requires-clause-workers : goal.perform-requires-clause-workers
+perform-requires-clause-workers g c κs within = subst (λ o. IfSome o (λ (request : Request). HasWorkers (task_of request))) c.in-Ok-Some.field-0-is c.in-Ok-Some.ensures.workers

@@ -1,8 +1,7 @@
-use Rattle.std.proofs.Common.{◌≡◌, ◌∙◌, ◌⊎◌, inl, inr, ◌++◌, ◌<◌, ◌≤◌, ℕ, zero, suc, Bool, true, false, List, [], length, take, get_or, Some, None, Option, sym, ap, subst, refl, arith}
+use Rattle.std.proofs.Common.{◌≡◌, ◌∙◌, ◌⊎◌, inl, inr, ◌++◌, ◌<◌, ℕ, zero, suc, Bool, true, false, List, [], length, take, Some, None, Option, sym, ap, subst, refl, arith}
 use Rattle.std.specs.Prelude.{IfSome, IsSomeAnd}
 use Rattle.std.proofs.lemmas.List.{length-take}
 use Rattle.rel_base.specs.declared.limits.Limits.{Limits}
-use Rattle.rel_base.specs.declared.why.Why.{Why}
 use Rattle.clap.specs.Walk.{Text}
 use Rattle.ports.specs.Files.{Files}
 use Rattle.ports.specs.Lists.{look_up}

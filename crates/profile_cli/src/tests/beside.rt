@@ -1,0 +1,153 @@
+// Runs that write the same beside any number of workers.
+ghost use Rattle.std.specs.Prelude.{◌<◌};
+
+use super::reports::ONE_FILE;
+use super::sessions::{BATCHES, K, K_HEAD, REPORTS, WORDS};
+use super::{Case, Outside, SURE, is_whole, run_by};
+use ports::{Gate, OpenGate, Point};
+use rel_base::Limits;
+use std::alloc::{AllocError, Global};
+use std::process::Abort;
+use std::sync::Wait;
+use std::sync::atomic::{AtomicBool, AtomicU32, Ordering};
+use std::test::Fail;
+use std::thread::Threads;
+
+const WORKERS: [&str; 3] = ["1", "2", "16"];
+
+// A text for each of these words, and for `--workers` with this number behind the command.
+fn words_with(alloc: Global, words: &[&str], workers: &str) -> Result<Vec<String>, AllocError> {
+    let mut own = Vec::new(alloc);
+    for (place, word) in words.iter().enumerate() {
+        own.push(String::from_str(alloc, *word)?)?;
+        if place == 1 {
+            own.push(String::from_str(alloc, "--workers")?)?;
+            own.push(String::from_str(alloc, workers)?)?;
+        }
+    }
+    Ok(own)
+}
+
+// Asserts that a run writes what it is to, beside so many workers and by this gate.
+fn expect_by<R: Threads + Wait + Sync + Abort, G: Gate + Sync>(
+    rt: &R,
+    alloc: Global,
+    workers: &str,
+    case: &Case<'_>,
+    outside: &Outside,
+    gate: &G,
+    limits: Limits,
+) -> Result<(), AllocError>
+    requires { 0 < outside.now.largest }
+{
+    let words = words_with(alloc, case.words, workers)?;
+    let done = run_by(rt, alloc, words, case, outside, gate, limits)?;
+    let whole = is_whole(alloc, case, &done)?;
+    assert!(rt; whole, "{workers} workers: {:?} {}", case.words, case.input);
+    Ok(())
+}
+
+// Asserts that a run writes what it is to, beside any number of workers.
+pub fn expect_by_any<R: Threads + Wait + Sync + Abort>(
+    rt: &R,
+    alloc: Global,
+    case: &Case<'_>,
+    outside: &Outside,
+    limits: Limits,
+) -> Result<(), AllocError>
+    requires { 0 < outside.now.largest }
+{
+    for workers in &WORKERS {
+        expect_by(rt, alloc, workers, case, outside, &OpenGate, limits)?;
+    }
+    Ok(())
+}
+
+// A byte a call of the input, of the files and of the output.
+const ONE_BYTE: Outside = Outside { largest: 1, ..SURE };
+
+#[test]
+fn any_number_of_workers_writes_the_same(rt: HostRuntime) -> Result<(), Fail> {
+    for (cases, outside) in [
+        (&ONE_FILE[..1], &ONE_BYTE),
+        (&BATCHES[..], &SURE),
+        (&REPORTS[..], &ONE_BYTE),
+    ] {
+        for case in cases {
+            assert!(rt; 0 < outside.largest);
+            expect_by_any(&rt, rt.alloc(), case, outside, Limits::standard())?;
+        }
+    }
+    Ok(())
+}
+
+// A gate that notes how many candidates were drawn before a batch was fed, and how many since.
+#[derive(Drop)]
+struct NotingGate {
+    before: AtomicU32,
+    since: AtomicU32,
+    has_fed: AtomicBool,
+}
+
+impl NotingGate {
+    fn new() -> NotingGate {
+        NotingGate {
+            before: AtomicU32::new(0),
+            since: AtomicU32::new(0),
+            has_fed: AtomicBool::new(false),
+        }
+    }
+}
+
+impl Gate for NotingGate {
+    fn at(&self, _who: u32, point: Point) {
+        if point == Point::Fed {
+            self.has_fed.store(true, Ordering::SeqCst);
+        }
+        if point == Point::Drawn {
+            let count = if self.has_fed.load(Ordering::SeqCst) {
+                &self.since
+            } else {
+                &self.before
+            };
+            count.fetch_add(1, Ordering::SeqCst);
+        }
+    }
+}
+
+// Reports before, between and behind two batches, of which the first one is empty.
+static PARTED: Case<'static> = Case {
+    words: WORDS,
+    files: K,
+    input: "?\n!\n?\n+,3,w\n!\n?\n",
+    text: &[
+        "relation,k.csv,2,3\n",
+        K_HEAD,
+        "key,2\nfd,2,1\napplied,1,0,0,3\nrelation,k.csv,2,3\n",
+        K_HEAD,
+        "key,2\nfd,2,1\napplied,2,1,0,4\nrelation,k.csv,2,4\n",
+        K_HEAD,
+        "key,2\nfd,2,1\n",
+    ],
+    tables: &[],
+    status: 0,
+};
+
+#[test]
+fn a_report_goes_on_from_what_the_one_before_it_knew(rt: HostRuntime) -> Result<(), Fail> {
+    for workers in &WORKERS {
+        let gate = NotingGate::new();
+        expect_by(
+            &rt,
+            rt.alloc(),
+            workers,
+            &PARTED,
+            &SURE,
+            &gate,
+            Limits::standard(),
+        )?;
+        assert!(rt; 0 < gate.before.load(Ordering::SeqCst));
+        assert!(rt; gate.since.load(Ordering::SeqCst) == 2);
+    }
+    Ok(())
+}
