@@ -12,7 +12,7 @@ use Rattle.col_set.specs.Target.{has_target}
 use Rattle.col_set.specs.Evidence.{refuted}
 use Rattle.col_set.proofs.EachColumn.{Listed-columns}
 use Rattle.col_set.specs.Members.{has-with, has-without, has-union, has-inter, has-minus, has-empty, same_set}
-use Rattle.col_set.specs.Subsets.{IsSubset-refl, IsSubset-trans, IsSubset-antisymm, subset-true, true-subset}
+use Rattle.col_set.specs.Subsets.{IsSubset-refl, IsSubset-trans, IsSubset-antisymm, subset-true, true-subset, same_test}
 use Rattle.col_set.specs.Lists.{Listed, Listed-append_left, Listed-append_right, Listed-append_cases, Listed-filter, Listed-filter_parts, Listed-map, Listed-map_which, Listed-flat_map, list_any_at, list_any_which}
 use Rattle.col_set.proofs.Places.{Listed-get_or}
 use Rattle.candidate_cover.proofs.Splitting.{subset_minus, filter_next, no_shorter, changed_end}
@@ -369,23 +369,17 @@ covered_refuted (w ∷ ws) t x = by (has_target w t) (covered_refuted ws t x)
         and_true false = refl
 
 -- nothing is chosen, and the pending agree sets are some in which all lie as far as the free columns go
-pub branch_opening : (ws kept : List ℕ) (free : ℕ) → ((w : ℕ) → Listed w kept → Listed w ws) → ((w : ℕ) → Listed w ws → list_any (λ v. subset (inter w free) v) kept ≡ true) → IsBranch ws 0 free kept []
-branch_opening ws kept free real all = record {
+pub branch_opening : (ws : List ℕ) (free : ℕ) → IsBranch ws 0 free ws []
+branch_opening ws free = record {
   apart = λ d h. absurd (false≢true (sym (has-empty d) ∙ h));
-  real = real;
+  real = λ w h. h;
   holds = λ w h. record { each = λ k g. absurd (false≢true (sym (has-empty k) ∙ g)) };
-  tells = λ x a i e.
-      let w = covered_which ws x e in
-      let v = list_any_which (λ v. subset (inter w.set free) v) kept (all w.set w.listed) in
-      covered_at kept x v.0 v.1 (record { each = λ k g. (subset-true v.2).each k (has-inter w.set free k ∙ and_from _ _ (w.inside.each k g) (free_one x i k g)) });
+  tells = λ x a i e. e;
   own_real = λ w h. absurd h;
   own_one = λ w h. absurd h;
   own_all = λ x l d h. absurd (false≢true (sym (has-empty d) ∙ h));
   minimal = λ d h. absurd (false≢true (sym (has-empty d) ∙ h));
 }
-  where
-    free_one : (x : ℕ) → IsSubset x (union 0 free) → (k : ℕ) → has x k ≡ true → has free k ≡ true
-    free_one x i k g = elim (or_cases (has 0 k) (has free k) (sym (has-union 0 free k) ∙ i.each k g)) as (λ _. has free k ≡ true) [ inl f ↦ absurd (false≢true (sym (has-empty k) ∙ f)) | inr f ↦ f ]
 
 -- ---- the outermost of agree sets
 pub record OutermostSoFar (ws : List ℕ) (free : ℕ) (rest kept : List ℕ) : Type 0 where
@@ -436,25 +430,36 @@ outermost_left ws free rest rest' kept x e f o = record {
 pub outermost_all : (ws : List ℕ) (free : ℕ) (rest kept : List ℕ) → rest ≡ [] → OutermostSoFar ws free rest kept → (w : ℕ) → Listed w ws → list_any (λ v. subset (inter w free) v) kept ≡ true
 outermost_all ws free rest kept e o w h = elim (o.all w h) as (λ _. list_any (λ v. subset (inter w free) v) kept ≡ true) [ inl g ↦ absurd (subst (Listed w) e g) | inr g ↦ g ]
 
-pub branched_least : (free : ℕ) (ws : List ℕ) (t : Target) (vs xs : List ℕ) → vs ≡ filter (λ w. not (has_target w t)) ws → HasBranched vs 0 free [] xs → ListsLeast free ws t xs
-branched_least free ws t vs xs e h = record {
+-- where the agree sets contain among the columns what those contain that lack the target
+pub branched_least : (free : ℕ) (ws : List ℕ) (t : Target) (vs xs : List ℕ) → ((x : ℕ) → IsSubset x free → covered vs x ≡ refuted ws t x) → HasBranched vs 0 free [] xs → ListsLeast free ws t xs
+branched_least free ws t vs xs same h = record {
   each = λ x l. elim (h.each x l) as (λ _. IsLeastAmong free ws t x) [
     | inl g ↦ absurd g
-    | inr g ↦ record { within = low x g.within; stands = sym (same x) ∙ g.stands; smallest = λ y s r. g.smallest y s (same y ∙ r) }
+    | inr g ↦ let i = low x g.within in record { within = i; stands = sym (same x i) ∙ g.stands; smallest = λ y s r. g.smallest y s (same y (IsSubset-trans s i) ∙ r) }
   ];
   every = λ x l. h.every x (record {
     above = record { each = λ k g. absurd (false≢true (sym (has-empty k) ∙ g)) };
     within = record { each = λ k g. has-union 0 free k ∙ or_right (has 0 k) _ (l.within.each k g) };
-    stands = same x ∙ l.stands;
-    smallest = λ y s r. l.smallest y s (sym (same y) ∙ r);
+    stands = same x l.within ∙ l.stands;
+    smallest = λ y s r. l.smallest y s (sym (same y (IsSubset-trans s l.within)) ∙ r);
   });
 }
   where
-    same : (x : ℕ) → covered vs x ≡ refuted ws t x
-    same x = ap (λ us. covered us x) e ∙ covered_refuted ws t x
-
     low : (x : ℕ) → IsSubset x (union 0 free) → IsSubset x free
     low x i = record { each = λ k g. elim (or_cases (has 0 k) (has free k) (sym (has-union 0 free k) ∙ i.each k g)) as (λ _. has free k ≡ true) [ inl f ↦ absurd (false≢true (sym (has-empty k) ∙ f)) | inr f ↦ f ] }
+
+-- those kept contain among the columns what all contain
+pub kept_cover : (free : ℕ) (ws kept : List ℕ) → ((w : ℕ) → Listed w kept → Listed w ws) → ((w : ℕ) → Listed w ws → list_any (λ v. subset (inter w free) v) kept ≡ true) → (x : ℕ) → IsSubset x free → covered kept x ≡ covered ws x
+kept_cover free ws kept real all x i = same_test (covered kept x) (covered ws x) (covered_from kept ws x real) there
+  where
+    there : covered ws x ≡ true → covered kept x ≡ true
+    there h =
+        let w = covered_which ws x h in
+        let v = list_any_which (λ v. subset (inter w.set free) v) kept (all w.set w.listed) in
+        covered_at kept x v.0 v.1 (record { each = λ k g. (subset-true v.2).each k (has-inter w.set free k ∙ and_from _ _ (w.inside.each k g) (i.each k g)) })
+
+pub outermost_tell : (free : ℕ) (ws : List ℕ) (t : Target) (lacking kept : List ℕ) → lacking ≡ filter (λ w. not (has_target w t)) ws → ((w : ℕ) → Listed w kept → Listed w lacking) → ((w : ℕ) → Listed w lacking → list_any (λ v. subset (inter w free) v) kept ≡ true) → (x : ℕ) → IsSubset x free → covered kept x ≡ refuted ws t x
+outermost_tell free ws t lacking kept e real all x i = kept_cover free lacking kept real all x i ∙ ap (λ us. covered us x) e ∙ covered_refuted ws t x
 
 pub some_sets : (xs : List ℕ) → eqb (length xs) 0 ≡ false → 0 < length xs
 some_sets [] e = absurd (true≢false e)

@@ -13,8 +13,7 @@ use Rattle.col_set.specs.Subsets.{IsSubset-refl, subset-true, same_test, subset_
 use Rattle.col_set.specs.AllSets.{Listed-upto, Listed-upto_within}
 use Rattle.col_set.specs.Lists.{Listed-append_left, list_any_at, list_any_which}
 use Rattle.col_set.proofs.Least.{refuted_inside}
-use Rattle.candidate_cover.specs.Growth.{ListsLeast}
-use Rattle.candidate_cover.specs.declared.draft.Known.{Known}
+use Rattle.candidate_cover.specs.declared.filing.Known.{Known}
 use Rattle.candidate_cover.specs.Drafts.{Drafted, is_news}
 use Rattle.candidate_cover.proofs.Evidence.{refuted-push, choice_parts}
 use Rattle.candidate_cover.proofs.Growing.{outside_of, not_inside}
@@ -132,25 +131,11 @@ module _ (n z : ℕ) (ws : List ℕ) (rows : Bool) (lacking : ℕ) (k : KnownSoF
   news_else h u x s i j m = ap not (m ∙ ap (λ (y : ℕ). subset y lacking) (j ∙ ap (λ (v : ℕ). minus v z) i)) ∙ sym (ap (λ b. b || not (subset (minus (all n) z) lacking)) h) ∙ told
 
 -- ---- one more agree set
--- where it lies inside one that lacks the target, nothing changes
-pub lists_covered : (u : ℕ) (ws : List ℕ) (t : Target) (z : ℕ) (xs : List ℕ) → refuted ws t z ≡ true → ListsLeast u ws t xs → ListsLeast u (ws ++ z ∷ []) t xs
-lists_covered u ws t z xs e l = record {
-  each = λ x h. let i = l.each x h in record {
-    within = i.within;
-    stands = same x ∙ i.stands;
-    smallest = λ y s g. i.smallest y s (sym (same y) ∙ g);
-  };
-  every = λ x i. l.every x (record {
-    within = i.within;
-    stands = sym (same x) ∙ i.stands;
-    smallest = λ y s g. i.smallest y s (same y ∙ g);
-  });
-}
+-- where it lies inside one that lacks the target, it refutes nothing more
+pub refuted-push_inside : (ws : List ℕ) (t : Target) (z : ℕ) → refuted ws t z ≡ true → (x : ℕ) → refuted (ws ++ z ∷ []) t x ≡ refuted ws t x
+refuted-push_inside ws t z e x = refuted-push ws z t x ∙ by (refuted ws t x) (subset x z) (has_target z t) refl refl
   where
-    by : (x : ℕ) (a b c : Bool) → refuted ws t x ≡ a → subset x z ≡ b → (a || (b && not c)) ≡ a
-    by x true b c i j = refl
-    by x false false c i j = refl
-    by x false true c i j = absurd (true≢false (sym (refuted_inside ws t (subset-true j) e) ∙ i))
-
-    same : (x : ℕ) → refuted (ws ++ z ∷ []) t x ≡ refuted ws t x
-    same x = refuted-push ws z t x ∙ by x (refuted ws t x) (subset x z) (has_target z t) refl refl
+    by : (a b c : Bool) → refuted ws t x ≡ a → subset x z ≡ b → (a || (b && not c)) ≡ a
+    by true b c i j = refl
+    by false false c i j = refl
+    by false true c i j = absurd (true≢false (sym (refuted_inside ws t (subset-true j) e) ∙ i))

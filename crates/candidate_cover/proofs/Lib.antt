@@ -14,4 +14,5 @@ pub mod Sorting
 pub mod Splitting
 pub mod Targets
 pub mod Toggling
-pub mod Filing
+pub mod Filed
+pub mod Firsts

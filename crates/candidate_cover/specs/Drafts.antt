@@ -1,11 +1,11 @@
 -- What many agree sets leave, while they come in one after another.
-use Rattle.std.specs.Prelude.{◌≡◌, ◌<◌, ℕ, Bool, not, ◌&&◌, ◌||◌, List, [], map, length, slice_index_or}
+use Rattle.std.specs.Prelude.{if◌then◌else◌, ◌≡◌, ◌<◌, ◌≤◌, ℕ, Bool, not, ◌&&◌, ◌||◌, List, [], ◌∷◌, ◌++◌, map, length, slice_index_or}
 use Rattle.std.specs.List.{list_any}
 use Rattle.std.specs.Prelude.{Vec}
 use Rattle.std.specs.declared.alloc.Global.{Global}
 use Rattle.col_set.specs.declared.target.Target.{Target}
 use Rattle.col_set.specs.declared.target.Target.TheVariants.{Col, RowId}
-use Rattle.col_set.specs.ColSet.{Columns, has, upto}
+use Rattle.col_set.specs.ColSet.{Columns, has, subset, upto}
 use Rattle.col_set.specs.Target.{IsColumnTarget}
 use Rattle.col_set.specs.Evidence.{refuted, least}
 use Rattle.candidate_cover.specs.Lists.{CandLists}
@@ -36,6 +36,23 @@ pub record AreDrafted (n : ℕ) (ws : List Columns) (rows : List Columns) (colum
 pub record AreFiled (n : ℕ) (ws : List Columns) (lists : List (List Columns)) : Type 0 where
   pub count : length lists ≡ n
   pub each : (a : ℕ) → a < n → slice_index_or lists a [] ≡ having a ws
+
+-- the set is added at the end of the list of each of n columns that the places have
+pub record AreAdded (n : ℕ) (z places : Columns) (old new : List (List Columns)) : Type 0 where
+  pub count : length new ≡ length old
+  pub each : (a : ℕ) → a < n → slice_index_or new a [] ≡ slice_index_or old a [] ++ (if has places a then z ∷ [] else [])
+
+-- for each target of n columns the list contains just what those of the agree sets contain that lack the target
+pub record AreOuter (n : ℕ) (ws : List Columns) (rows : List Columns) (lists : List (List Columns)) : Type 0 where
+  pub rows_tell : (x : Columns) → list_any (λ w. subset x w) rows ≡ refuted ws RowId x
+  pub count : length lists ≡ n
+  pub each : (a : ℕ) → a < n → (x : Columns) → list_any (λ w. subset x w) (slice_index_or lists a []) ≡ refuted ws (Col a) x
+
+-- the agree sets are filed by the columns that they have, and by the targets that they lack
+pub record IsFiling (n : ℕ) (ws : List Columns) (by_column : List (List Columns)) (rows : List Columns) (by_target : List (List Columns)) : Type 0 where
+  pub bound : n ≤ 128
+  pub filed : AreFiled n ws by_column
+  pub outer : AreOuter n ws rows by_target
 
 -- the lists that vectors hold
 abbrev pub lists_behind : List (Vec Columns Global) → List (List Columns)

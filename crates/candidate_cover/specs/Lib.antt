@@ -1,5 +1,6 @@
 pub mod AllMarked
 pub mod Branches
+pub mod BySize
 pub mod Cands
 pub mod Drafts
 pub mod Growth

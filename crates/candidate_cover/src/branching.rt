@@ -409,6 +409,52 @@ fn outermost(
     Ok(kept)
 }
 
+// Whether none of the sets has more columns than the one before it.
+fn are_falling(sets: &[ColSet]) -> bool {
+    let mut most = u32::MAX;
+    for w in sets {
+        let count = w.len();
+        if count > most {
+            return false;
+        }
+        most = count;
+    }
+    true
+}
+
+// Of agree sets of which none lies inside an earlier one those that lie inside no other: all, where the large ones come first.
+pub(crate) fn outermost_of_filed(
+    alloc: Global,
+    columns: ColSet,
+    agree_sets: Vec<ColSet>,
+) -> Result<Vec<ColSet>, AllocError>
+    ensures { IfOk result (λ kept. (x : ℕ) → IsSubset x columns → covered kept.items x ≡ covered agree_sets.items x) }
+{
+    if are_falling(agree_sets.as_slice()) {
+        return Ok(agree_sets);
+    }
+    let kept = outermost(alloc, columns, agree_sets)?;
+    Ok(kept)
+}
+
+// The least sets among the columns that none of these agree sets contains, in no order.
+pub(crate) fn uncovered(
+    alloc: Global,
+    columns: ColSet,
+    agree_sets: Vec<ColSet>,
+) -> Result<Vec<ColSet>, AllocError>
+    ensures { IfOk result (λ sets. HasBranched agree_sets.items empty columns [] sets.items) }
+{
+    let mut frames = Frames {
+        pending: agree_sets,
+        own: Vec::new(alloc),
+        runs: Vec::new(alloc),
+    };
+    let mut found = Vec::new(alloc);
+    branch(&mut frames, ColSet::empty(), columns, 0, 0, &mut found)?;
+    Ok(found)
+}
+
 // The least sets among the columns against these agree sets, in no order.
 pub(crate) fn least(
     alloc: Global,
@@ -419,18 +465,12 @@ pub(crate) fn least(
     requires { IsColumnTarget MOST_COLUMNS target }
     ensures { IfOk result (λ sets. ListsLeast columns agree_sets.now target sets.items) }
 {
-    let mut pending = Vec::new(alloc);
+    let mut lacking = Vec::new(alloc);
     for w in agree_sets {
         if !w.has_target(target) {
-            pending.push(*w)?;
+            lacking.push(*w)?;
         }
     }
-    let mut frames = Frames {
-        pending: outermost(alloc, columns, pending)?,
-        own: Vec::new(alloc),
-        runs: Vec::new(alloc),
-    };
-    let mut found = Vec::new(alloc);
-    branch(&mut frames, ColSet::empty(), columns, 0, 0, &mut found)?;
+    let found = uncovered(alloc, columns, outermost(alloc, columns, lacking)?)?;
     Ok(found)
 }

@@ -16,11 +16,13 @@ ghost use Rattle.candidate_cover.specs.declared.cand.Marking.TheVariants.{Marked
 
 use crate::cand::{Cand, Mark, Marking};
 use crate::cand_list::CandList;
-use crate::draft::{Draft, filed};
+use crate::draft::Draft;
 use crate::explore::explored;
+use crate::filing::Filing;
 use crate::growth::choices;
 use crate::old_list::OldList;
-use crate::part::{Part, generalised, in_order, specialised};
+use crate::order::in_order;
+use crate::part::{Part, generalised, specialised};
 use rel_base::{ColSet, MOST_COLUMNS, RowNo, Steps, Target};
 use std::alloc::{AllocError, Global};
 use std::marker::Model;
@@ -122,8 +124,8 @@ impl CandidateCover {
         Ok(Part::of(made))
     }
 
-    /// A draft that begins with the agree sets that have left these candidates: a copy of their left sides, and for each column a
-    /// list of the agree sets that have it.
+    /// A draft that begins with the agree sets that have left these candidates: a copy of their left sides, and lists of the agree
+    /// sets by column and by target, in which each stands for every column.
     pub fn draft(&self, alloc: Global, agree_sets: Vec<ColSet>) -> Result<Draft, AllocError>
         requires { AreLeast (width self.now) agree_sets.items self.now }
         ensures { IfOk result (λ draft. draft ≡ record { width = width self.now; agree_sets = agree_sets.items }) }
@@ -134,16 +136,16 @@ impl CandidateCover {
         for column in 0..count {
             columns.push(self.copied_lefts(alloc, Target::Col(column))?)?;
         }
-        let by_column = filed(alloc, count, agree_sets.as_slice())?;
-        Ok(Draft::of(rows, columns, agree_sets, by_column))
+        let filing = Filing::of(alloc, count, agree_sets.as_slice())?;
+        Ok(Draft::of(rows, columns, filing))
     }
 
     /// The candidates of a target in report order that a draft leaves, or none where these are the ones that there are. Those
     /// that stay keep their marks.
     ///
     /// Nothing changes here; `put` makes the part the target's list. The left sides are made here, from the agree sets that the
-    /// draft has noted. Where they are the ones that there were, that is all; else they are sorted, which takes a step a set for
-    /// those that stay in their order, and each is looked up among the candidates.
+    /// draft has noted. Where they are the ones that there were, that is all; else they are sorted, and each is looked up
+    /// among the candidates.
     pub fn drafted(
         &self,
         alloc: Global,
@@ -161,7 +163,7 @@ impl CandidateCover {
         if sets.as_slice() == list.sets() {
             return Ok(None);
         }
-        let made = list.with_lefts(alloc, in_order(sets)?)?;
+        let made = list.with_lefts(alloc, in_order(alloc, sets)?)?;
         Ok(Some(Part::of(made)))
     }
 

@@ -8,8 +8,10 @@ mod cand_list;
 mod candidate_cover;
 mod draft;
 mod explore;
+mod filing;
 mod growth;
 mod old_list;
+mod order;
 mod part;
 mod place;
 #[cfg(test)]

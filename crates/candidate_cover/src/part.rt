@@ -73,16 +73,6 @@ pub(crate) fn sorted(mut sets: Vec<ColSet>) -> Vec<ColSet>
     sets
 }
 
-// Many sets in report order, each once, where a long run may stand in order already.
-pub(crate) fn in_order(mut sets: Vec<ColSet>) -> Result<Vec<ColSet>, AllocError>
-    ensures order { IfOk result (λ made. Rises report_cmp made.items) }
-    ensures members { IfOk result (λ made. HasMembers sets.items made.items) }
-{
-    sets.sort()?;
-    sets.dedup();
-    Ok(sets)
-}
-
 // Sets by where they stand to an agree set: inside it, or with exactly one column outside it.
 #[derive(Drop)]
 struct Touched {

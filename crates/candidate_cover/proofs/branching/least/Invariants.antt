@@ -4,4 +4,4 @@ use Rattle.col_set.specs.Target.{has_target}
 use Rattle.candidate_cover.proofs.branching.least.Given as goal
 
 abbrev pub invariant-loop-w : goal.invariant-loop-w
-invariant-loop-w l = l.pending.items ≡ filter (λ w. not (has_target w l.target)) (take l.w-index l.agree_sets)
+invariant-loop-w l = l.lacking.items ≡ filter (λ w. not (has_target w l.target)) (take l.w-index l.agree_sets)

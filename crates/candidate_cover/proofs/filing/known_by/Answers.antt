@@ -2,7 +2,7 @@ use Rattle.std.proofs.Common.{◌≡◌, ℕ, ◌+◌, ◌&&◌, ◌∙◌, sym,
 use Rattle.std.proofs.lemmas.Bool.{and_parts}
 use Rattle.col_set.specs.ColSet.{subset, minus, union, all}
 use Rattle.candidate_cover.proofs.Drafting.{KnownSoFar, known_none, known_next, known_enough}
-use Rattle.candidate_cover.proofs.draft.known_by.Goals as goal
+use Rattle.candidate_cover.proofs.filing.known_by.Goals as goal
 
 pub loop-w-init : goal.loop-w-init
 loop-w-init c = known_none c.args.columns c.args.z c.empty.result c.empty.ensures

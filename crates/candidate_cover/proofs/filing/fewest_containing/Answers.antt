@@ -1,9 +1,9 @@
 use Rattle.std.proofs.Common.{◌∙◌, sym, ap, arith}
 use Rattle.col_set.specs.Evidence.{refuted}
 use Rattle.candidate_cover.specs.Drafts.{lists_behind}
-use Rattle.candidate_cover.proofs.Filing.{behind_at, refuted-filed}
-use Rattle.candidate_cover.proofs.draft.fewest_containing.Goals as goal
-use Rattle.candidate_cover.proofs.draft.fewest_containing.Goals.{then-has+then-having-fewest, then-has+else-having-fewest, else-has}
+use Rattle.candidate_cover.proofs.Filed.{behind_at, refuted-filed}
+use Rattle.candidate_cover.proofs.filing.fewest_containing.Goals as goal
+use Rattle.candidate_cover.proofs.filing.fewest_containing.Goals.{then-has+then-having-fewest, then-has+else-having-fewest, else-has}
 
 pub loop-column-preserved : goal.loop-column-preserved
 loop-column-preserved c = λ t.
