@@ -4,6 +4,7 @@ use Rattle.std.specs.List.{All, filter, range_with_len}
 use Rattle.rel_base.specs.declared.nulls.Nulls.{Nulls}
 use Rattle.rel_base.specs.declared.nulls.Nulls.TheVariants.{Equal}
 use Rattle.rel_base.specs.Cells.{Row, cell}
+use Rattle.rel_base.specs.Relation.{IsContent}
 use Rattle.col_set.specs.ColSet.{upto}
 use Rattle.col_set.specs.declared.col_set.TheConstants.{MOST_COLUMNS}
 use Rattle.rel_base.specs.declared.limits.TheConstants.{MOST_ROWS}
@@ -46,6 +47,12 @@ with_cells c rows j = record { nulls = c.nulls; cells = c.cells ++ map (λ row. 
 pub record AreColumnsOf (nulls : Nulls) (rows : List Row) (from count : ℕ) (columns : List ColumnCells) : Type 0 where
   pub long : length columns ≡ count
   pub each : (j : ℕ) → j < count → column_at columns j ≡ record { nulls = nulls; cells = map (λ row. cell row (from + j)) rows }
+
+-- so many rows, that a relation of these names may have, and their columns
+pub record AreCodedRows (names : Row) (nulls : Nulls) (rows : List Row) (count : ℕ) (columns : List ColumnCells) : Type 0 where
+  pub content : IsContent (record { names = names; rows = rows })
+  pub columns_are : AreColumnsOf nulls rows 0 (length names) columns
+  pub many : length rows ≡ count
 
 -- each column got its cell of this row
 pub record HasRow (old : List ColumnCells) (row : Row) (new : List ColumnCells) : Type 0 where

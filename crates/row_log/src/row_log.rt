@@ -1,5 +1,5 @@
 // The log.
-ghost use Rattle.std.specs.Prelude.{◌≡◌, ◌≢◌, ◌<◌, true, false, IfOk, OnOk, OnErr, length};
+ghost use Rattle.std.specs.Prelude.{◌≡◌, ◌≢◌, ◌<◌, ℕ, List, true, false, IfOk, OnOk, OnErr, length};
 ghost use Rattle.std.specs.List.{All};
 ghost use Rattle.rel_base.specs.Cells.{cell};
 ghost use Rattle.rel_base.specs.Relation.{IsContent};
@@ -10,14 +10,14 @@ ghost use Rattle.rel_base.specs.Batches.{IsAsWide};
 ghost use Rattle.rel_base.specs.Shows.{Shows};
 ghost use Rattle.rel_base.specs.declared.batch.Op.TheVariants.{Insert, Delete, Update};
 ghost use Rattle.row_log.specs.Distinct.{AreDistinctCells};
-ghost use Rattle.row_log.specs.Table.{AreColumnsOf};
+ghost use Rattle.row_log.specs.Table.{AreCodedRows};
 ghost use Rattle.row_log.specs.Applying.{Answers, Outcome, IsBefore, LeadsFrom, IsFrom, CameLast, IsEnded};
 
 use crate::applying::{Applying, Halt};
 use crate::column::Column;
 use crate::table::{
-    agreement, append_live, columns_by, columns_of, handed_codes, push_row, share_codes,
-    truncate_rows,
+    agreement, append_live, columns_letting_go, columns_taking, handed_codes, push_row,
+    share_codes, truncate_rows,
 };
 use column_dict::Text;
 use rel_base::{Batch, ColSet, Limits, Nulls, Op, Relation, Row, RowNo, Snapshot, Why};
@@ -65,8 +65,9 @@ impl RowLog {
 
     /// The rows of a relation, all live, with this reading of NULL.
     ///
-    /// The relation is coded in large blocks of rows, column by column, which takes a step a cell, and then let go. Where it
-    /// has more rows than the limit, it is taken as it is, and no row can come.
+    /// The relation is coded in large blocks of rows, column by column, which takes a step a cell. Each block is let go as soon as it is
+    /// coded, so that its memory serves the dictionaries. Where the relation has more rows than the limit, it is taken as it is, and no
+    /// row can come.
     pub fn open_with(
         alloc: Global,
         relation: Relation,
@@ -76,12 +77,14 @@ impl RowLog {
         ensures { IfOk result (λ log. log ≡ opened nulls limits.rows relation) }
     {
         let (names, rows) = relation.into_parts();
-        let columns = columns_of(alloc, nulls, &rows, 0, names.len())?;
-        RowLog::coded(alloc, names, rows, columns, limits, nulls)
+        let count = rows.len();
+        let columns = columns_letting_go(alloc, nulls, rows, 0, names.len())?;
+        RowLog::coded(alloc, names, count, columns, limits, nulls)
     }
 
     /// The rows of a relation as `open_with` has them, whose columns are coded beside each other by so many workers at most. One worker
-    /// is the thread of the caller and no other. The codes are the same, however many there are.
+    /// is the thread of the caller and no other. The codes are the same, however many there are. Several workers read all rows to the
+    /// end, so that the relation is let go after them.
     pub fn open_by<R: Threads + Sync>(
         rt: &R,
         alloc: Global,
@@ -93,26 +96,25 @@ impl RowLog {
         ensures { IfOk result (λ log. log ≡ opened nulls limits.rows relation) }
     {
         let (names, rows) = relation.into_parts();
-        let columns = columns_by(rt, alloc, nulls, &rows, 0, names.len(), workers)?;
-        RowLog::coded(alloc, names, rows, columns, limits, nulls)
+        let count = rows.len();
+        let columns = columns_taking(rt, alloc, nulls, rows, 0, names.len(), workers)?;
+        RowLog::coded(alloc, names, count, columns, limits, nulls)
     }
 
-    // The log of these rows, all live, whose columns these are. The rows are let go.
+    // The log of so many rows, all live, whose columns these are.
     fn coded(
         alloc: Global,
         names: Row,
-        rows: Vec<Row>,
+        count: usize,
         columns: Vec<Column>,
         limits: Limits,
         nulls: Nulls,
     ) -> Result<RowLog, AllocError>
-        requires content { IsContent (record { names = names; rows = rows.items }) }
-        requires columns { AreColumnsOf nulls rows.items 0 (length names) columns.items }
-        ensures { IfOk result (λ log. log ≡ opened nulls limits.rows (record { names = names; rows = rows.items })) }
+        requires { (rows : List (List (List ℕ))) × AreCodedRows names nulls rows count columns.items }
+        ensures { IfOk result (λ log. (rows : List (List (List ℕ))) → AreCodedRows names nulls rows count columns.items → log ≡ opened nulls limits.rows (record { names = names; rows = rows })) }
     {
         let mut columns = columns;
-        let live = vec![in alloc; true; rows.len()]?;
-        drop(rows);
+        let live = vec![in alloc; true; count]?;
         share_codes(alloc, &mut columns);
         Ok(RowLog {
             names,

@@ -84,6 +84,54 @@ pub fn columns_of(
     Ok(columns)
 }
 
+/// What `columns_by` makes, where the rows are not wanted any more: one worker lets go of each block of them as soon as it is coded, so
+/// that the rows make room for the dictionaries. Several workers share the rows to the end.
+pub fn columns_taking<R: Threads + Sync>(
+    rt: &R,
+    alloc: Global,
+    nulls: Nulls,
+    rows: Vec<Row>,
+    from: usize,
+    count: usize,
+    workers: u8,
+) -> Result<Vec<Column>, AllocError>
+    requires room { from + count < 2 ^ 64 }
+    requires wide { All (λ row. from + count ≤ length row) rows.items }
+    requires few { length rows.items ≤ MOST_ROWS }
+    ensures { IfOk result (λ columns. AreColumnsOf nulls rows.items from count columns.items) }
+{
+    if workers < 2 {
+        return columns_letting_go(alloc, nulls, rows, from, count);
+    }
+    columns_by(rt, alloc, nulls, &rows, from, count, workers)
+}
+
+/// What `columns_of` makes. Each block of rows is let go as soon as it is coded.
+pub fn columns_letting_go(
+    alloc: Global,
+    nulls: Nulls,
+    rows: Vec<Row>,
+    from: usize,
+    count: usize,
+) -> Result<Vec<Column>, AllocError>
+    requires room { from + count < 2 ^ 64 }
+    requires wide { All (λ row. from + count ≤ length row) rows.items }
+    requires few { length rows.items ≤ MOST_ROWS }
+    ensures { IfOk result (λ columns. AreColumnsOf nulls rows.items from count columns.items) }
+{
+    let mut columns = empty_columns(alloc, nulls, rows.len(), count)?;
+    let mut block = Vec::with_capacity(alloc, BLOCK)?;
+    for row in rows {
+        block.push(row)?;
+        if block.len() >= BLOCK {
+            push_rows(&mut columns, &block, from)?;
+            block.clear();
+        }
+    }
+    push_rows(&mut columns, &block, from)?;
+    Ok(columns)
+}
+
 // So many columns without rows, with room for the codes of so many.
 fn empty_columns(
     alloc: Global,

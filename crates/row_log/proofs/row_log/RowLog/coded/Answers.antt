@@ -1,4 +1,4 @@
-use Rattle.std.proofs.Common.{◌≡◌, ◌<◌, ◌+◌, ◌∙◌, ℕ, List, ap, length, map, refl, arith}
+use Rattle.std.proofs.Common.{◌≡◌, ◌<◌, ◌+◌, ◌∙◌, ℕ, List, ap, sym, length, map, refl, arith}
 use Rattle.rel_base.specs.Cells.{Row, cell}
 use Rattle.rel_base.specs.declared.nulls.Nulls.{Nulls}
 use Rattle.rel_base.specs.Relation.{Content}
@@ -19,16 +19,18 @@ each_column nulls w rows columns shared e h j l =
 
 pub invariant_of-result : goal.invariant_of-result
 invariant_of-result c =
-    let relation : Content = record { names = c.args.names; rows = c.args.rows.items } in
-    IsLog-opened relation c.requires.content c.args.names c.args.nulls c.args.limits.rows (length c.args.names) c.len.result c.len-2.result c.args.rows.items c.share_codes.new.columns.items c.in_ok-live.live.items
-    refl refl c.args.limits.few_rows (long_columns c.args.columns.items c.share_codes.new.columns.items (length c.args.names) c.share_codes.ensures c.requires.columns.long) refl
-    (each_column c.args.nulls (length c.args.names) c.args.rows.items c.args.columns.items c.share_codes.new.columns.items c.share_codes.ensures c.requires.columns)
-    (c.in_ok-live.ensures.items_if_clones_equal (λ y e. e)) (c.len.ensures ∙ c.args.rows.ok.0) (c.len-2.ensures ∙ c.in_ok-live.live.ok.0)
+    let rows = c.requires.0 in
+    let coded = c.requires.1 in
+    let relation : Content = record { names = c.args.names; rows = rows } in
+    IsLog-opened relation coded.content c.args.names c.args.nulls c.args.limits.rows (length c.args.names) c.args.count c.len.result rows c.share_codes.new.columns.items c.in_ok-live.live.items
+    refl refl c.args.limits.few_rows (long_columns c.args.columns.items c.share_codes.new.columns.items (length c.args.names) c.share_codes.ensures coded.columns_are.long) refl
+    (each_column c.args.nulls (length c.args.names) rows c.args.columns.items c.share_codes.new.columns.items c.share_codes.ensures coded.columns_are)
+    (c.in_ok-live.ensures.items_if_clones_equal (λ y e. e)) (sym coded.many) (c.len.ensures ∙ c.in_ok-live.live.ok.0)
 
 pub returns : goal.returns
-returns c =
-    let relation : Content = record { names = c.args.names; rows = c.args.rows.items } in
-    kept-opened relation c.requires.content c.args.names c.args.nulls c.args.limits.rows (length c.args.names) c.len.result c.len-2.result c.args.rows.items c.share_codes.new.columns.items c.in_ok-live.live.items
-    refl refl c.args.limits.few_rows (long_columns c.args.columns.items c.share_codes.new.columns.items (length c.args.names) c.share_codes.ensures c.requires.columns.long) refl
-    (each_column c.args.nulls (length c.args.names) c.args.rows.items c.args.columns.items c.share_codes.new.columns.items c.share_codes.ensures c.requires.columns)
-    (c.in_ok-live.ensures.items_if_clones_equal (λ y e. e)) (c.len.ensures ∙ c.args.rows.ok.0) (c.len-2.ensures ∙ c.in_ok-live.live.ok.0)
+returns c rows coded =
+    let relation : Content = record { names = c.args.names; rows = rows } in
+    kept-opened relation coded.content c.args.names c.args.nulls c.args.limits.rows (length c.args.names) c.args.count c.len.result rows c.share_codes.new.columns.items c.in_ok-live.live.items
+    refl refl c.args.limits.few_rows (long_columns c.args.columns.items c.share_codes.new.columns.items (length c.args.names) c.share_codes.ensures coded.columns_are.long) refl
+    (each_column c.args.nulls (length c.args.names) rows c.args.columns.items c.share_codes.new.columns.items c.share_codes.ensures coded.columns_are)
+    (c.in_ok-live.ensures.items_if_clones_equal (λ y e. e)) (sym coded.many) (c.len.ensures ∙ c.in_ok-live.live.ok.0)
