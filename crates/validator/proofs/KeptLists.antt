@@ -134,5 +134,5 @@ settled_more old kept rest k p e = record {
 }
 
 -- the partition at a place
-pub kept_of : (s : CodeTable) (kept : List Kept) (k : ℕ) (r : Kept) → AreKept s kept → k < length kept → r ≡ get_or kept k r → r.partition ≡ stripped s r.columns
+pub kept_of : (s : CodeTable) (kept : List Kept) (k : ℕ) (r : Kept) → AreKept s kept → k < length kept → r ≡ get_or kept k r → r.partition.value ≡ stripped s r.columns
 kept_of s kept k r are l e = subst (IsKept s) (sym e) (are k r l)

@@ -9,7 +9,7 @@ use Rattle.validator.specs.declared.shelf.Kept.{Kept}
 
 -- it is the stripped partition by its columns
 abbrev pub IsKept : CodeTable → Kept → Type 0
-IsKept s kept = kept.partition ≡ stripped s kept.columns
+IsKept s kept = kept.partition.value ≡ stripped s kept.columns
 
 abbrev pub AreKept : CodeTable → List Kept → Type 0
 AreKept s kept = All (IsKept s) kept

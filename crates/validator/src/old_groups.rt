@@ -1,5 +1,5 @@
 // What a store needs no more.
-use crate::shelf::Shelf;
+use crate::shelf::{Kept, Places, Shelf};
 use rel_base::Snapshot;
 use std::marker::Model;
 use std::sync::Arc;
@@ -10,7 +10,9 @@ use std::sync::Arc;
 /// another snapshot can do that when nobody waits. Contracts see nothing of them.
 #[derive(Drop)]
 pub struct OldGroups {
-    shelf: Shelf,
+    // Not the whole shelf: its weights take a thousand bytes, and this goes from hand to hand.
+    kept: Vec<Kept>,
+    places: Places,
     snapshot: Option<Arc<Snapshot>>,
 }
 
@@ -24,6 +26,11 @@ impl Model for OldGroups {
 
 impl OldGroups {
     pub(crate) fn of(shelf: Shelf, snapshot: Option<Arc<Snapshot>>) -> OldGroups {
-        OldGroups { shelf, snapshot }
+        let Shelf { kept, places, .. } = shelf;
+        OldGroups {
+            kept,
+            places,
+            snapshot,
+        }
     }
 }

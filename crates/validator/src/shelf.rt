@@ -15,6 +15,7 @@ use indexmap::IndexMap;
 use rel_base::{COLUMN_PLACES, MOST_COLUMNS, RowNo, Snapshot, Steps};
 use std::alloc::{AllocError, Global};
 use std::hash::{BuildHasherDefault, DefaultHasher};
+use std::sync::Arc;
 use std::sync::ledger::Ledger;
 use stripped_partition::Partition;
 
@@ -24,6 +25,9 @@ const MOST_KEPT_COLUMNS: u32 = 6;
 const MOST_LARGE_COLUMNS: u32 = 4;
 
 const FEW_KEPT_ROWS: usize = 1024;
+
+// Partitions by so many columns are shared with who works beside the owner.
+const MOST_SHARED_COLUMNS: u32 = 2;
 
 // The most partitions that are kept.
 const MOST_KEPT: usize = 16384;
@@ -43,13 +47,40 @@ pub(crate) struct Asked {
 // The partition by some columns, and how many rows its groups have.
 #[derive(Drop)]
 pub(crate) struct Kept {
-    pub(crate) partition: Partition,
+    pub(crate) partition: Arc<Partition>,
     pub(crate) columns: ColSet,
     pub(crate) rows: usize,
 }
 
+impl Kept {
+    fn of(alloc: Global, partition: Partition, columns: ColSet) -> Result<Kept, AllocError>
+        ensures partition { IfOk result (λ kept. kept.partition.value ≡ partition) }
+        ensures columns { IfOk result (λ kept. kept.columns ≡ columns) }
+    {
+        let rows = rows_of(&partition);
+        let partition = Arc::new(alloc, partition)?;
+        Ok(Kept {
+            partition,
+            columns,
+            rows,
+        })
+    }
+
+    // One more owner of the same partition.
+    fn shared(&self) -> Result<Kept, AllocError>
+        ensures partition { IfOk result (λ kept. kept.partition.value ≡ self.now.partition.value) }
+        ensures columns { IfOk result (λ kept. kept.columns ≡ self.now.columns) }
+    {
+        Ok(Kept {
+            partition: self.partition.clone()?,
+            columns: self.columns,
+            rows: self.rows,
+        })
+    }
+}
+
 // By columns, a place. The hash is SipHash with a fixed key.
-type Places = IndexMap<ColSet, usize, BuildHasherDefault<DefaultHasher>>;
+pub(crate) type Places = IndexMap<ColSet, usize, BuildHasherDefault<DefaultHasher>>;
 
 // The partitions that are kept, the weight of each column, which is how many rows it does not tell from an earlier one, and the
 // places where partitions are found.
@@ -64,7 +95,7 @@ pub(crate) struct Shelf {
     pub(crate) kept: Vec<Kept>,
     pub(crate) weights: [u32; COLUMN_PLACES],
     pub(crate) order: [u32; COLUMN_PLACES],
-    places: Places,
+    pub(crate) places: Places,
     settled: usize,
     rows: usize,
     room: usize,
@@ -131,12 +162,7 @@ fn push_refined(
     let entry = &kept[k];
     let columns = entry.columns.with(column);
     let partition = entry.partition.refine_in(alloc, snapshot, column, slots)?;
-    let rows = rows_of(&partition);
-    kept.push(Kept {
-        partition,
-        columns,
-        rows,
-    })?;
+    kept.push(Kept::of(alloc, partition, columns)?)?;
     Ok(())
 }
 
@@ -154,13 +180,9 @@ fn push_column(
     ensures weight { IfOk result (λ weight. weight ≡ weight_of snapshot.now column) }
 {
     let partition = Partition::of_column(alloc, snapshot, column)?;
-    let rows = rows_of(&partition);
     let weight = partition.error_count();
-    kept.push(Kept {
-        partition,
-        columns: ColSet::empty().with(column),
-        rows,
-    })?;
+    let columns = ColSet::empty().with(column);
+    kept.push(Kept::of(alloc, partition, columns)?)?;
     Ok(weight)
 }
 
@@ -172,12 +194,7 @@ fn push_all(alloc: Global, snapshot: &Snapshot, kept: &mut Vec<Kept>) -> Result<
     ensures columns { OnOk result ((d : Kept) → (slice_index_or kept.new.items (vec_len kept.old) d).columns ≡ empty) }
 {
     let partition = Partition::of_all(alloc, snapshot)?;
-    let rows = rows_of(&partition);
-    kept.push(Kept {
-        partition,
-        columns: ColSet::empty(),
-        rows,
-    })?;
+    kept.push(Kept::of(alloc, partition, ColSet::empty())?)?;
     Ok(())
 }
 
@@ -297,6 +314,30 @@ impl Shelf {
             room,
             large: rows / 2,
         }
+    }
+
+    // A shelf for the same snapshot with room for so many rows, beside the partitions by one and two columns that are kept here and which
+    // both share.
+    pub(crate) fn beside(
+        &self,
+        alloc: Global,
+        rows: usize,
+        room: usize,
+    ) -> Result<Shelf, AllocError>
+        ensures kept { IfOk result (λ shelf. (s : CodeTable) → AreKept s self.now.kept.items → AreKept s shelf.kept.items) }
+        ensures weights { IfOk result (λ shelf. shelf.weights ≡ self.now.weights) }
+    {
+        let mut shelf = Shelf::of(alloc, rows, room, self.order);
+        shelf.weights = self.weights;
+        for entry in self.kept.as_slice() {
+            let columns = entry.columns;
+            let k = shelf.kept.len();
+            if columns.len() <= MOST_SHARED_COLUMNS && note(&mut shelf.places, columns, k) {
+                shelf.kept.push(entry.shared()?)?;
+                shelf.settled = shelf.kept.len();
+            }
+        }
+        Ok(shelf)
     }
 
     // Whether the place in the order of one of these columns is not known.

@@ -83,16 +83,18 @@ impl Store {
         }
     }
 
-    /// An empty store for the same snapshot, with room for this many row numbers, that goes by the weights which this one found: so who
-    /// works beside its owner takes the same columns first. It fails only where no further owner of the snapshot can be counted.
+    /// A store for the same snapshot, with room for this many row numbers, that goes by the weights which this one found: so who works
+    /// beside its owner takes the same columns first. The partitions by one and two columns that are kept here are shared with it, and
+    /// come on top of its room; it has no others.
     pub fn another(&self, alloc: Global, room: usize) -> Result<Store, AllocError>
         ensures { IfOk result (λ store. store ≡ self.now) }
     {
         let snapshot = self.snapshot.clone()?;
         let rows = snapshot.to().number() as usize;
+        let shelf = self.shelf.beside(alloc, rows, room)?;
         Ok(Store {
             snapshot,
-            shelf: Shelf::of(alloc, rows, room, self.shelf.order),
+            shelf,
             slots: Vec::new(alloc),
             links: Vec::new(alloc),
             earlier: None,

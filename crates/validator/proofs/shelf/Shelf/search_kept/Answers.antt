@@ -34,7 +34,7 @@ pub returns-clause-pairs : goal.returns-clause-pairs
 returns-clause-pairs g c =
     let k : c.in_ok-k.k < length c.refine_kept.new.kept.items = (let l = c.in_ok-k.ensures.place in omega (arith, c.refine_kept.new.kept.ok.0)) in
     IfOk-weaker c.pairs_in_groups.result _ _ (λ v f.
-    found c.args.snapshot.now c.args.asked.now.target c.args.asked.now.from c.args.asked.now.left c.index-2.result.now.columns c.in_ok-k.by c.index-2.result.now.partition v.items
+    found c.args.snapshot.now c.args.asked.now.target c.args.asked.now.from c.args.asked.now.left c.index-2.result.now.columns c.in_ok-k.by c.deref.result.now v.items
     (whole c.base.new.self.kept.items c.refine_kept.new.kept.items c.in_ok-base.base c.in_ok-k.k c.index.result.now c.index-2.result.now c.in_ok-k.by c.args.asked.now.left c.minus-rest.result c.index.ensures c.index-2.ensures k
     c.in_ok-base.ensures.within c.minus-rest.ensures c.in_ok-k.ensures.columns)
-    (kept_of c.args.snapshot.now c.refine_kept.new.kept.items c.in_ok-k.k c.index-2.result.now c.refine_kept.ensures.kept k c.index-2.ensures) c.requires.asked.below f) c.pairs_in_groups.ensures.pairs
+    (c.deref.ensures ∙ kept_of c.args.snapshot.now c.refine_kept.new.kept.items c.in_ok-k.k c.index-2.result.now c.refine_kept.ensures.kept k c.index-2.ensures) c.requires.asked.below f) c.pairs_in_groups.ensures.pairs

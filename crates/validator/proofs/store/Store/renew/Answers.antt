@@ -1,4 +1,4 @@
-use Rattle.std.proofs.Common.{◌≡◌, ◌∙◌, sym, ap, ap₂, subst, length, arith}
+use Rattle.std.proofs.Common.{◌∙◌, sym, ap, ap₂, subst, length, arith}
 use Rattle.rel_base.specs.CodeTable.{CodeTable}
 use Rattle.validator.specs.Kept.{AreWeights}
 use Rattle.validator.specs.Links.{AreLinks, linked_of}
