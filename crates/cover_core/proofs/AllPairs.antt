@@ -1,7 +1,9 @@
 -- Pairs of rows that are compared one after another.
-use Rattle.std.proofs.Common.{inl, inr, ◌≡◌, ◌≢◌, ◌⊎◌, ℕ, ◌+◌, ◌<◌, ◌≤◌, eqb, true, false, refl, sym, ap, ap₂, ◌∙◌, subst, arith, List, [], ◌∷◌, ◌++◌, length, get_or, slice_index, IsPermutation}
+use Rattle.std.proofs.Common.{inl, inr, ◌≡◌, ◌⊎◌, ℕ, ◌+◌, ◌<◌, ◌≤◌, eqb, true, false, Less, Equal, refl, sym, ap, ap₂, ◌∙◌, subst, arith, List, [], ◌∷◌, ◌++◌, length, get_or, slice_index, IsPermutation}
 use Rattle.std.specs.List.{All, filter, list_any}
-use Rattle.std.proofs.lemmas.Bool.{eqb-true, true≢false, cases_eq}
+use Rattle.std.specs.Ordering.{is_le, nat_cmp}
+use Rattle.std.specs.Cmp.{nat_cmp_is}
+use Rattle.std.proofs.lemmas.Bool.{eqb-true, true≢false, cases_eq, cases_order}
 use Rattle.std.proofs.lemmas.List.Elements.{All-push}
 use Rattle.std.proofs.lemmas.List.Sorted.{Contains-permutation, IsPermutation-sym}
 use Rattle.col_set.specs.ColSet.{set_of, upto}
@@ -96,23 +98,44 @@ compared_more rows first second old mid new a b = record {
     at row (inl h) m = listed_kept mid new _ b.kept (a.told row h m)
     at row (inr h) m = b.told row h m
 
-pub all_compared_none : (rows : List CodedRow) (found : List Evidence) → found ≡ [] → HaveCompared rows [] found
-all_compared_none rows found e = record { each = λ f h. absurd (subst (Listed f) e h); told = λ first second h g l. absurd g }
+module _ (from : ℕ) (rows : List CodedRow) where
+  pub all_compared_none : (found : List Evidence) → found ≡ [] → HaveCompared from rows [] found
+  all_compared_none found e = record { each = λ f h. absurd (subst (Listed f) e h); told = λ first second h g m l. absurd g }
 
-pub all_compared_more : (rows others : List CodedRow) (second : CodedRow) (found new : List Evidence) → HaveCompared rows others found → HasCompared rows second found new → HaveCompared rows (others ++ second ∷ []) new
-all_compared_more rows others second found new a b = record {
-  each = λ e h. later e (b.each e h);
-  told = λ first row h g l. at first row h (Listed-append_cases row others (second ∷ []) g) l;
-}
-  where
-    later : (e : Evidence) → Listed e found ⊎ ((row : CodedRow) × Listed row rows × IsPair row second e) → (first row : CodedRow) × Listed first rows × Listed row (others ++ second ∷ []) × IsPair first row e
-    later e (inl h) = let w = a.each e h in (w.0, w.1, w.2, Listed-append_left w.1 others (second ∷ []) w.3, w.4)
-    later e (inr w) = (w.0, second, w.1, Listed-append_right second others (second ∷ []) (inl refl), w.2)
+  pub all_compared_more : (others : List CodedRow) (second : CodedRow) (found new : List Evidence) → HaveCompared from rows others found → HasCompared rows second found new → HaveCompared from rows (others ++ second ∷ []) new
+  all_compared_more others second found new a b = record {
+    each = λ e h. later e (b.each e h);
+    told = λ first row h g m l. at first row h (Listed-append_cases row others (second ∷ []) g) m l;
+  }
+    where
+      later : (e : Evidence) → Listed e found ⊎ ((row : CodedRow) × Listed row rows × IsPair row second e) → (first row : CodedRow) × Listed first rows × Listed row (others ++ second ∷ []) × IsPair first row e
+      later e (inl h) = let w = a.each e h in (w.0, w.1, w.2, Listed-append_left w.1 others (second ∷ []) w.3, w.4)
+      later e (inr w) = (w.0, second, w.1, Listed-append_right second others (second ∷ []) (inl refl), w.2)
 
-    at : (first row : CodedRow) → Listed first rows → Listed row others ⊎ Listed row (second ∷ []) → first.number < row.number → Listed (agree_set first.codes.items row.codes.items) (found_sets new)
-    at first row h (inl g) l = listed_kept found new _ b.kept (a.told first row h g l)
-    at first row h (inr (inl e)) l = subst (λ (r : CodedRow). Listed (agree_set first.codes.items r.codes.items) (found_sets new)) (sym e) (b.told first h (subst (λ (r : CodedRow). first.number < r.number) e l))
-    at first row h (inr (inr g)) l = absurd g
+      at : (first row : CodedRow) → Listed first rows → Listed row others ⊎ Listed row (second ∷ []) → from ≤ row.number → first.number < row.number → Listed (agree_set first.codes.items row.codes.items) (found_sets new)
+      at first row h (inl g) m l = listed_kept found new _ b.kept (a.told first row h g m l)
+      at first row h (inr (inl e)) m l = subst (λ (r : CodedRow). Listed (agree_set first.codes.items r.codes.items) (found_sets new)) (sym e) (b.told first h (subst (λ (r : CodedRow). first.number < r.number) e l))
+      at first row h (inr (inr g)) m l = absurd g
+
+  -- a row before the number needs no comparing
+  pub all_compared_passed : (others : List CodedRow) (second : CodedRow) (found : List Evidence) → HaveCompared from rows others found → second.number < from → HaveCompared from rows (others ++ second ∷ []) found
+  all_compared_passed others second found a before = record {
+    each = λ e h. let w = a.each e h in (w.0, w.1, w.2, Listed-append_left w.1 others (second ∷ []) w.3, w.4);
+    told = λ first row h g m l. at first row h (Listed-append_cases row others (second ∷ []) g) m l;
+  }
+    where
+      at : (first row : CodedRow) → Listed first rows → Listed row others ⊎ Listed row (second ∷ []) → from ≤ row.number → first.number < row.number → Listed (agree_set first.codes.items row.codes.items) (found_sets found)
+      at first row h (inl g) m l = a.told first row h g m l
+      at first row h (inr (inl e)) m l = let n : row.number ≡ second.number = ap (λ (r : CodedRow). r.number) e in absurd (omega arith)
+      at first row h (inr (inr g)) m l = absurd g
+
+-- what a comparison of two numbers that fails tells
+pub passed_before : (from n : ℕ) → is_le (nat_cmp from n) ≡ false → n < from
+passed_before from n h = elim (cases_order from n) as (λ _. n < from) [
+  | inl e ↦ absurd (true≢false (ap is_le (nat_cmp_is from n Equal e) ∙ h))
+  | inr (inl l) ↦ absurd (true≢false (ap is_le (nat_cmp_is from n Less l) ∙ h))
+  | inr (inr l) ↦ l
+]
 
 -- ---- rows of a snapshot
 -- the live rows below a number
@@ -160,16 +183,17 @@ module _ (s : CodeTable) where
     pub same_codes : (k : ℕ) (row : CodedRow) → k < length rows → row ≡ get_or rows k row → All (λ first. length first.codes.items ≡ length row.codes.items) rows
     same_codes k row l is = same_lengths row (subst (λ (r : CodedRow). Listed r rows) (sym is) (Listed-get_or rows k row l))
 
-    pub all_pairs-from : (found : List Evidence) → HaveCompared rows rows found → AreAllPairs s found
-    all_pairs-from found a = record {
+    pub all_pairs-from : (from : ℕ) (found : List Evidence) → HaveCompared from rows rows found → AreAllPairs s from found
+    all_pairs-from from found a = record {
       each = All-from (IsCodePair s) found (λ e h. at e (a.each e h));
-      told = λ i j p l n h g.
+      told = λ i j p l late n h g.
           let m : i < s.to = omega arith in
           let v = are.every i p m h in
           let q : 0 < j = omega arith in
           let w = are.every j q n g in
           let m : v.0.number < w.0.number = let e = v.2 in let f = w.2 in omega arith in
-          subst (λ (z : ℕ). Listed z (found_sets found)) (agree_set-coded v.0 w.0 (coded v.0 v.1) (coded w.0 w.1) ∙ ap₂ (code_agree s) v.2 w.2) (a.told v.0 w.0 v.1 w.1 m);
+          let o : from ≤ w.0.number = let f = w.2 in omega arith in
+          subst (λ (z : ℕ). Listed z (found_sets found)) (agree_set-coded v.0 w.0 (coded v.0 v.1) (coded w.0 w.1) ∙ ap₂ (code_agree s) v.2 w.2) (a.told v.0 w.0 v.1 w.1 o m);
     }
       where
         at : (e : Evidence) → (first second : CodedRow) × Listed first rows × Listed second rows × IsPair first second e → IsCodePair s e

@@ -1,7 +1,7 @@
 -- All pairs of live rows as evidence, and what holds after they were booked.
-use Rattle.std.proofs.Common.{inl, inr, ◌≡◌, ◌≢◌, ℕ, zero, suc, ◌<◌, max, true, false, refl, sym, ap, ◌∙◌, subst, arith, List, [], ◌∷◌, map, get_or}
+use Rattle.std.proofs.Common.{inl, inr, ◌≡◌, ◌≢◌, ◌⊎◌, ℕ, zero, suc, ◌<◌, ◌≤◌, max, true, false, refl, sym, ap, ◌∙◌, subst, arith, List, [], ◌∷◌, map, get_or}
 use Rattle.std.specs.List.{All, Contains}
-use Rattle.std.proofs.lemmas.Bool.{true≢false, true_from_ne_false, cases_order}
+use Rattle.std.proofs.lemmas.Bool.{true≢false, true_from_ne_false, cases_order, cases_lt}
 use Rattle.std.proofs.lemmas.List.{length-map}
 use Rattle.col_set.specs.declared.target.Target.{Target}
 use Rattle.col_set.specs.declared.target.Target.TheVariants.{Col, RowId}
@@ -13,10 +13,11 @@ use Rattle.col_set.proofs.Places.{Listed-contained}
 use Rattle.rel_base.specs.CodeTable.{CodeTable}
 use Rattle.rel_base.specs.RowState.{RowState, IsRowState, width, next, row}
 use Rattle.rel_base.specs.Shows.{Shows, code_agree}
-use Rattle.rel_base.specs.Validity.{agree_of}
+use Rattle.rel_base.specs.Validity.{agree_of, Holds, HoldsBelow}
 use Rattle.rel_base.proofs.Agree.{agree-symm}
-use Rattle.rel_base.proofs.Shown.{code_agree-shown}
-use Rattle.rel_base.proofs.States.{All-listed, All-from, live_positive, live_numbered}
+use Rattle.rel_base.proofs.Shown.{code_agree-shown, holds_in-shown}
+use Rattle.rel_base.proofs.Valid.{holds-true}
+use Rattle.rel_base.proofs.States.{All-listed, All-from, live_positive, live_numbered, live_climbs}
 use Rattle.negative_cover.specs.Witnesses.{sets_of}
 use Rattle.candidate_cover.specs.declared.cand.Cand.{Cand}
 use Rattle.candidate_cover.specs.Lists.{CandLists}
@@ -29,12 +30,16 @@ use Rattle.cover_steps.proofs.Keeping.{cand-least, cand-marked}
 use Rattle.cover_core.specs.declared.evidence.Evidence.{Evidence}
 use Rattle.cover_core.specs.AllPairs.{IsCodePair, AreAllPairs}
 use Rattle.cover_core.specs.Evidences.{IsEvidence, IsAllTold}
+use Rattle.cover_core.specs.Judged.{IsHeld}
 use Rattle.cover_core.specs.Kept.{IsBook}
+use Rattle.cover_core.specs.Waiting.{IsWaiting, IsKnownBelow}
+use Rattle.cover_core.specs.declared.waiting.Waiting.{Waiting}
 use Rattle.cover_core.proofs.Calls.{with_lists}
 use Rattle.cover_core.proofs.Evidences.{news_told}
+use Rattle.cover_core.proofs.Passes.{asked-one}
 
 -- ---- evidence
-module _ (s : CodeTable) (r : RowState) (is : IsRowState r) (shows : Shows s r) (found : List Evidence) (all : AreAllPairs s found) where
+module _ (s : CodeTable) (r : RowState) (is : IsRowState r) (shows : Shows s r) (from : ℕ) (found : List Evidence) (all : AreAllPairs s from found) where
   pub pairs_evidence : All (IsEvidence r) found
   pairs_evidence = All-from (IsEvidence r) found (λ e h.
       let p : IsCodePair s e = All-listed (IsCodePair s) e found all.each h in
@@ -47,21 +52,39 @@ module _ (s : CodeTable) (r : RowState) (is : IsRowState r) (shows : Shows s r) 
       record { first = first; second = second; different = ne; agrees = p.agrees ∙ code_agree-shown s r is shows e.i e.j first second ne })
 
   module _ (n : ℕ) (ws : List ℕ) (known : All (λ e. is_news n ws e.agree ≡ false) found) where
-    rising : (i j : ℕ) → Contains r.live i → Contains r.live j → i < j → is_news n ws (agree_of r i j) ≡ false
-    rising i j h g l =
+    pub pairs_told : (i j : ℕ) → Contains r.live i → Contains r.live j → i < j → from ≤ j → is_news n ws (agree_of r i j) ≡ false
+    pairs_told i j h g l late =
         let first = live_positive r i is (Listed-contained i r.live h) in
         let second = live_positive r j is (Listed-contained j r.live g) in
         let ne : i ≢ j = omega arith in
         let within : j < s.to = (let m = live_numbered r j is (Listed-contained j r.live g) in let k = shows.next in omega arith) in
-        let w = Listed-map_which (λ (e : Evidence). e.agree) (code_agree s i j) found (all.told i j first l within ((shows.live i first).1 h) ((shows.live j second).1 g)) in
+        let w = Listed-map_which (λ (e : Evidence). e.agree) (code_agree s i j) found (all.told i j first l late within ((shows.live i first).1 h) ((shows.live j second).1 g)) in
         ap (is_news n ws) (sym (code_agree-shown s r is shows i j h g ne) ∙ w.2) ∙ All-listed (λ (e : Evidence). is_news n ws e.agree ≡ false) w.0 found known w.1
 
-    pub pairs_told : (i j : ℕ) → Contains r.live i → Contains r.live j → i ≢ j → is_news n ws (agree_of r i j) ≡ false
-    pairs_told i j h g ne = elim (cases_order i j) as (λ _. is_news n ws (agree_of r i j) ≡ false) [
-      | inl e ↦ absurd (ne e)
-      | inr (inl l) ↦ rising i j h g l
-      | inr (inr l) ↦ ap (is_news n ws) (agree-symm r.nulls (width r) (row r i) (row r j)) ∙ rising j i g h l
-    ]
+-- ---- what holds
+module _ (s : Core) (table : CodeTable) (book : IsBook s table) (from : ℕ) (told : IsAllTold s from) (t : Target) (c : Cand) (l : IsColumnTarget (width s.rows) t) (h : Listed c (cands s t)) where
+  -- no pair of which the later row has the number or a greater one breaks it
+  new_keep : (i j : ℕ) → Contains s.rows.live i → Contains s.rows.live j → i < j → from ≤ j → IsSubset c.left (agree_of s.rows i j) → has_target (agree_of s.rows i j) t ≡ true
+  new_keep i j a b less late sub = true_from_ne_false _ (λ f.
+      true≢false (sym (refuted_inside (sets_of s.witnesses) t sub (news_told (width s.rows) (sets_of s.witnesses) (agree_of s.rows i j) (told.each i j a b less late) t l f)) ∙ (cand-least s t c book.sound l h).stands))
+
+  turned : (i j : ℕ) → agree_of s.rows i j ≡ agree_of s.rows j i
+  turned i j = agree-symm s.rows.nulls (width s.rows) (row s.rows i) (row s.rows j)
+
+  pub stands : from ≤ c.upto → Holds s.rows c.left t
+  stands m = record { each = λ i j a b ne sub. at i j a b ne sub (cases_order i j) }
+    where
+      below : HoldsBelow c.upto s.rows c.left t
+      below = (cand-marked s t c book.sound l h).holds
+
+      rising : (i j : ℕ) → Contains s.rows.live i → Contains s.rows.live j → i < j → IsSubset c.left (agree_of s.rows i j) → (j < from) ⊎ (from ≤ j) → has_target (agree_of s.rows i j) t ≡ true
+      rising i j a b less sub (inr late) = new_keep i j a b less late sub
+      rising i j a b less sub (inl early) = let first : i < c.upto = omega arith in let second : j < c.upto = omega arith in let ne : i ≢ j = omega arith in below.each i j a b first second ne sub
+
+      at : (i j : ℕ) → Contains s.rows.live i → Contains s.rows.live j → i ≢ j → IsSubset c.left (agree_of s.rows i j) → (i ≡ j) ⊎ ((i < j) ⊎ (j < i)) → has_target (agree_of s.rows i j) t ≡ true
+      at i j a b ne sub (inl e) = absurd (ne e)
+      at i j a b ne sub (inr (inl less)) = rising i j a b less sub (cases_lt j from)
+      at i j a b ne sub (inr (inr less)) = ap (λ (z : ℕ). has_target z t) (turned i j) ∙ rising j i b a less (subst (IsSubset c.left) (turned i j) sub) (cases_lt i from)
 
 -- ---- marks
 get_or-marked : (to : ℕ) (lists : List (List Cand)) (a : ℕ) → get_or (map (all_marked to) lists) a [] ≡ all_marked to (get_or lists a [])
@@ -77,20 +100,17 @@ lefts-marked : (to : ℕ) (cs : List Cand) → lefts (all_marked to cs) ≡ left
 lefts-marked to [] = refl
 lefts-marked to (c ∷ cs) = ap (λ (xs : List ℕ). c.left ∷ xs) (lefts-marked to cs)
 
-module _ (s now : Core) (table : CodeTable) (book : IsBook s table) (view : s ≡ now) (all : IsAllTold now) (n : ℕ) (e : n ≡ next s.rows) (new : CandLists) (is : new ≡ marked_throughout n s.candidates) where
-  told : IsAllTold s
-  told = subst IsAllTold (sym view) all
-
-  holds : (t : Target) (c : Cand) → IsColumnTarget (width s.rows) t → Listed c (cands s t) → (i j : ℕ) → Contains s.rows.live i → Contains s.rows.live j → i ≢ j → IsSubset c.left (agree_of s.rows i j) → has_target (agree_of s.rows i j) t ≡ true
-  holds t c l h i j a b ne sub = true_from_ne_false _ (λ f.
-      true≢false (sym (refuted_inside (sets_of s.witnesses) t sub (news_told (width s.rows) (sets_of s.witnesses) (agree_of s.rows i j) (told.each i j a b ne) t l f)) ∙ (cand-least s t c book.sound l h).stands))
+module _ (s now : Core) (table : CodeTable) (book : IsBook s table) (view : s ≡ now) (all : IsAllTold now 1) (n : ℕ) (e : n ≡ next s.rows) (new : CandLists) (is : new ≡ marked_throughout n s.candidates) where
+  told : IsAllTold s 1
+  told = subst (λ (m : Core). IsAllTold m 1) (sym view) all
 
   marked : (t : Target) (c : Cand) → IsColumnTarget (width s.rows) t → Listed c (cands s t) → IsMarked s.rows t (record { left = c.left; upto = max c.upto (next s.rows); held = false })
   marked t c l h =
       let m = cand-marked s t c book.sound l h in
       let first = m.first in
       let last = m.last in
-      record { holds = record { each = λ i j a b _ _ ne sub. holds t c l h i j a b ne sub }; first = omega arith; last = omega arith }
+      let some : 1 ≤ c.upto = omega arith in
+      record { holds = record { each = λ i j a b _ _ ne sub. (stands s table book 1 told t c l h some).each i j a b ne sub }; first = omega arith; last = omega arith }
 
   sound : Sound (record { rows = s.rows; witnesses = s.witnesses; candidates = marked_throughout (next s.rows) s.candidates })
   sound = record {
@@ -111,15 +131,31 @@ module _ (s now : Core) (table : CodeTable) (book : IsBook s table) (view : s �
     shows = book.shows;
   }
 
--- ---- both
-pub all_evidence : (s now : Core) (table shown : CodeTable) → IsBook s table → s ≡ now → shown ≡ table → (found : List Evidence) → AreAllPairs shown found → All (IsEvidence now.rows) found
-all_evidence s now table shown book view same found all =
-    subst (λ (m : Core). All (IsEvidence m.rows) found) view (pairs_evidence table s.rows book.sound.rows book.shows found (subst (λ (t : CodeTable). AreAllPairs t found) same all))
+-- ---- candidates that were known to hold below the number
+pub held_all : (s now : Core) (table shown : CodeTable) (from : ℕ) → IsBook s table → s ≡ now → shown ≡ table → IsAllTold now from → (list : List Waiting) → All (IsKnownBelow s.candidates from) list → All (IsHeld now.rows shown) list
+held_all s now table shown from book view same all list are = subst (λ (m : Core). All (IsHeld m.rows shown) list) view (subst (λ (u : CodeTable). All (IsHeld s.rows u) list) (sym same)
+    (All-from (IsHeld s.rows table) list (λ w h. let k : IsKnownBelow s.candidates from w = All-listed (IsKnownBelow s.candidates from) w list are h in held w k.0 k.1)))
+  where
+    told : IsAllTold s from
+    told = subst (λ (m : Core). IsAllTold m from) (sym view) all
 
-pub all_told : (s now after : Core) (table shown : CodeTable) → IsBook s table → s ≡ now → shown ≡ table → after.rows ≡ now.rows → (found : List Evidence) → AreAllPairs shown found
-    → All (λ e. is_news (width after.rows) (sets_of after.witnesses) e.agree ≡ false) found → IsAllTold after
-all_told s now after table shown book view same e found all known = record {
-  each = pairs_told table after.rows (subst IsRowState rows book.sound.rows) (subst (Shows table) rows book.shows) found (subst (λ (t : CodeTable). AreAllPairs t found) same all) (width after.rows) (sets_of after.witnesses) known;
+    held : (w : Waiting) → IsWaiting s.candidates w → from ≤ w.cand.upto → IsHeld s.rows table w
+    held w waits m =
+        let own : IsColumnTarget (width s.rows) w.target = subst (λ (n : ℕ). IsColumnTarget n w.target) book.sound.columns waits.target in
+        record {
+          fits = asked-one s table book w waits;
+          holds = holds_in-shown table s.rows book.sound.rows book.shows w.cand.left w.target ∙ holds-true s.rows w.cand.left w.target (live_climbs s.rows book.sound.rows) (stands s table book from told w.target w.cand own waits.listed m);
+        }
+
+-- ---- both
+pub all_evidence : (s now : Core) (table shown : CodeTable) (from : ℕ) → IsBook s table → s ≡ now → shown ≡ table → (found : List Evidence) → AreAllPairs shown from found → All (IsEvidence now.rows) found
+all_evidence s now table shown from book view same found all =
+    subst (λ (m : Core). All (IsEvidence m.rows) found) view (pairs_evidence table s.rows book.sound.rows book.shows from found (subst (λ (t : CodeTable). AreAllPairs t from found) same all))
+
+pub all_told : (s now after : Core) (table shown : CodeTable) (from : ℕ) → IsBook s table → s ≡ now → shown ≡ table → after.rows ≡ now.rows → (found : List Evidence) → AreAllPairs shown from found
+    → All (λ e. is_news (width after.rows) (sets_of after.witnesses) e.agree ≡ false) found → IsAllTold after from
+all_told s now after table shown from book view same e found all known = record {
+  each = pairs_told table after.rows (subst IsRowState rows book.sound.rows) (subst (Shows table) rows book.shows) from found (subst (λ (t : CodeTable). AreAllPairs t from found) same all) (width after.rows) (sets_of after.witnesses) known;
 }
   where
     rows : s.rows ≡ after.rows

@@ -61,7 +61,7 @@ module _ (s : Core) (table : CodeTable) (book : IsBook s table) (more : List Wit
 
 -- ---- the candidates of a pass
 module _ (s : Core) (table : CodeTable) (book : IsBook s table) where
-  asked-one : (w : Waiting) → IsWaiting s.candidates w → IsAsked s.rows table w
+  pub asked-one : (w : Waiting) → IsWaiting s.candidates w → IsAsked s.rows table w
   asked-one w waits =
       let own : IsColumnTarget (width s.rows) w.target = subst (λ (n : ℕ). IsColumnTarget n w.target) book.sound.columns waits.target in
       Fits-shown s.rows (job_for s.rows table w) book.sound.rows book.table book.shows own (cand-least s w.target w.cand book.sound own waits.listed).below refl

@@ -1,5 +1,5 @@
 -- All pairs of live rows of a snapshot, compared by their codes.
-use Rattle.std.specs.Prelude.{◌≡◌, ◌<◌, ◌⊎◌, ℕ, true, List, length, map, slice_index}
+use Rattle.std.specs.Prelude.{◌≡◌, ◌<◌, ◌≤◌, ◌⊎◌, ℕ, true, List, length, map, slice_index}
 use Rattle.std.specs.List.{All}
 use Rattle.col_set.specs.ColSet.{Columns}
 use Rattle.col_set.specs.Lists.{Listed}
@@ -42,10 +42,10 @@ pub record HasCompared (rows : List CodedRow) (second : CodedRow) (old new : Lis
   pub each : (e : Evidence) → Listed e new → Listed e old ⊎ ((first : CodedRow) × Listed first rows × IsPair first second e)
   pub told : (first : CodedRow) → Listed first rows → first.number < second.number → Listed (agree_set first.codes.items second.codes.items) (found_sets new)
 
--- The evidence is of pairs of one of the rows and one of the others, and each of the others was compared with each row of a smaller number.
-pub record HaveCompared (rows others : List CodedRow) (found : List Evidence) : Type 0 where
+-- The evidence is of pairs of one of the rows and one of the others, and each of the others from a number on was compared with each row of a smaller number.
+pub record HaveCompared (from : ℕ) (rows others : List CodedRow) (found : List Evidence) : Type 0 where
   pub each : (e : Evidence) → Listed e found → (first second : CodedRow) × Listed first rows × Listed second others × IsPair first second e
-  pub told : (first second : CodedRow) → Listed first rows → Listed second others → first.number < second.number → Listed (agree_set first.codes.items second.codes.items) (found_sets found)
+  pub told : (first second : CodedRow) → Listed first rows → Listed second others → from ≤ second.number → first.number < second.number → Listed (agree_set first.codes.items second.codes.items) (found_sets found)
 
 -- two live rows of a snapshot, and what they agree on
 pub record IsCodePair (s : CodeTable) (e : Evidence) : Type 0 where
@@ -55,7 +55,7 @@ pub record IsCodePair (s : CodeTable) (e : Evidence) : Type 0 where
   pub second : live_at s e.j ≡ true
   pub agrees : e.agree ≡ code_agree s e.i e.j
 
--- The evidence is of pairs of live rows, and has what each two live rows agree on.
-pub record AreAllPairs (s : CodeTable) (found : List Evidence) : Type 0 where
+-- The evidence is of pairs of live rows, and has what each live row from a number on and each live row before it agree on.
+pub record AreAllPairs (s : CodeTable) (from : ℕ) (found : List Evidence) : Type 0 where
   pub each : All (IsCodePair s) found
-  pub told : (i j : ℕ) → 0 < i → i < j → j < s.to → live_at s i ≡ true → live_at s j ≡ true → Listed (code_agree s i j) (found_sets found)
+  pub told : (i j : ℕ) → 0 < i → i < j → from ≤ j → j < s.to → live_at s i ≡ true → live_at s j ≡ true → Listed (code_agree s i j) (found_sets found)

@@ -1,5 +1,5 @@
 -- Evidence, and what of it is news.
-use Rattle.std.specs.Prelude.{◌≡◌, ◌≢◌, ℕ, false, List, ◌++◌}
+use Rattle.std.specs.Prelude.{◌≡◌, ◌≢◌, ◌<◌, ◌≤◌, ℕ, false, List, ◌++◌}
 use Rattle.std.specs.List.{All, AllPairs, Contains}
 use Rattle.rel_base.specs.RowState.{RowState, width}
 use Rattle.rel_base.specs.Validity.{agree_of}
@@ -20,6 +20,6 @@ pub record IsNews (r : RowState) (n : ℕ) (ws more : List Witness) (draft : Dra
   pub witnesses : All (IsWitness r) more
   pub once : AllPairs (λ v w. v.agree ≢ w.agree) ws → AllPairs (λ v w. v.agree ≢ w.agree) (ws ++ more)
 
--- what any two live rows agree on is no news to the witnesses
-pub record IsAllTold (s : Core) : Type 0 where
-  pub each : (i j : ℕ) → Contains s.rows.live i → Contains s.rows.live j → i ≢ j → is_news (width s.rows) (sets_of s.witnesses) (agree_of s.rows i j) ≡ false
+-- what each live row from a number on and each live row before it agree on is no news to the witnesses
+pub record IsAllTold (s : Core) (from : ℕ) : Type 0 where
+  pub each : (i j : ℕ) → Contains s.rows.live i → Contains s.rows.live j → i < j → from ≤ j → is_news (width s.rows) (sets_of s.witnesses) (agree_of s.rows i j) ≡ false

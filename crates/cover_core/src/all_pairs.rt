@@ -1,4 +1,4 @@
-// All pairs of few live rows, compared by their codes.
+// All pairs of live rows of which the later one is among few, compared by their codes.
 ghost use Rattle.std.specs.Prelude.{◌≡◌, ◌<◌, ◌≤◌, ◌∷◌, [], true, OnOk, IfOk, length};
 ghost use Rattle.std.specs.List.{All};
 ghost use Rattle.rel_base.specs.CodeTable.{IsCodeTable, live_at};
@@ -100,15 +100,22 @@ fn push_pairs_with(
     Ok(())
 }
 
-// What each two live rows agree on, once for each agree set. Each pair takes a step for sixteen columns.
-pub(crate) fn all_pairs(alloc: Global, snapshot: &Snapshot) -> Result<Vec<Evidence>, AllocError>
-    ensures { IfOk result (λ found. AreAllPairs snapshot.now found.items) }
+// What each live row from a number on and each live row before it agree on, once for each agree set. Each pair takes a step for sixteen
+// columns.
+pub(crate) fn all_pairs(
+    alloc: Global,
+    snapshot: &Snapshot,
+    from: RowNo,
+) -> Result<Vec<Evidence>, AllocError>
+    ensures { IfOk result (λ found. AreAllPairs snapshot.now from found.items) }
 {
     let rows = coded_rows(alloc, snapshot)?;
     let mut seen = AgreeSets::with_hasher(alloc, BuildHasherDefault::new());
     let mut found = Vec::new(alloc);
     for second in rows.as_slice() {
-        push_pairs_with(rows.as_slice(), second, &mut seen, &mut found)?;
+        if from <= second.number {
+            push_pairs_with(rows.as_slice(), second, &mut seen, &mut found)?;
+        }
     }
     Ok(found)
 }

@@ -35,10 +35,11 @@ use crate::outdated::Outdated;
 use crate::parts::{drafted, put_all, specialised};
 use crate::renewal::renewed_after;
 use crate::sampling::sampled;
+use crate::searcher::Searcher;
 use crate::searching::{first_drawable, first_unfinished, move_both_back};
 use crate::stores::Stores;
 use crate::verdict::store_of;
-use crate::waiting::{Sizes, Waiting, count, of_sizes};
+use crate::waiting::{Sizes, Waiting, count, known_below, of_sizes, worth_comparing};
 use candidate_cover::{CandidateCover, Marking};
 use negative_cover::{NegativeCover, Witness};
 use ports::{Gate, OpenGate};
@@ -71,12 +72,9 @@ pub struct Book {
     witnesses: NegativeCover,
     candidates: CandidateCover,
     snapshot: Arc<Snapshot>,
-    stores: Stores,
     cursors: Cursors,
     first: Option<Unfinished>,
-    // That of the columns when the book was opened. It only decides which verdicts share groups of rows, and batches change it
-    // little.
-    order: Order,
+    searcher: Box<Searcher>,
     // What the last refutation or batch put something else in place of, until it is asked for, or another one comes.
     outdated: Outdated,
     alloc: Global,
@@ -92,7 +90,7 @@ impl Model for Book {
 
     ghost view = { λ b. record { rows = b.rows; witnesses = b.witnesses; candidates = b.candidates } };
 
-    ghost invariant = { λ b. IsBook (record { rows = b.rows; witnesses = b.witnesses; candidates = b.candidates }) b.snapshot.value × (b.stores ≡ b.snapshot.value) × ArePast (record { rows = b.rows; witnesses = b.witnesses; candidates = b.candidates }) b.cursors × IsFirst (record { rows = b.rows; witnesses = b.witnesses; candidates = b.candidates }) b.first };
+    ghost invariant = { λ b. IsBook (record { rows = b.rows; witnesses = b.witnesses; candidates = b.candidates }) b.snapshot.value × (b.searcher.value.stores ≡ b.snapshot.value) × ArePast (record { rows = b.rows; witnesses = b.witnesses; candidates = b.candidates }) b.cursors × IsFirst (record { rows = b.rows; witnesses = b.witnesses; candidates = b.candidates }) b.first };
 }
 
 impl Book {
@@ -144,6 +142,8 @@ impl Book {
         let candidates = CandidateCover::new(alloc, snapshot.columns())?;
         let mut store = store_of(alloc, &snapshot)?;
         let order = Order::of(&store.weights(alloc)?);
+        let stores = Stores::of(alloc, store);
+        let searcher = Box::new(alloc, Searcher { stores, order })?;
         let mut cursors = Cursors::start();
         let first = first_unfinished(&candidates, &mut cursors.unfinished, rows.next());
         Ok(Book {
@@ -151,10 +151,9 @@ impl Book {
             witnesses: NegativeCover::new(alloc),
             candidates,
             snapshot,
-            stores: Stores::of(alloc, store),
             cursors,
             first,
-            order,
+            searcher,
             outdated: Outdated::nothing(alloc),
             alloc,
         })
@@ -294,7 +293,7 @@ impl Book {
                 self.witnesses.withdraw(made.dead.as_slice());
                 let lists = put_all(&mut self.candidates, made.parts);
                 let snapshot = mem::replace(&mut self.snapshot, made.snapshot);
-                let groups = self.stores.renew(self.alloc, made.shared);
+                let groups = self.searcher.stores.renew(self.alloc, made.shared);
                 self.outdated = Outdated::of_batch(lists, groups, snapshot);
                 self.cursors = Cursors::start();
                 let next = self.rows.next();
@@ -351,8 +350,9 @@ impl Book {
     ///
     /// It lets go of all candidates, so that none is held when it answers; jobs that are out may still come back. A book without
     /// witnesses of few rows compares all pairs of them, and then each candidate that is left holds. One of more rows begins with pairs
-    /// of rows that stand near each other, whose agree sets refute most of what does not hold. Then the
-    /// candidates of all targets are validated, those with fewer columns first, and left sides that begin with the same columns one
+    /// of rows that stand near each other, whose agree sets refute most of what does not hold. One with witnesses and many candidates that
+    /// are known to hold but in few rows that came since compares these rows with all: what their agree sets leave of the candidates holds.
+    /// Then the candidates of all targets are validated, those with fewer columns first, and left sides that begin with the same columns one
     /// after another, so that their verdicts share the groups of rows. Of those that fail, pairs of rows from many groups are booked
     /// at once after each size. So its time is mostly that of the verdicts: one for each minimal dependency, and some for those that
     /// fail.
@@ -379,8 +379,9 @@ impl Book {
     ///
     /// So whoever draws the candidates finds most of them to be right, and knows most verdicts. It takes the time of `finish`, and a copy
     /// of the candidates. The verdicts of a pass are made by so many workers at most beside each other, where the pass has many
-    /// candidates; one worker is the thread of the caller and no other. Each further worker has groups of rows of its own, for which
-    /// there is once more the room of one store in all, and which stay in the book. The gate is passed each time that
+    /// candidates; one worker is the thread of the caller and no other. Each further worker has groups of rows of its own beside those
+    /// by one and two columns that were made before it came, for which there is once more the room of one store in all, and which stay
+    /// in the book. The gate is passed each time that
     /// some thousands of verdicts were made.
     ///
     /// After want of memory the rows are the same, and the book is sound, with all witnesses that were booked so far.
@@ -416,21 +417,18 @@ impl Book {
         ensures sound { Sound self.new }
     {
         self.free();
+        self.searcher.stores.keep_own();
         if workers < 2 {
             self.search(&Alone { gate })?;
         } else {
-            self.spread(workers - 1)?;
-            self.search(&Beside { rt, gate, least })?;
+            self.search(&Beside {
+                rt,
+                gate,
+                workers,
+                least,
+            })?;
         }
         self.forget()
-    }
-
-    // Makes so many further stores.
-    fn spread(&mut self, count: u8) -> Result<(), AllocError>
-        ensures same { self.new ≡ self.old }
-        ensures sound { Sound self.new }
-    {
-        self.stores.spread(self.alloc, count)
     }
 
     /// Hands out the groups of rows that it keeps, to so many workers at most, in place of which it has none. A worker's store goes
@@ -440,7 +438,9 @@ impl Book {
         ensures same { self.new ≡ self.old }
         ensures sound { Sound self.new }
     {
-        self.stores.lend(self.alloc, &self.snapshot, workers)
+        self.searcher
+            .stores
+            .lend(self.alloc, &self.snapshot, workers)
     }
 
     /// Takes back what it lent, as far as there is memory to share its rows with each store.
@@ -449,7 +449,8 @@ impl Book {
         ensures sound { Sound self.new }
     {
         // A store that is lost is made anew when it is wanted.
-        let _ = self.stores.take_back(self.alloc, &self.snapshot, lent);
+        let stores = &mut self.searcher.stores;
+        let _ = stores.take_back(self.alloc, &self.snapshot, lent);
     }
 
     // Hands out all candidates with their marks, in place of which it has them without.
@@ -488,7 +489,7 @@ impl Book {
         self.first = first_unfinished(&self.candidates, &mut self.cursors.unfinished, next);
     }
 
-    // Validates the unfinished candidates, those with fewer columns first. What evidence leaves of those that fail has one column
+    // Validates the unfinished candidates, those with fewer columns first, behind what comparing rows tells. What evidence leaves of those that fail has one column
     // more, so that it comes with the next pass. Once few fail, a pass is of all that are left, as far as these are not too many.
     fn search<J: Judges>(&mut self, judges: &J) -> Result<(), AllocError>
         requires { J.ready }
@@ -501,6 +502,8 @@ impl Book {
                 return self.compare_all();
             }
             self.sample()?;
+        } else {
+            self.compare_new()?;
         }
         let mut calm = false;
         for size in 0..=self.candidates.columns() {
@@ -521,15 +524,47 @@ impl Book {
         ensures witnesses { Extends self.old.witnesses self.new.witnesses }
         ensures sound { Sound self.new }
     {
-        let found = all_pairs(self.alloc, &self.snapshot)?;
+        let found = all_pairs(self.alloc, &self.snapshot, RowNo::of(1))?;
         self.book_all(found)?;
         self.mark_all();
         Ok(())
     }
 
+    // Books what the rows that came since most candidates were validated and all rows agree on, if that is worth while. It is all the
+    // evidence against these candidates that there is: those that it leaves hold.
+    fn compare_new(&mut self) -> Result<(), AllocError>
+        ensures rows { self.new.rows ≡ self.old.rows }
+        ensures witnesses { Extends self.old.witnesses self.new.witnesses }
+        ensures sound { Sound self.new }
+    {
+        let (alloc, next) = (self.alloc, self.rows.next());
+        let order = &self.searcher.order;
+        let Some(from) = worth_comparing(alloc, &self.candidates, order, next)? else {
+            return Ok(());
+        };
+        let found = all_pairs(alloc, &self.snapshot, from)?;
+        self.book_all(found)?;
+        self.mark_known(from)
+    }
+
+    // Marks the candidates that are known to hold below a number, where the witnesses tell of what each live row from there on and each one
+    // before it agree on.
+    fn mark_known(&mut self, from: RowNo) -> Result<(), AllocError>
+        requires { IsAllTold self.old from }
+        ensures rows { self.new.rows ≡ self.old.rows }
+        ensures witnesses { self.new.witnesses ≡ self.old.witnesses }
+        ensures sound { Sound self.new }
+    {
+        let next = self.rows.next();
+        let order = &self.searcher.order;
+        let known = known_below(self.alloc, &self.candidates, order, from, next)?;
+        let snapshot = self.snapshot.clone()?;
+        self.mark_held(&snapshot, known.as_slice())
+    }
+
     // Marks all candidates, where the witnesses tell of what all pairs of live rows agree on.
     fn mark_all(&mut self)
-        requires { IsAllTold self.old }
+        requires { IsAllTold self.old 1 }
         ensures rows { self.new.rows ≡ self.old.rows }
         ensures witnesses { self.new.witnesses ≡ self.old.witnesses }
         ensures sound { Sound self.new }
@@ -560,9 +595,9 @@ impl Book {
     {
         let next = self.rows.next();
         let alloc = self.alloc;
-        let list = of_sizes(alloc, &self.candidates, &self.order, sizes, next)?;
+        let list = of_sizes(alloc, &self.candidates, &self.searcher.order, sizes, next)?;
         let snapshot = self.snapshot.clone()?;
-        let (rows, stores) = (&self.rows, &mut self.stores);
+        let (rows, stores) = (&self.rows, &mut self.searcher.stores);
         let judged = judged_by_parts(judges, alloc, rows, &snapshot, list.as_slice(), stores)?;
         let few = judged.found.len() < list.len();
         self.mark_held(&snapshot, judged.held.as_slice())?;
@@ -629,7 +664,8 @@ impl Book {
         let snapshot = self.snapshot.clone()?;
         let job = Job::of(first.target, first.left, first.upto, next, snapshot);
         let blank = Blank::new(1);
-        let mut pairs = self.stores.violations::<Brand>(self.alloc, &job, 1, blank)?;
+        let stores = &mut self.searcher.stores;
+        let mut pairs = stores.violations::<Brand>(self.alloc, &job, 1, blank)?;
         match pairs.pop() {
             Some(pair) => {
                 self.refute(pair.0, pair.1)?;

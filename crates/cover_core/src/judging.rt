@@ -85,11 +85,12 @@ impl<'a, G: Gate> Judges for Alone<'a, G> {
     }
 }
 
-// Threads beside each other, one for each store, where there are so many candidates at least.
+// So many threads at most beside each other, where there are so many candidates at least.
 #[derive(Drop)]
 pub(crate) struct Beside<'a, R, G> {
     pub(crate) rt: &'a R,
     pub(crate) gate: &'a G,
+    pub(crate) workers: u8,
     pub(crate) least: usize,
 }
 
@@ -104,7 +105,8 @@ impl<'a, R: Threads + Sync, G: Gate> Judges for Beside<'a, R, G> {
         list: &[Waiting],
         stores: &mut Stores,
     ) -> Result<Verdicts, AllocError> {
-        stores.judged_by(self.rt, alloc, rows, snapshot, self.least, list)
+        let (workers, least) = (self.workers, self.least);
+        stores.judged_by(self.rt, alloc, rows, snapshot, workers, least, list)
     }
 
     fn sought(&self) {

@@ -17,6 +17,7 @@ mod outdated;
 mod parts;
 mod renewal;
 mod sampling;
+mod searcher;
 mod searching;
 mod stores;
 #[cfg(test)]

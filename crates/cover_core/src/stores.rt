@@ -53,14 +53,20 @@ impl Stores {
         }
     }
 
-    // Makes so many further stores in place of those that there are. They are empty, share the room of one, and go by the weights that
-    // the book's own has. After want of memory there are fewer.
-    pub(crate) fn spread(&mut self, alloc: Global, count: u8) -> Result<(), AllocError>
+    // Lets go of all but the book's own.
+    pub(crate) fn keep_own(&mut self)
         ensures { self.new ≡ self.old }
     {
         self.others.clear();
-        let room = STORE_ROOM / count.max(1) as usize;
-        for _ in 0..count {
+    }
+
+    // Makes further stores until there are so many in all. They share what the book's own has for them (`Store::another`), and of its
+    // room each has a part.
+    fn spread(&mut self, alloc: Global, workers: u8) -> Result<(), AllocError>
+        ensures { self.new ≡ self.old }
+    {
+        let room = STORE_ROOM / workers.max(1) as usize;
+        for _ in self.others.len().saturating_add(1)..workers as usize {
             let other = self.own.another(alloc, room)?;
             self.others.push(other)?;
         }
@@ -158,13 +164,14 @@ impl Stores {
         judged(alloc, rows, snapshot, list, &mut self.own)
     }
 
-    // What `judged` tells, by a thread for each store, where there are so many candidates at least.
+    // What `judged` tells, by so many threads at most, each with a store of its own, where there are so many candidates at least.
     pub(crate) fn judged_by<R: Threads + Sync>(
         &mut self,
         rt: &R,
         alloc: Global,
         rows: &RowLog,
         snapshot: &Arc<Snapshot>,
+        workers: u8,
         least: usize,
         list: &[Waiting],
     ) -> Result<Verdicts, AllocError>
@@ -174,6 +181,9 @@ impl Stores {
         ensures found { IfOk result (λ judged. All (IsEvidence rows.now) judged.found.items) }
         ensures store { self.new ≡ self.old }
     {
+        if list.len() >= least {
+            self.spread(alloc, workers)?;
+        }
         if self.others.is_empty() || list.len() < least {
             return judged(alloc, rows, snapshot, list, &mut self.own);
         }

@@ -1,9 +1,9 @@
 // The candidates of a pass.
-ghost use Rattle.std.specs.Prelude.{OnOk, IfOk};
+ghost use Rattle.std.specs.Prelude.{OnOk, IfOk, IfSome, ◌<◌};
 ghost use Rattle.std.specs.List.{All};
 ghost use Rattle.col_set.specs.Target.{IsColumnTarget};
 ghost use Rattle.candidate_cover.specs.Cands.{width};
-ghost use Rattle.cover_core.specs.Waiting.{IsWaiting};
+ghost use Rattle.cover_core.specs.Waiting.{IsWaiting, IsKnownBelow};
 
 use crate::order::Order;
 use candidate_cover::{Cand, CandidateCover};
@@ -23,6 +23,14 @@ pub(crate) struct Waiting {
 pub(crate) struct Sizes {
     pub(crate) least: u32,
     pub(crate) most: u32,
+}
+
+impl Sizes {
+    // Any number of columns.
+    const ANY: Sizes = Sizes {
+        least: 0,
+        most: u32::MAX,
+    };
 }
 
 // How many candidates there are.
@@ -88,4 +96,60 @@ fn push_waiting(
         }
     }
     Ok(())
+}
+
+// The unfinished candidates that are known to hold below a number.
+pub(crate) fn known_below(
+    alloc: Global,
+    candidates: &CandidateCover,
+    order: &Order,
+    from: RowNo,
+    next: RowNo,
+) -> Result<Vec<Waiting>, AllocError>
+    ensures { IfOk result (λ list. All (IsKnownBelow candidates.now from) list.items) }
+{
+    let list = of_sizes(alloc, candidates, order, Sizes::ANY, next)?;
+    let mut known = Vec::with_capacity(alloc, list.len())?;
+    for waiting in list.as_slice() {
+        if from <= waiting.cand.upto {
+            known.push(*waiting)?;
+        }
+    }
+    Ok(known)
+}
+
+// For so many candidates it is worth while to compare rows that came since they were validated with all rows.
+const MANY_CANDIDATES: u32 = 500;
+
+// So many candidates are listed at once, 64 bytes each.
+const MOST_LISTED: usize = 1 << 18;
+
+// A row is compared with all others in the time of so few verdicts.
+const VERDICTS_A_ROW: u32 = 16;
+
+// The number below which each unfinished candidate is known to hold of which anything is known, where these are so many that comparing
+// the rows from there on with all rows is less work than a verdict on each, and few enough to be listed at once.
+pub(crate) fn worth_comparing(
+    alloc: Global,
+    candidates: &CandidateCover,
+    order: &Order,
+    next: RowNo,
+) -> Result<Option<RowNo>, AllocError> {
+    if count(candidates) > MOST_LISTED {
+        return Ok(None);
+    }
+    let list = of_sizes(alloc, candidates, order, Sizes::ANY, next)?;
+    let (mut from, mut count) = (next, 0u32);
+    for waiting in list.as_slice() {
+        let upto = waiting.cand.upto;
+        if upto.number() > 1 {
+            count = count.saturating_add(1);
+            if upto < from {
+                from = upto;
+            }
+        }
+    }
+    let new = next.number().saturating_sub(from.number());
+    let is_worth_it = count >= MANY_CANDIDATES && new <= count / VERDICTS_A_ROW;
+    Ok(if is_worth_it { Some(from) } else { None })
 }

@@ -1,4 +1,4 @@
-use Rattle.std.proofs.Common.{ℕ, ◌<◌, ◌∙◌, List, true, false, refl, sym, ap₂, subst, rules}
+use Rattle.std.proofs.Common.{ℕ, ◌<◌, ◌∙◌, List, refl, sym, ap₂, subst, rules}
 use Rattle.std.proofs.lemmas.Bool.{not-false, MatchBool-at_true}
 use Rattle.col_set.specs.Lists.{Listed}
 use Rattle.agree_sets.specs.Agreement.{agree_set}

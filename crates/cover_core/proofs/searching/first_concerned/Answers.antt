@@ -1,4 +1,4 @@
-use Rattle.std.proofs.Common.{ℕ, sym, ap, ◌∙◌, Bool, false, None, if◌then◌else◌}
+use Rattle.std.proofs.Common.{ℕ, sym, ap, ◌∙◌, Bool, None, if◌then◌else◌}
 use Rattle.std.specs.List.{find}
 use Rattle.candidate_cover.specs.Cands.{cands_of, from}
 use Rattle.candidate_cover.proofs.Remarked.{from_empty}
