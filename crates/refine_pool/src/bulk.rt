@@ -18,8 +18,16 @@ use std::sync::Wait;
 // So many operations are fed before the workers come, where they are a good part of the rows.
 const MANY_OPERATIONS: usize = 1000;
 
-/// Whether the batches change so many of so many rows that what workers check beside them would be checked again.
-pub fn are_many(batches: &[Batch], rows: u32) -> bool {
+// Of so many live rows one verdict that begins anew takes as long as hundreds in an order that shares groups of rows.
+const MANY_ROWS: u32 = 5000;
+
+/// Whether the batches are fed before the workers come: they change so many of the rows that what is checked beside them would be checked
+/// again, or there is nothing to check beside them, since all is settled, and the rows are many.
+pub fn are_fed_first(batches: &[Batch], book: &Book) -> bool {
+    let rows = book.rows().live_len();
+    if rows >= MANY_ROWS && !batches.is_empty() && book.settled() {
+        return true;
+    }
     let mut count = 0usize;
     for batch in batches {
         count = count.saturating_add(batch.ops().len());

@@ -7,7 +7,7 @@ ghost use Rattle.cover_steps.specs.Core.{first_unfinished as first_unfinished_of
 ghost use Rattle.cover_steps.specs.Sound.{Sound};
 ghost use Rattle.refine_pool.specs.Phases.{KeepsWitnesses, AreThoseOf, IsSoFar, IsWhole};
 
-use crate::bulk::{are_many, fed_alone};
+use crate::bulk::{are_fed_first, fed_alone};
 use crate::crew::Ending;
 use crate::feeder::Fed;
 use crate::preparing::{Prepared, prepare};
@@ -41,8 +41,9 @@ pub struct Refined {
 /// workers go on after the last of them. A worker that finds all candidates held by others compares further pairs of rows while
 /// it waits, as long as that brings news. The groups of rows that the workers make stay in the book for a later phase.
 ///
-/// Where the batches change many rows, a thousand and an eighth of all, nothing that workers check beside them would last: they are
-/// fed first, evidence is sought in the rows that they leave, and the workers come last.
+/// Where the batches change many rows, a thousand and an eighth of all, nothing that workers check beside them would last; where all is
+/// settled when the phase begins, workers find nothing to check beside them. So there, if the rows are many, the batches are fed first,
+/// evidence is sought in the rows that they leave, and the workers come last.
 ///
 /// The gate is passed outside turns: by those who seek after each verdict, by each worker after a draw that answered a job, after its
 /// verdict and after it was booked, and by the feeder after each batch that was answered.
@@ -74,7 +75,7 @@ pub fn phase<R: Threads + Wait + Sync, G: Gate + Sync>(
         let replies = Vec::new(alloc);
         return Err(NoMemory(Refined { book, replies }));
     };
-    if are_many(batches.as_slice(), book.rows().live_len()) {
+    if are_fed_first(batches.as_slice(), &book) {
         let fed = fed_alone(rt, alloc, book, batches, replies, gate)?;
         return refine_after(rt, alloc, fed.book, fed.replies, workers, gate);
     }
