@@ -1,5 +1,5 @@
 -- What coding a cell makes of a dictionary, from what it makes of the map and the places.
-use Rattle.std.proofs.Common.{◌≡◌, ◌<◌, ◌≤◌, ◌==◌, ◌||◌, ℕ, zero, suc, List, [], ◌∷◌, ◌++◌, Bool, true, false, not, cond, length, take, drop, get_or, slice_get, Some, None, Result, Ok, Err, IfOk, OnOk, OnErr, ap, ◌∙◌, sym, subst, refl, arith, length-append}
+use Rattle.std.proofs.Common.{◌≡◌, ◌<◌, ◌≤◌, ◌==◌, ◌||◌, ℕ, zero, suc, List, [], ◌∷◌, ◌++◌, Bool, true, false, not, cond, length, take, drop, get_or, slice_get, Option, Some, None, IfSome, Result, Ok, Err, IfOk, OnOk, OnErr, ap, ◌∙◌, sym, subst, refl, arith, length-append}
 use Rattle.std.specs.declared.alloc.AllocError.{AllocError}
 use Rattle.std.specs.List.{find, list_any, IsDistinct}
 use Rattle.std.specs.Option.{unwrap_or}
@@ -15,7 +15,7 @@ use Rattle.rel_base.specs.Agreement.{same_cell, Agrees}
 use Rattle.rel_base.proofs.Agree.{same_cell-true, true-same_cell}
 use Rattle.column_dict.specs.Coding.{Coding, IsCoding, IsCodeOf, is_fresh, is_new, coded}
 use Rattle.column_dict.specs.Layout.{nowhere, cells_at, IsLaid}
-use Rattle.column_dict.proofs.Laid.{same_some, found, missing, kept, kept-le, length-entries, once, cut}
+use Rattle.column_dict.proofs.Laid.{same_some, found, found-known, missing, kept, kept-le, length-entries, once, cut}
 
 -- ---- an answer by its cases
 pub either : {P Q X : Type 0} (r : Result ℕ AllocError) → OnOk r P → OnErr r Q → (P → X) → (Q → X) → X
@@ -154,3 +154,26 @@ module _ (nulls : Nulls) (es : List (Cell × ℕ)) (ps : List ℕ) (d : Coding) 
 
   pub old-code-of : (c : Cell) (k : ℕ) → IsLaid nulls es ps → IsDistinct same_cell (keys_of es) → is_fresh nulls c ≡ false → slice_get d.cells k ≡ Some c → IsCodeOf d c k
   old-code-of c k h u f g = old-code d c k (coding h u) (subst (λ (d : Coding). is_fresh d.nulls c ≡ false) e f) g
+
+  -- what a look-up tells that changes nothing
+  not_fresh : (c : Cell) (j : ℕ) → IsLaid nulls es ps → lookup (same_cell c) es ≡ Some j → is_fresh nulls c ≡ false
+  not_fresh c j h l = found-known nulls c 0 j (cells_at (keys_of es) ps) (sym (ap (lookup (same_cell c)) h.entries_are) ∙ l)
+
+  pub seen-old : (c : Cell) (o : Option ℕ) → IsLaid nulls es ps → o ≡ lookup (same_cell c) es → IfSome o (λ code. is_new d c ≡ false)
+  seen-old c None h l = tt
+  seen-old c (Some j) h l = (found-old c j h (sym l) (not_fresh c j h (sym l))).0
+
+  pub seen-cell : (c : Cell) (o : Option ℕ) → IsLaid nulls es ps → o ≡ lookup (same_cell c) es → IfSome o (λ code. slice_get d.cells code ≡ Some c)
+  seen-cell c None h l = tt
+  seen-cell c (Some j) h l = (found-old c j h (sym l) (not_fresh c j h (sym l))).1
+
+  pub seen-code-of : (c : Cell) (o : Option ℕ) → IsLaid nulls es ps → IsDistinct same_cell (keys_of es) → o ≡ lookup (same_cell c) es → IfSome o (λ code. IsCodeOf d c code)
+  seen-code-of c None h u l = tt
+  seen-code-of c (Some j) h u l = let f = not_fresh c j h (sym l) in old-code-of c j h u f (found-old c j h (sym l) f).1
+
+  pub lacked-new : (c : Cell) → IsLaid nulls es ps → lookup (same_cell c) es ≡ None → is_new d c ≡ true
+  lacked-new c h l = by (is_fresh nulls c) refl
+    where
+      by : (b : Bool) → is_fresh nulls c ≡ b → is_new d c ≡ true
+      by true f = fresh-new c f
+      by false f = missing-new c h l f

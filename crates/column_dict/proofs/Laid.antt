@@ -179,6 +179,21 @@ module _ (nulls : Nulls) (c : Cell) where
       by later true g = later g
       by later false g = here later (same_cell c x) refl g
 
+  -- a cell that the map has is not given a fresh code
+  pub found-known : (k j : ℕ) (cs : List Cell) → lookup (same_cell c) (entries_from nulls k cs) ≡ Some j → is_fresh nulls c ≡ false
+  found-known k j [] e = absurd (none-some j e)
+  found-known k j (x ∷ cs) e = by (found-known (suc k) j cs) (is_fresh nulls x) refl e
+    where
+      here : (lookup (same_cell c) (entries_from nulls (suc k) cs) ≡ Some j → is_fresh nulls c ≡ false) → is_fresh nulls x ≡ false
+          → (t : Bool) → same_cell c x ≡ t → cond t (Some k) (lookup (same_cell c) (entries_from nulls (suc k) cs)) ≡ Some j → is_fresh nulls c ≡ false
+      here later f true s g = ap (is_fresh nulls) (same_cell-true c x s) ∙ f
+      here later f false s g = later g
+
+      by : (lookup (same_cell c) (entries_from nulls (suc k) cs) ≡ Some j → is_fresh nulls c ≡ false)
+          → (b : Bool) → is_fresh nulls x ≡ b → lookup (same_cell c) (cond b (entries_from nulls (suc k) cs) ((x, k) ∷ entries_from nulls (suc k) cs)) ≡ Some j → is_fresh nulls c ≡ false
+      by later true f g = later g
+      by later false f g = here later f (same_cell c x) refl g
+
   pub missing : (k : ℕ) (cs : List Cell) → lookup (same_cell c) (entries_from nulls k cs) ≡ None → is_fresh nulls c ≡ false → list_any (same_cell c) cs ≡ false
   missing k [] e f = refl
   missing k (x ∷ cs) e f = by (λ g. missing (suc k) cs g f) (is_fresh nulls x) refl e

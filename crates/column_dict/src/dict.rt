@@ -1,9 +1,11 @@
 // The dictionary.
-ghost use Rattle.std.specs.Prelude.{◌≡◌, ◌<◌, [], Some, true, false, IfOk, IfSome, OnOk, OnErr, length, slice_get, take};
+ghost use Rattle.std.specs.Prelude.{◌≡◌, ◌<◌, [], None, Some, true, false, IfOk, IfSome, OnOk, OnErr, length, slice_get, take};
 ghost use Rattle.column_dict.specs.Coding.{IsCoding, IsCodeOf, coded, is_new};
 
 use crate::recent::{Recent, mark_of};
-use crate::table::{Known, add_fresh, add_known, code_in, entries_left, is_fresh, is_known_as};
+use crate::table::{
+    Known, add_fresh, add_known, code_in, entries_left, is_fresh, is_known_as, known_code,
+};
 use crate::text::Text;
 use rel_base::{Cell, Nulls};
 use std::alloc::{AllocError, Global};
@@ -148,6 +150,17 @@ impl Dict {
             Some((cell, _)) => cell,
             None => &self.null,
         }
+    }
+
+    /// The code of a cell, maybe one of another dictionary, where a code is known that each such cell gets. Under `Nulls::Distinct` that
+    /// is never so of NULL. It takes one look-up, and no memory.
+    pub fn find(&self, cell: &Text) -> Option<u32>
+        ensures old { IfSome result (λ code. is_new self.now cell.now ≡ false) }
+        ensures cell { IfSome result (λ code. slice_get self.now.cells code ≡ Some cell.now) }
+        ensures agrees { IfSome result (λ code. IsCodeOf self.now cell.now code) }
+        ensures lacking { result ≡ None → is_new self.now cell.now ≡ true }
+    {
+        known_code(&self.known, cell)
     }
 
     /// How many codes there are: they are the numbers below it.

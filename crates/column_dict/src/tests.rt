@@ -56,6 +56,26 @@ fn each_null_has_a_code_of_its_own_where_null_agrees_with_nothing(
     Ok(())
 }
 
+#[test]
+fn a_cell_of_another_dictionary_is_found(rt: HostRuntime) -> Result<(), Fail> {
+    let alloc = rt.alloc();
+    for (nulls, null) in [(Nulls::Equal, Some(1u32)), (Nulls::Distinct, None)] {
+        let mut dict = Dict::with_nulls(alloc, nulls);
+        let mut other = Dict::with_nulls(alloc, nulls);
+        for bytes in [b"x".as_slice(), b"", b"more than 14 bytes"] {
+            code_of(&rt, &mut dict, bytes)?;
+        }
+        for bytes in [b"more than 14 bytes".as_slice(), b"", b"y"] {
+            code_of(&rt, &mut other, bytes)?;
+        }
+        assert!(rt; dict.len() == 3 && other.len() == 3);
+        assert!(rt; other.find(dict.cell(0)).is_none());
+        assert!(rt; other.find(dict.cell(1)) == null);
+        assert!(rt; other.find(dict.cell(2)) == Some(0));
+    }
+    Ok(())
+}
+
 // Whether new cells of this length get one code after another, and keep them. They are alike but for their bytes at this place.
 fn are_told_apart(dict: &mut Dict, cell: &mut [u8], place: usize) -> Result<bool, AllocError> {
     for number in 0..40u8 {

@@ -1,23 +1,21 @@
 -- Pairs of rows that are compared one after another.
-use Rattle.std.proofs.Common.{inl, inr, ◌≡◌, ◌⊎◌, ℕ, ◌+◌, ◌<◌, ◌≤◌, eqb, true, false, Less, Equal, refl, sym, ap, ap₂, ◌∙◌, subst, arith, List, [], ◌∷◌, ◌++◌, length, get_or, slice_index, IsPermutation}
+use Rattle.std.proofs.Common.{inl, inr, ◌≡◌, ◌⊎◌, ℕ, ◌+◌, ◌<◌, ◌≤◌, eqb, true, false, refl, sym, ap, ap₂, ◌∙◌, subst, arith, List, [], ◌∷◌, ◌++◌, length, slice_index, IsPermutation}
 use Rattle.std.specs.List.{All, filter, list_any}
-use Rattle.std.specs.Ordering.{is_le, nat_cmp}
-use Rattle.std.specs.Cmp.{nat_cmp_is}
-use Rattle.std.proofs.lemmas.Bool.{eqb-true, true≢false, cases_eq, cases_order}
+use Rattle.std.proofs.lemmas.Bool.{eqb-true, true≢false, cases_eq}
 use Rattle.std.proofs.lemmas.List.Elements.{All-push}
 use Rattle.std.proofs.lemmas.List.Sorted.{Contains-permutation, IsPermutation-sym}
 use Rattle.col_set.specs.ColSet.{set_of, upto}
 use Rattle.col_set.specs.AllSets.{Listed-upto_within}
 use Rattle.col_set.specs.Lists.{Listed, Listed-append_left, Listed-append_right, Listed-append_cases, Listed-map, Listed-map_which, filter_same, list_any_which}
-use Rattle.col_set.proofs.Places.{Contains-listed, Listed-contained, Listed-get_or}
+use Rattle.col_set.proofs.Places.{Contains-listed, Listed-contained}
 use Rattle.col_set.specs.declared.col_set.TheConstants.{MOST_COLUMNS}
 use Rattle.agree_sets.specs.Agreement.{agree_set}
 use Rattle.rel_base.specs.CodeTable.{CodeTable, IsCodeTable, code_at, live_at}
 use Rattle.rel_base.specs.Shows.{code_agree}
 use Rattle.rel_base.proofs.States.{All-listed, All-from}
 use Rattle.cover_core.specs.declared.all_pairs.CodedRow.{CodedRow}
-use Rattle.cover_core.specs.declared.evidence.Evidence.{Evidence}
-use Rattle.cover_core.specs.AllPairs.{found_sets, AreSeen, IsCodedRow, AreCodedRows, IsPair, HasCompared, HaveCompared, IsCodePair, AreAllPairs}
+use Rattle.negative_cover.specs.declared.negative_cover.Witness.{Witness as Evidence}
+use Rattle.cover_core.specs.AllPairs.{found_sets, AreSeen, IsCodedRow, AreCodedRows, IsPair, HasCompared, IsCodePair, AreAllPairs, AreComparedBelow}
 
 -- ---- what was seen
 pub seen_none : (seen : List ℕ) (found : List Evidence) → seen ≡ [] → AreSeen seen found
@@ -40,34 +38,34 @@ pub seen_at : (seen : List ℕ) (found : List Evidence) (z : ℕ) → list_any (
 seen_at seen found z e a = let w = list_any_which (eqb z) seen e in subst (λ (x : ℕ). Listed x (found_sets found)) (sym (eqb-true z w.0 w.2)) (a.each w.0 w.1)
 
 -- ---- one row
-pub compared_later : (first second : CodedRow) (found : List Evidence) → second.number ≤ first.number → HasCompared (first ∷ []) second found found
+pub compared_later : (first second : CodedRow) (found : List Evidence) → second.number ≤ first.number → HasCompared first (second ∷ []) found found
 compared_later first second found l = record { kept = λ e h. h; each = λ e h. inl h; told = λ row h m. absurd (at row h m) }
   where
-    at : (row : CodedRow) → Listed row (first ∷ []) → row.number < second.number → ⊥
-    at row (inl e) m = let n : row.number ≡ first.number = ap (λ (r : CodedRow). r.number) e in absurd (omega arith)
+    at : (row : CodedRow) → Listed row (second ∷ []) → first.number < row.number → ⊥
+    at row (inl e) m = let n : row.number ≡ second.number = ap (λ (r : CodedRow). r.number) e in absurd (omega arith)
     at row (inr h) m = absurd h
 
-pub compared_known : (first second : CodedRow) (found : List Evidence) → Listed (agree_set first.codes.items second.codes.items) (found_sets found) → HasCompared (first ∷ []) second found found
+pub compared_known : (first second : CodedRow) (found : List Evidence) → Listed (agree_set first.codes.items second.codes.items) (found_sets found) → HasCompared first (second ∷ []) found found
 compared_known first second found k = record { kept = λ e h. h; each = λ e h. inl h; told = λ row h m. at row h }
   where
-    at : (row : CodedRow) → Listed row (first ∷ []) → Listed (agree_set row.codes.items second.codes.items) (found_sets found)
-    at row (inl e) = subst (λ (r : CodedRow). Listed (agree_set r.codes.items second.codes.items) (found_sets found)) (sym e) k
+    at : (row : CodedRow) → Listed row (second ∷ []) → Listed (agree_set first.codes.items row.codes.items) (found_sets found)
+    at row (inl e) = subst (λ (r : CodedRow). Listed (agree_set first.codes.items r.codes.items) (found_sets found)) (sym e) k
     at row (inr h) = absurd h
 
-pub compared_new : (first second : CodedRow) (old new : List Evidence) (e : Evidence) → IsPair first second e → new ≡ old ++ e ∷ [] → HasCompared (first ∷ []) second old new
-compared_new first second old new e p is = subst (HasCompared (first ∷ []) second old) (sym is) (record {
+pub compared_new : (first second : CodedRow) (old new : List Evidence) (e : Evidence) → IsPair first second e → new ≡ old ++ e ∷ [] → HasCompared first (second ∷ []) old new
+compared_new first second old new e p is = subst (HasCompared first (second ∷ []) old) (sym is) (record {
   kept = λ f h. Listed-append_left f old (e ∷ []) h;
   each = λ f h. cases f (Listed-append_cases f old (e ∷ []) h);
   told = λ row h m. at row h;
 })
   where
-    cases : (f : Evidence) → Listed f old ⊎ Listed f (e ∷ []) → Listed f old ⊎ ((row : CodedRow) × Listed row (first ∷ []) × IsPair row second f)
+    cases : (f : Evidence) → Listed f old ⊎ Listed f (e ∷ []) → Listed f old ⊎ ((row : CodedRow) × Listed row (second ∷ []) × IsPair first row f)
     cases f (inl h) = inl h
-    cases f (inr (inl g)) = inr (first, inl refl, subst (IsPair first second) (sym g) p)
+    cases f (inr (inl g)) = inr (second, inl refl, subst (IsPair first second) (sym g) p)
     cases f (inr (inr h)) = absurd h
 
-    at : (row : CodedRow) → Listed row (first ∷ []) → Listed (agree_set row.codes.items second.codes.items) (found_sets (old ++ e ∷ []))
-    at row (inl g) = subst (λ (r : CodedRow). Listed (agree_set r.codes.items second.codes.items) (found_sets (old ++ e ∷ []))) (sym g)
+    at : (row : CodedRow) → Listed row (second ∷ []) → Listed (agree_set first.codes.items row.codes.items) (found_sets (old ++ e ∷ []))
+    at row (inl g) = subst (λ (r : CodedRow). Listed (agree_set first.codes.items r.codes.items) (found_sets (old ++ e ∷ []))) (sym g)
         (subst (λ (z : ℕ). Listed z (found_sets (old ++ e ∷ []))) p.agrees (Listed-map (λ (e : Evidence). e.agree) e (old ++ e ∷ []) (Listed-append_right e old (e ∷ []) (inl refl))))
     at row (inr h) = absurd h
 
@@ -77,87 +75,55 @@ listed_kept old new z f h =
     let w = Listed-map_which (λ (e : Evidence). e.agree) z old h in
     subst (λ (x : ℕ). Listed x (found_sets new)) (sym w.2) (Listed-map (λ (e : Evidence). e.agree) w.0 new (f w.0 w.1))
 
-pub compared_none : (second : CodedRow) (found : List Evidence) → HasCompared [] second found found
-compared_none second found = record { kept = λ e h. h; each = λ e h. inl h; told = λ row h m. absurd h }
+pub compared_none : (first : CodedRow) (found : List Evidence) → HasCompared first [] found found
+compared_none first found = record { kept = λ e h. h; each = λ e h. inl h; told = λ row h m. absurd h }
 
-pub compared_more : (rows : List CodedRow) (first second : CodedRow) (old mid new : List Evidence) → HasCompared rows second old mid → HasCompared (first ∷ []) second mid new → HasCompared (rows ++ first ∷ []) second old new
-compared_more rows first second old mid new a b = record {
+pub compared_more : (first : CodedRow) (rows : List CodedRow) (second : CodedRow) (old mid new : List Evidence) → HasCompared first rows old mid → HasCompared first (second ∷ []) mid new → HasCompared first (rows ++ second ∷ []) old new
+compared_more first rows second old mid new a b = record {
   kept = λ e h. b.kept e (a.kept e h);
   each = λ e h. later e (b.each e h);
-  told = λ row h m. at row (Listed-append_cases row rows (first ∷ []) h) m;
+  told = λ row h m. at row (Listed-append_cases row rows (second ∷ []) h) m;
 }
   where
-    later : (e : Evidence) → Listed e mid ⊎ ((row : CodedRow) × Listed row (first ∷ []) × IsPair row second e) → Listed e old ⊎ ((row : CodedRow) × Listed row (rows ++ first ∷ []) × IsPair row second e)
-    later e (inl h) = elim (a.each e h) as (λ _. Listed e old ⊎ ((row : CodedRow) × Listed row (rows ++ first ∷ []) × IsPair row second e)) [
+    later : (e : Evidence) → Listed e mid ⊎ ((row : CodedRow) × Listed row (second ∷ []) × IsPair first row e) → Listed e old ⊎ ((row : CodedRow) × Listed row (rows ++ second ∷ []) × IsPair first row e)
+    later e (inl h) = elim (a.each e h) as (λ _. Listed e old ⊎ ((row : CodedRow) × Listed row (rows ++ second ∷ []) × IsPair first row e)) [
       | inl g ↦ inl g
-      | inr w ↦ inr (w.0, Listed-append_left w.0 rows (first ∷ []) w.1, w.2)
+      | inr w ↦ inr (w.0, Listed-append_left w.0 rows (second ∷ []) w.1, w.2)
     ]
-    later e (inr w) = inr (w.0, Listed-append_right w.0 rows (first ∷ []) w.1, w.2)
+    later e (inr w) = inr (w.0, Listed-append_right w.0 rows (second ∷ []) w.1, w.2)
 
-    at : (row : CodedRow) → Listed row rows ⊎ Listed row (first ∷ []) → row.number < second.number → Listed (agree_set row.codes.items second.codes.items) (found_sets new)
+    at : (row : CodedRow) → Listed row rows ⊎ Listed row (second ∷ []) → first.number < row.number → Listed (agree_set first.codes.items row.codes.items) (found_sets new)
     at row (inl h) m = listed_kept mid new _ b.kept (a.told row h m)
     at row (inr h) m = b.told row h m
 
-module _ (from : ℕ) (rows : List CodedRow) where
-  pub all_compared_none : (found : List Evidence) → found ≡ [] → HaveCompared from rows [] found
-  all_compared_none found e = record { each = λ f h. absurd (subst (Listed f) e h); told = λ first second h g m l. absurd g }
-
-  pub all_compared_more : (others : List CodedRow) (second : CodedRow) (found new : List Evidence) → HaveCompared from rows others found → HasCompared rows second found new → HaveCompared from rows (others ++ second ∷ []) new
-  all_compared_more others second found new a b = record {
-    each = λ e h. later e (b.each e h);
-    told = λ first row h g m l. at first row h (Listed-append_cases row others (second ∷ []) g) m l;
-  }
-    where
-      later : (e : Evidence) → Listed e found ⊎ ((row : CodedRow) × Listed row rows × IsPair row second e) → (first row : CodedRow) × Listed first rows × Listed row (others ++ second ∷ []) × IsPair first row e
-      later e (inl h) = let w = a.each e h in (w.0, w.1, w.2, Listed-append_left w.1 others (second ∷ []) w.3, w.4)
-      later e (inr w) = (w.0, second, w.1, Listed-append_right second others (second ∷ []) (inl refl), w.2)
-
-      at : (first row : CodedRow) → Listed first rows → Listed row others ⊎ Listed row (second ∷ []) → from ≤ row.number → first.number < row.number → Listed (agree_set first.codes.items row.codes.items) (found_sets new)
-      at first row h (inl g) m l = listed_kept found new _ b.kept (a.told first row h g m l)
-      at first row h (inr (inl e)) m l = subst (λ (r : CodedRow). Listed (agree_set first.codes.items r.codes.items) (found_sets new)) (sym e) (b.told first h (subst (λ (r : CodedRow). first.number < r.number) e l))
-      at first row h (inr (inr g)) m l = absurd g
-
-  -- a row before the number needs no comparing
-  pub all_compared_passed : (others : List CodedRow) (second : CodedRow) (found : List Evidence) → HaveCompared from rows others found → second.number < from → HaveCompared from rows (others ++ second ∷ []) found
-  all_compared_passed others second found a before = record {
-    each = λ e h. let w = a.each e h in (w.0, w.1, w.2, Listed-append_left w.1 others (second ∷ []) w.3, w.4);
-    told = λ first row h g m l. at first row h (Listed-append_cases row others (second ∷ []) g) m l;
-  }
-    where
-      at : (first row : CodedRow) → Listed first rows → Listed row others ⊎ Listed row (second ∷ []) → from ≤ row.number → first.number < row.number → Listed (agree_set first.codes.items row.codes.items) (found_sets found)
-      at first row h (inl g) m l = a.told first row h g m l
-      at first row h (inr (inl e)) m l = let n : row.number ≡ second.number = ap (λ (r : CodedRow). r.number) e in absurd (omega arith)
-      at first row h (inr (inr g)) m l = absurd g
-
--- what a comparison of two numbers that fails tells
-pub passed_before : (from n : ℕ) → is_le (nat_cmp from n) ≡ false → n < from
-passed_before from n h = elim (cases_order from n) as (λ _. n < from) [
-  | inl e ↦ absurd (true≢false (ap is_le (nat_cmp_is from n Equal e) ∙ h))
-  | inr (inl l) ↦ absurd (true≢false (ap is_le (nat_cmp_is from n Less l) ∙ h))
-  | inr (inr l) ↦ l
-]
-
 -- ---- rows of a snapshot
--- the live rows below a number
-abbrev pub CodedSoFar : CodeTable → ℕ → List CodedRow → Type 0
-CodedSoFar s n rows = All (IsCodedRow s) rows × ((i : ℕ) → 0 < i → i < n → live_at s i ≡ true → (row : CodedRow) × Listed row rows × (row.number ≡ i))
+-- the live rows from a number on and below another one
+abbrev pub CodedSoFar : CodeTable → ℕ → ℕ → List CodedRow → Type 0
+CodedSoFar s from n rows = All (IsCodedRow s) rows × ((i : ℕ) → 0 < i → from ≤ i → i < n → live_at s i ≡ true → (row : CodedRow) × Listed row rows × (row.number ≡ i))
 
-pub coded_more : (s : CodeTable) (n : ℕ) (rows new : List CodedRow) (row : CodedRow) → new ≡ rows ++ row ∷ [] → IsCodedRow s row → row.number ≡ n → CodedSoFar s n rows → CodedSoFar s (n + 1) new
-coded_more s n rows new row e is m k = subst (CodedSoFar s (n + 1)) (sym e) (
+pub coded_none : (s : CodeTable) (from n : ℕ) → n ≤ from ⊎ n ≤ 1 → CodedSoFar s from n []
+coded_none s from n l = (All-from (IsCodedRow s) [] (λ row h. absurd h), λ i p f m h. at i p f m l)
+  where
+    at : (i : ℕ) → 0 < i → from ≤ i → i < n → n ≤ from ⊎ n ≤ 1 → (row : CodedRow) × Listed row [] × (row.number ≡ i)
+    at i p f m (inl k) = absurd (omega arith)
+    at i p f m (inr k) = absurd (omega arith)
+
+pub coded_more : (s : CodeTable) (from n : ℕ) (rows new : List CodedRow) (row : CodedRow) → new ≡ rows ++ row ∷ [] → IsCodedRow s row → row.number ≡ n → CodedSoFar s from n rows → CodedSoFar s from (n + 1) new
+coded_more s from n rows new row e is m k = subst (CodedSoFar s from (n + 1)) (sym e) (
   All-push (IsCodedRow s) rows row k.0 is,
-  (λ i p l h. at i p h (cases_eq i n) l),
+  (λ i p f l h. at i p f h (cases_eq i n) l),
 )
   where
-    at : (i : ℕ) → 0 < i → live_at s i ≡ true → (i ≡ n) ⊎ (i ≡ n → ⊥) → i < n + 1 → (r : CodedRow) × Listed r (rows ++ row ∷ []) × (r.number ≡ i)
-    at i p h (inl q) l = (row, Listed-append_right row rows (row ∷ []) (inl refl), m ∙ sym q)
-    at i p h (inr ne) l = let less : i < n = omega arith in let w = k.1 i p less h in (w.0, Listed-append_left w.0 rows (row ∷ []) w.1, w.2)
+    at : (i : ℕ) → 0 < i → from ≤ i → live_at s i ≡ true → (i ≡ n) ⊎ (i ≡ n → ⊥) → i < n + 1 → (r : CodedRow) × Listed r (rows ++ row ∷ []) × (r.number ≡ i)
+    at i p f h (inl q) l = (row, Listed-append_right row rows (row ∷ []) (inl refl), m ∙ sym q)
+    at i p f h (inr ne) l = let less : i < n = omega arith in let w = k.1 i p f less h in (w.0, Listed-append_left w.0 rows (row ∷ []) w.1, w.2)
 
-pub coded_same : (s : CodeTable) (n : ℕ) (rows new : List CodedRow) → new ≡ rows → live_at s n ≡ false → CodedSoFar s n rows → CodedSoFar s (n + 1) new
-coded_same s n rows new e dead k = subst (CodedSoFar s (n + 1)) (sym e) (k.0, (λ i p l h. at i p h (cases_eq i n) l))
+pub coded_same : (s : CodeTable) (from n : ℕ) (rows new : List CodedRow) → new ≡ rows → live_at s n ≡ false → CodedSoFar s from n rows → CodedSoFar s from (n + 1) new
+coded_same s from n rows new e dead k = subst (CodedSoFar s from (n + 1)) (sym e) (k.0, (λ i p f l h. at i p f h (cases_eq i n) l))
   where
-    at : (i : ℕ) → 0 < i → live_at s i ≡ true → (i ≡ n) ⊎ (i ≡ n → ⊥) → i < n + 1 → (r : CodedRow) × Listed r rows × (r.number ≡ i)
-    at i p h (inl q) l = absurd (true≢false (sym h ∙ ap (live_at s) q ∙ dead))
-    at i p h (inr ne) l = let less : i < n = omega arith in k.1 i p less h
+    at : (i : ℕ) → 0 < i → from ≤ i → live_at s i ≡ true → (i ≡ n) ⊎ (i ≡ n → ⊥) → i < n + 1 → (r : CodedRow) × Listed r rows × (r.number ≡ i)
+    at i p f h (inl q) l = absurd (true≢false (sym h ∙ ap (live_at s) q ∙ dead))
+    at i p f h (inr ne) l = let less : i < n = omega arith in k.1 i p f less h
 
 module _ (s : CodeTable) where
   agree_set-coded : (a b : CodedRow) → IsCodedRow s a → IsCodedRow s b → agree_set a.codes.items b.codes.items ≡ code_agree s a.number b.number
@@ -167,48 +133,63 @@ module _ (s : CodeTable) where
       ∙ ap set_of (filter_same (λ k. eqb (slice_index a.codes.items k) (slice_index b.codes.items k)) (λ k. eqb (code_at s a.number k) (code_at s b.number k)) (upto (length s.codes))
       (λ k h. let l = Listed-upto_within (length s.codes) k h in ap₂ eqb (p.each k l) (q.each k l)))
 
-  module _ (rows : List CodedRow) (are : AreCodedRows s rows) where
+  pub few_codes : IsCodeTable s → (row : CodedRow) → IsCodedRow s row → length row.codes.items ≤ MOST_COLUMNS
+  few_codes t row is = let c = is.count in let n = t.narrow in omega arith
+
+  pub compared_nothing : (from : ℕ) (found : List Evidence) → found ≡ [] → AreComparedBelow s from 1 found
+  compared_nothing from found e = record {
+    each = All-from (IsCodePair s) found (λ f h. absurd (subst (Listed f) e h));
+    told = λ i j p l m o n h g. absurd (omega arith);
+  }
+
+  -- a row that is not live needs no comparing
+  pub compared_dead : (from n : ℕ) (found : List Evidence) → live_at s n ≡ false → AreComparedBelow s from n found → AreComparedBelow s from (n + 1) found
+  compared_dead from n found dead a = record { each = a.each; told = λ i j p l m o k h g. at i j p m o k h g (cases_eq i n) l }
+    where
+      at : (i j : ℕ) → 0 < i → i < j → from ≤ j → j < s.to → live_at s i ≡ true → live_at s j ≡ true → (i ≡ n) ⊎ (i ≡ n → ⊥) → i < n + 1 → Listed (code_agree s i j) (found_sets found)
+      at i j p m o k h g (inl q) l = absurd (true≢false (sym h ∙ ap (live_at s) q ∙ dead))
+      at i j p m o k h g (inr ne) l = let less : i < n = omega arith in a.told i j p less m o k h g
+
+  module _ (from : ℕ) (rows : List CodedRow) (are : AreCodedRows s from rows) where
     coded : (row : CodedRow) → Listed row rows → IsCodedRow s row
     coded row h = All-listed (IsCodedRow s) row rows are.coded h
 
-    same_lengths : (second : CodedRow) → Listed second rows → All (λ first. length first.codes.items ≡ length second.codes.items) rows
-    same_lengths second h = All-from (λ (first : CodedRow). length first.codes.items ≡ length second.codes.items) rows (λ first g. (coded first g).count ∙ sym (coded second h).count)
+    pub same_codes : (first : CodedRow) → IsCodedRow s first → All (λ second. length first.codes.items ≡ length second.codes.items) rows
+    same_codes first is = All-from (λ (second : CodedRow). length first.codes.items ≡ length second.codes.items) rows (λ second g. is.count ∙ sym (coded second g).count)
 
-    at_place : (k : ℕ) (row : CodedRow) → k < length rows → row ≡ get_or rows k row → IsCodedRow s row
-    at_place k row l is = coded row (subst (λ (r : CodedRow). Listed r rows) (sym is) (Listed-get_or rows k row l))
-
-    pub few_codes : IsCodeTable s → (k : ℕ) (row : CodedRow) → k < length rows → row ≡ get_or rows k row → length row.codes.items ≤ MOST_COLUMNS
-    few_codes t k row l is = let c = (at_place k row l is).count in let n = t.narrow in omega arith
-
-    pub same_codes : (k : ℕ) (row : CodedRow) → k < length rows → row ≡ get_or rows k row → All (λ first. length first.codes.items ≡ length row.codes.items) rows
-    same_codes k row l is = same_lengths row (subst (λ (r : CodedRow). Listed r rows) (sym is) (Listed-get_or rows k row l))
-
-    pub all_pairs-from : (from : ℕ) (found : List Evidence) → HaveCompared from rows rows found → AreAllPairs s from found
-    all_pairs-from from found a = record {
-      each = All-from (IsCodePair s) found (λ e h. at e (a.each e h));
-      told = λ i j p l late n h g.
-          let m : i < s.to = omega arith in
-          let v = are.every i p m h in
-          let q : 0 < j = omega arith in
-          let w = are.every j q n g in
-          let m : v.0.number < w.0.number = let e = v.2 in let f = w.2 in omega arith in
-          let o : from ≤ w.0.number = let f = w.2 in omega arith in
-          subst (λ (z : ℕ). Listed z (found_sets found)) (agree_set-coded v.0 w.0 (coded v.0 v.1) (coded w.0 w.1) ∙ ap₂ (code_agree s) v.2 w.2) (a.told v.0 w.0 v.1 w.1 o m);
+    pub compared_below : (n : ℕ) (first : CodedRow) (found new : List Evidence) → IsCodedRow s first → first.number ≡ n → AreComparedBelow s from n found → HasCompared first rows found new → AreComparedBelow s from (n + 1) new
+    compared_below n first found new is e a b = record {
+      each = All-from (IsCodePair s) new (λ f h. later f (b.each f h));
+      told = λ i j p l m o k h g. at i j p m o k h g (cases_eq i n) l;
     }
       where
-        at : (e : Evidence) → (first second : CodedRow) × Listed first rows × Listed second rows × IsPair first second e → IsCodePair s e
-        at e w =
-            let a = coded w.0 w.2 in
-            let b = coded w.1 w.3 in
-            let p = w.4 in
+        later : (f : Evidence) → Listed f found ⊎ ((second : CodedRow) × Listed second rows × IsPair first second f) → IsCodePair s f
+        later f (inl h) = All-listed (IsCodePair s) f found a.each h
+        later f (inr w) =
+            let b = coded w.0 w.1 in
+            let p = w.2 in
             let i = p.i in
             let j = p.j in
             let l = p.rising in
-            let m = a.positive in
+            let m = is.positive in
             record {
               positive = omega arith;
               rising = omega arith;
-              first = ap (live_at s) p.i ∙ a.live;
+              first = ap (live_at s) p.i ∙ is.live;
               second = ap (live_at s) p.j ∙ b.live;
-              agrees = p.agrees ∙ agree_set-coded w.0 w.1 a b ∙ ap₂ (code_agree s) (sym p.i) (sym p.j);
+              agrees = p.agrees ∙ agree_set-coded first w.0 is b ∙ ap₂ (code_agree s) (sym p.i) (sym p.j);
             }
+
+        at : (i j : ℕ) → 0 < i → i < j → from ≤ j → j < s.to → live_at s i ≡ true → live_at s j ≡ true → (i ≡ n) ⊎ (i ≡ n → ⊥) → i < n + 1 → Listed (code_agree s i j) (found_sets new)
+        at i j p m o k h g (inl q) l =
+            let positive : 0 < j = omega arith in
+            let w = are.every j positive o k g in
+            let rising : first.number < w.0.number = let u = w.2 in omega arith in
+            subst (λ (z : ℕ). Listed z (found_sets new)) (agree_set-coded first w.0 is (coded w.0 w.1) ∙ ap₂ (code_agree s) (e ∙ sym q) w.2) (b.told w.0 w.1 rising)
+        at i j p m o k h g (inr ne) l = let less : i < n = omega arith in listed_kept found new _ b.kept (a.told i j p less m o k h g)
+
+  pub all_pairs-from : (from n : ℕ) (found : List Evidence) → s.to ≤ n → AreComparedBelow s from n found → AreAllPairs s from found
+  all_pairs-from from n found l a = record {
+    each = a.each;
+    told = λ i j p m o k h g. let less : i < n = omega arith in a.told i j p less m o k h g;
+  }

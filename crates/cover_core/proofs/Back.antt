@@ -12,9 +12,9 @@ use Rattle.candidate_cover.specs.declared.cand.Cand.{Cand}
 use Rattle.candidate_cover.specs.Lists.{CandLists}
 use Rattle.candidate_cover.specs.Cands.{width, cands_of, IsInOrder}
 use Rattle.cover_steps.proofs.Lists.{find-None}
-use Rattle.cover_core.specs.declared.concerned.Concerned.{Concerned}
+use Rattle.negative_cover.specs.declared.concerned.Concerned.{Concerned}
 use Rattle.cover_core.specs.declared.cursor.Cursor.{Cursor}
-use Rattle.cover_core.specs.Concerning.{concerns}
+use Rattle.negative_cover.specs.Concerning.{concerns}
 use Rattle.cover_core.specs.Past.{rank, IsPast, IsPastBut}
 use Rattle.cover_core.proofs.Cursors.{before_first}
 

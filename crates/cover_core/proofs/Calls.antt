@@ -33,7 +33,7 @@ use Rattle.cover_steps.proofs.Keeping.{Sound-opened, Sound-holding, Sound-marked
 use Rattle.cover_steps.proofs.Fitting.{Fits-follows}
 use Rattle.cover_steps.proofs.Found.{drawable-entry}
 use Rattle.cover_steps.proofs.Exact.{listed_covers-exact}
-use Rattle.cover_core.specs.EndedRows.{ended}
+use Rattle.negative_cover.specs.EndedRows.{ended}
 use Rattle.cover_core.specs.Kept.{IsBook}
 use Rattle.candidate_cover.specs.Drafts.{AreLeast}
 use Rattle.cover_core.specs.Replies.{reply_of_mark, reply_of_release}

@@ -28,8 +28,8 @@ use Rattle.cover_core.specs.declared.cursor.Cursor.{Cursor}
 use Rattle.cover_core.specs.declared.cursor.Cursors.{Cursors}
 use Rattle.cover_core.specs.Kept.{IsBook}
 use Rattle.cover_core.specs.declared.cursor.Unfinished.{Unfinished}
-use Rattle.cover_core.specs.declared.concerned.Concerned.{Concerned}
-use Rattle.cover_core.specs.Concerning.{concerns}
+use Rattle.negative_cover.specs.declared.concerned.Concerned.{Concerned}
+use Rattle.negative_cover.specs.Concerning.{concerns}
 use Rattle.cover_core.specs.Past.{rank, IsPast, IsPastBut, ArePast, ArePastBut, IsFirst, stands_before, lesser, is_late, place}
 use Rattle.cover_core.specs.Tests.{on_cand}
 use Rattle.cover_core.proofs.Calls.{with_lists, with_list-itself, unlisted-marked, unlisted-holding, first_unfinished-is}

@@ -1,10 +1,10 @@
 -- Which rows are live after a batch, and what the witnesses that are left leave.
-use Rattle.std.proofs.Common.{inl, inr, ◌≡◌, ◌⊎◌, ℕ, ◌+◌, ◌<◌, eqb, Bool, true, false, cond, not, ◌&&◌, ◌||◌, refl, sym, ap, ap₂, ◌∙◌, subst, arith, List, [], ◌∷◌, ◌++◌, length, get_or, take, Some, None, Result, Ok, Err}
+use Rattle.std.proofs.Common.{inl, inr, ◌≡◌, ◌⊎◌, ℕ, ◌+◌, ◌<◌, eqb, Bool, true, false, cond, not, ◌&&◌, ◌||◌, refl, sym, ap, ap₂, ◌∙◌, subst, arith, List, [], ◌∷◌, ◌++◌, Result, Ok, Err}
 use Rattle.std.specs.List.{All, filter, list_any}
 use Rattle.std.specs.Prelude.{IsPermutation}
 use Rattle.std.proofs.lemmas.List.Sorted.{list_any-IsPermutation}
 use Rattle.std.proofs.lemmas.Bool.{true≢false, eq-eqb, ne_eqb, and_parts, cases_eq, false_from_ne_true}
-use Rattle.std.proofs.lemmas.List.{append-nil, length-append, take_more}
+use Rattle.std.proofs.lemmas.List.{length-append}
 use Rattle.col_set.specs.declared.target.Target.{Target}
 use Rattle.col_set.specs.ColSet.{subset}
 use Rattle.col_set.specs.Target.{has_target}
@@ -26,7 +26,7 @@ use Rattle.cover_steps.specs.Core.{standing}
 use Rattle.negative_cover.specs.Witnesses.{sets_of, has_dead, live_of}
 use Rattle.cover_steps.specs.Sound.{IsWitness}
 use Rattle.cover_steps.proofs.Exact.{least-same}
-use Rattle.cover_core.specs.EndedRows.{ended, ended_row}
+use Rattle.negative_cover.specs.EndedRows.{ended}
 
 -- whether a row is one of these
 abbrev pub is_among : List ℕ → ℕ → Bool
@@ -198,31 +198,6 @@ least-idle n rest gone t f = sym (least-same n rest (rest ++ gone) t
     by : (x : ℕ) → Listed x (least n rest t) → (w : ℕ) → (subset x w && not (has_target w t)) ≡ true → Listed w rest ⊎ Listed w gone → ⊥
     by x h w e (inl g) = true≢false (sym (list_any_at (λ w. subset x w && not (has_target w t)) w rest g e) ∙ (IsLeast-listed n rest t x h).stands)
     by x h w e (inr g) = true≢false (sym (and_parts (subset x w) (not (has_target w t)) e).1 ∙ ap not (f w g))
-
--- ---- one more operation
-ended-append : (xs ys : List Op) → ended (xs ++ ys) ≡ ended xs ++ ended ys
-ended-append [] ys = refl
-ended-append (Insert new ∷ xs) ys = ended-append xs ys
-ended-append (Delete n ∷ xs) ys = ap (λ (ns : List ℕ). n ∷ ns) (ended-append xs ys)
-ended-append (Update n new ∷ xs) ys = ap (λ (ns : List ℕ). n ∷ ns) (ended-append xs ys)
-
-pub ended-more_row : (ops : List Op) (k : ℕ) (op : Op) (n : ℕ) (rows : List ℕ) → k < length ops → op ≡ get_or ops k op → ended_row op ≡ Some n → rows ≡ ended (take k ops) → rows ++ n ∷ [] ≡ ended (take (k + 1) ops)
-ended-more_row ops k op n rows l is e was = ap (λ (ns : List ℕ). ns ++ n ∷ []) was ∙ ap (λ (ns : List ℕ). ended (take k ops) ++ ns) (one op e) ∙ sym (ended-append (take k ops) (op ∷ []))
-    ∙ ap ended (ap (λ (o : Op). take k ops ++ o ∷ []) is ∙ sym (take_more ops k op l))
-  where
-    one : (op : Op) → ended_row op ≡ Some n → n ∷ [] ≡ ended (op ∷ [])
-    one (Insert new) e = absurd (cc)
-    one (Delete m) e = let same : n ≡ m = cc in ap (λ (k : ℕ). k ∷ []) same
-    one (Update m new) e = let same : n ≡ m = cc in ap (λ (k : ℕ). k ∷ []) same
-
-pub ended-more_none : (ops : List Op) (k : ℕ) (op : Op) (rows : List ℕ) → k < length ops → op ≡ get_or ops k op → ended_row op ≡ None → rows ≡ ended (take k ops) → rows ≡ ended (take (k + 1) ops)
-ended-more_none ops k op rows l is e was = was ∙ sym (append-nil (ended (take k ops))) ∙ ap (λ (ns : List ℕ). ended (take k ops) ++ ns) (one op e) ∙ sym (ended-append (take k ops) (op ∷ []))
-    ∙ ap ended (ap (λ (o : Op). take k ops ++ o ∷ []) is ∙ sym (take_more ops k op l))
-  where
-    one : (op : Op) → ended_row op ≡ None → (let ns : List ℕ = [] in ns ≡ ended (op ∷ []))
-    one (Insert new) e = refl
-    one (Delete m) e = absurd (cc)
-    one (Update m new) e = absurd (cc)
 
 -- ---- rows that end in another order
 has_dead-permuted : (xs ys : List ℕ) (w : Witness) → IsPermutation xs ys → has_dead ys w ≡ has_dead xs w

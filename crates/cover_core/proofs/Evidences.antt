@@ -24,7 +24,7 @@ use Rattle.candidate_cover.specs.Drafts.{Drafted, is_news}
 use Rattle.cover_steps.specs.Sound.{IsWitness}
 use Rattle.cover_steps.proofs.Keeping.{live-Contains}
 use Rattle.cover_steps.proofs.Lists.{AllPairs-Pairwise, Pairwise-AllPairs, Pairwise-append_one}
-use Rattle.cover_core.specs.declared.evidence.Evidence.{Evidence}
+use Rattle.negative_cover.specs.declared.negative_cover.Witness.{Witness as Evidence}
 use Rattle.cover_core.specs.Evidences.{IsNews}
 
 pub evidence-witness : (r : RowState) (i j z : ℕ) → is_live r i ≡ true → is_live r j ≡ true → i ≢ j → z ≡ agree_of r i j → IsWitness r (record { i = i; j = j; agree = z })

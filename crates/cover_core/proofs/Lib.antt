@@ -19,3 +19,4 @@ pub mod Back
 pub mod AllPairs
 pub mod Complete
 pub mod Forgetting
+pub mod Drafting

@@ -21,7 +21,7 @@ use Rattle.candidate_cover.specs.Cands.{cands_of, with_list, is_listed, marked, 
 use Rattle.cover_steps.specs.Core.{Core, cands, entries_in, is_unfinished, is_drawable, first_unfinished, first_drawable, refutes_some, renewed, booked, with_rows}
 use Rattle.cover_steps.specs.Steps as steps
 use Rattle.cover_steps.specs.Sound.{Fits}
-use Rattle.cover_core.specs.EndedRows.{ended}
+use Rattle.negative_cover.specs.EndedRows.{ended}
 use Rattle.cover_core.specs.Kept.{IsBook}
 use Rattle.cover_core.specs.Replies.{reply_of_mark, reply_of_release}
 use Rattle.cover_core.specs.declared.answers.Release.{Release}

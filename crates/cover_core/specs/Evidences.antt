@@ -8,11 +8,11 @@ use Rattle.negative_cover.specs.Witnesses.{sets_of}
 use Rattle.candidate_cover.specs.Drafts.{Drafted, is_news}
 use Rattle.cover_steps.specs.Core.{Core}
 use Rattle.cover_steps.specs.Sound.{IsWitness}
-use Rattle.cover_core.specs.declared.evidence.Evidence.{Evidence}
+use Rattle.negative_cover.specs.declared.negative_cover.Witness.{Witness as Evidence}
 
 -- two different live rows, and what they agree on
 abbrev pub IsEvidence : RowState → Evidence → Type 0
-IsEvidence r e = IsWitness r (record { i = e.i; j = e.j; agree = e.agree })
+IsEvidence r e = IsWitness r e
 
 -- More witnesses, none with the agree set of another, and a draft of n columns that has their agree sets behind the others.
 pub record IsNews (r : RowState) (n : ℕ) (ws more : List Witness) (draft : Drafted) : Type 0 where

@@ -1,6 +1,4 @@
 pub mod AllPairs
-pub mod Concerning
-pub mod EndedRows
 pub mod Evidences
 pub mod Kept
 pub mod Tests

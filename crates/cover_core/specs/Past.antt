@@ -14,11 +14,11 @@ use Rattle.candidate_cover.specs.Lists.{CandLists}
 use Rattle.candidate_cover.specs.Cands.{width, cands_of}
 use Rattle.rel_base.specs.RowState.{next}
 use Rattle.cover_steps.specs.Core.{Core, is_unfinished, is_drawable, first_unfinished}
-use Rattle.cover_core.specs.declared.concerned.Concerned.{Concerned}
+use Rattle.negative_cover.specs.declared.concerned.Concerned.{Concerned}
 use Rattle.cover_core.specs.declared.cursor.Cursor.{Cursor}
 use Rattle.cover_core.specs.declared.cursor.Cursors.{Cursors}
 use Rattle.cover_core.specs.declared.cursor.Unfinished.{Unfinished}
-use Rattle.cover_core.specs.Concerning.{concerns}
+use Rattle.negative_cover.specs.Concerning.{concerns}
 
 -- how many targets come before this one
 abbrev pub rank : Target → ℕ

@@ -21,32 +21,43 @@ pub(crate) struct CodedRow {
 // The agree sets that were found so far. The hash is SipHash with a fixed key.
 type AgreeSets = HashSet<ColSet, BuildHasherDefault<DefaultHasher>>;
 
-// A live row with its codes.
-fn coded_row(alloc: Global, snapshot: &Snapshot, number: RowNo) -> Result<CodedRow, AllocError>
-    requires first { 0 < number }
-    requires given { number < snapshot.now.to }
-    requires live { live_at snapshot.now number ≡ true }
-    ensures row { IfOk result (IsCodedRow snapshot.now) }
-    ensures number { IfOk result (λ row. row.number ≡ number) }
-{
-    let columns = snapshot.columns();
-    let mut codes = Vec::with_capacity(alloc, columns as usize)?;
-    for column in 0..columns {
-        codes.push(snapshot.code(number, column))?;
+impl CodedRow {
+    // Room for the codes of a row, with none in it.
+    fn blank(alloc: Global, columns: u8) -> Result<CodedRow, AllocError> {
+        Ok(CodedRow {
+            codes: Vec::with_capacity(alloc, columns as usize)?,
+            number: RowNo::of(1),
+        })
     }
-    Ok(CodedRow { codes, number })
+
+    // Goes over to another live row.
+    fn go_to(&mut self, snapshot: &Snapshot, number: RowNo) -> Result<(), AllocError>
+        requires first { 0 < number }
+        requires given { number < snapshot.now.to }
+        requires live { live_at snapshot.now number ≡ true }
+        ensures row { OnOk result (IsCodedRow snapshot.now self.new) }
+        ensures number { OnOk result (self.new.number ≡ number) }
+    {
+        self.number = number;
+        self.codes.clear();
+        for column in 0..snapshot.columns() {
+            self.codes.push(snapshot.code(number, column))?;
+        }
+        Ok(())
+    }
 }
 
-// The live rows with their codes.
-fn coded_rows(alloc: Global, snapshot: &Snapshot) -> Result<Vec<CodedRow>, AllocError>
-    ensures rows { IfOk result (λ rows. AreCodedRows snapshot.now rows.items) }
-    ensures table { IfOk result (λ rows. IsCodeTable snapshot.now) }
+// The live rows from a number on with their codes.
+fn coded_rows(alloc: Global, snapshot: &Snapshot, from: RowNo) -> Result<Vec<CodedRow>, AllocError>
+    ensures { IfOk result (λ rows. AreCodedRows snapshot.now from rows.items) }
 {
-    let mut rows = Vec::with_capacity(alloc, snapshot.live_count() as usize)?;
-    for number in 1..snapshot.to().number() {
+    let mut rows = Vec::new(alloc);
+    for number in from.number().max(1)..snapshot.to().number() {
         let row = RowNo::of(number);
         if snapshot.is_live(row) {
-            rows.push(coded_row(alloc, snapshot, row)?)?;
+            let mut coded = CodedRow::blank(alloc, snapshot.columns())?;
+            coded.go_to(snapshot, row)?;
+            rows.push(coded)?;
         }
     }
     Ok(rows)
@@ -60,10 +71,10 @@ fn compare(
     found: &mut Vec<Evidence>,
 ) -> Result<(), AllocError>
     requires same { length first.now.codes.items ≡ length second.now.codes.items }
-    requires few { length second.now.codes.items ≤ MOST_COLUMNS }
+    requires few { length first.now.codes.items ≤ MOST_COLUMNS }
     requires seen { AreSeen seen.old.keys found.old.items }
     ensures seen { OnOk result (AreSeen seen.new.keys found.new.items) }
-    ensures compared { OnOk result (HasCompared (first.now ∷ []) second.now found.old.items found.new.items) }
+    ensures compared { OnOk result (HasCompared first.now (second.now ∷ []) found.old.items found.new.items) }
 {
     if second.number <= first.number {
         return Ok(());
@@ -81,27 +92,27 @@ fn compare(
     Ok(())
 }
 
-// Adds what a row and each one before it agree on, where no pair before agreed on just that.
+// Adds what a row and each of these after it agree on, where no pair before agreed on just that.
 fn push_pairs_with(
+    first: &CodedRow,
     rows: &[CodedRow],
-    second: &CodedRow,
     seen: &mut AgreeSets,
     found: &mut Vec<Evidence>,
 ) -> Result<(), AllocError>
-    requires same { All (λ first. length first.codes.items ≡ length second.now.codes.items) rows.now }
-    requires few { length second.now.codes.items ≤ MOST_COLUMNS }
+    requires same { All (λ second. length first.now.codes.items ≡ length second.codes.items) rows.now }
+    requires few { length first.now.codes.items ≤ MOST_COLUMNS }
     requires seen { AreSeen seen.old.keys found.old.items }
     ensures seen { OnOk result (AreSeen seen.new.keys found.new.items) }
-    ensures compared { OnOk result (HasCompared rows.now second.now found.old.items found.new.items) }
+    ensures compared { OnOk result (HasCompared first.now rows.now found.old.items found.new.items) }
 {
-    for first in rows {
+    for second in rows {
         compare(first, second, seen, found)?;
     }
     Ok(())
 }
 
 // What each live row from a number on and each live row before it agree on, once for each agree set. Each pair takes a step for sixteen
-// columns.
+// columns. The codes of the rows from the number on are copied, and of those before one row at a time.
 pub(crate) fn all_pairs(
     alloc: Global,
     snapshot: &Snapshot,
@@ -109,12 +120,15 @@ pub(crate) fn all_pairs(
 ) -> Result<Vec<Evidence>, AllocError>
     ensures { IfOk result (λ found. AreAllPairs snapshot.now from found.items) }
 {
-    let rows = coded_rows(alloc, snapshot)?;
+    let late = coded_rows(alloc, snapshot, from)?;
+    let mut first = CodedRow::blank(alloc, snapshot.columns())?;
     let mut seen = AgreeSets::with_hasher(alloc, BuildHasherDefault::new());
     let mut found = Vec::new(alloc);
-    for second in rows.as_slice() {
-        if from <= second.number {
-            push_pairs_with(rows.as_slice(), second, &mut seen, &mut found)?;
+    for number in 1..snapshot.to().number() {
+        let row = RowNo::of(number);
+        if snapshot.is_live(row) {
+            first.go_to(snapshot, row)?;
+            push_pairs_with(&first, late.as_slice(), &mut seen, &mut found)?;
         }
     }
     Ok(found)

@@ -24,26 +24,22 @@ ghost use Rattle.cover_core.specs.Replies.{reply_of_draw, reply_of_refutation, r
 
 use crate::all_pairs::all_pairs;
 use crate::answers::{Draw, Refutation, Release, Settling};
-use crate::concerned::Concerned;
 use crate::cursor::{Cursors, Unfinished, is_late};
 use crate::evidence::{Evidence, news_of};
 use crate::judging::{Alone, Beside, Judges, judged_by_parts};
 use crate::known::Known;
 use crate::listed::listed;
-use crate::order::Order;
 use crate::outdated::Outdated;
-use crate::parts::{drafted, put_all, specialised};
+use crate::parts::{put_all, specialised};
 use crate::renewal::renewed_after;
 use crate::sampling::sampled;
 use crate::searcher::Searcher;
 use crate::searching::{first_drawable, first_unfinished, move_both_back};
-use crate::stores::Stores;
-use crate::verdict::store_of;
 use crate::waiting::{Sizes, Waiting, count, known_below, of_sizes, worth_comparing};
 use candidate_cover::{CandidateCover, Marking};
-use negative_cover::{NegativeCover, Witness};
+use negative_cover::{Concerned, NegativeCover, Witness};
 use ports::{Gate, OpenGate};
-use rel_base::{Batch, Covers, Job, Limits, Nulls, Relation, RowNo, Snapshot};
+use rel_base::{Batch, Covers, Job, Limits, Nulls, Relation, RowNo, Snapshot, Target};
 use row_log::{Applying, RowLog};
 use std::alloc::{AllocError, Global};
 use std::marker::{Brand, Model};
@@ -51,7 +47,7 @@ use std::mem;
 use std::sync::Arc;
 use std::sync::ledger::Blank;
 use std::thread::Threads;
-use validator::Store;
+use validator::{Order, Store, Stores, violations};
 
 // Of so many live rows all pairs are compared.
 const FEW_ROWS: u32 = 1500;
@@ -81,16 +77,16 @@ pub struct Book {
 }
 
 impl Model for Book {
-    ghost use Rattle.std.specs.Prelude.{◌≡◌};
     ghost use Rattle.cover_steps.specs.Core.{Core};
     ghost use Rattle.cover_core.specs.Kept.{IsBook};
     ghost use Rattle.cover_core.specs.Past.{ArePast, IsFirst};
+    ghost use Rattle.validator.specs.Stores.{AreOf};
 
     ghost Value = { Core };
 
     ghost view = { λ b. record { rows = b.rows; witnesses = b.witnesses; candidates = b.candidates } };
 
-    ghost invariant = { λ b. IsBook (record { rows = b.rows; witnesses = b.witnesses; candidates = b.candidates }) b.snapshot.value × (b.searcher.value.stores ≡ b.snapshot.value) × ArePast (record { rows = b.rows; witnesses = b.witnesses; candidates = b.candidates }) b.cursors × IsFirst (record { rows = b.rows; witnesses = b.witnesses; candidates = b.candidates }) b.first };
+    ghost invariant = { λ b. IsBook (record { rows = b.rows; witnesses = b.witnesses; candidates = b.candidates }) b.snapshot.value × AreOf b.snapshot.value b.searcher.value.stores × ArePast (record { rows = b.rows; witnesses = b.witnesses; candidates = b.candidates }) b.cursors × IsFirst (record { rows = b.rows; witnesses = b.witnesses; candidates = b.candidates }) b.first };
 }
 
 impl Book {
@@ -140,9 +136,8 @@ impl Book {
         // `names` is called for its clause that the rows are a row state.
         let _names = rows.names();
         let candidates = CandidateCover::new(alloc, snapshot.columns())?;
-        let mut store = store_of(alloc, &snapshot)?;
-        let order = Order::of(&store.weights(alloc)?);
-        let stores = Stores::of(alloc, store);
+        let mut stores = Stores::of(alloc, &snapshot)?;
+        let order = Order::of(&stores.own.weights(alloc)?);
         let searcher = Box::new(alloc, Searcher { stores, order })?;
         let mut cursors = Cursors::start();
         let first = first_unfinished(&candidates, &mut cursors.unfinished, rows.next());
@@ -154,7 +149,7 @@ impl Book {
             cursors,
             first,
             searcher,
-            outdated: Outdated::nothing(alloc),
+            outdated: Outdated::of(Vec::new(alloc), None),
             alloc,
         })
     }
@@ -219,7 +214,7 @@ impl Book {
         }
         let parts = specialised(self.alloc, &self.candidates, agree, &concerned)?;
         self.witnesses.add(Witness { i, j, agree })?;
-        self.outdated = Outdated::of_lists(put_all(&mut self.candidates, parts));
+        self.outdated = Outdated::of(put_all(&mut self.candidates, parts), None);
         let next = self.rows.next();
         move_both_back(&self.candidates, &concerned, &mut self.cursors, next);
         self.first = first_unfinished(&self.candidates, &mut self.cursors.unfinished, next);
@@ -294,7 +289,7 @@ impl Book {
                 let lists = put_all(&mut self.candidates, made.parts);
                 let snapshot = mem::replace(&mut self.snapshot, made.snapshot);
                 let groups = self.searcher.stores.renew(self.alloc, made.shared);
-                self.outdated = Outdated::of_batch(lists, groups, snapshot);
+                self.outdated = Outdated::of(lists, Some((groups, snapshot)));
                 self.cursors = Cursors::start();
                 let next = self.rows.next();
                 self.first = first_unfinished(&self.candidates, &mut self.cursors.unfinished, next);
@@ -343,7 +338,7 @@ impl Book {
     pub fn take_outdated(&mut self) -> Outdated
         ensures { self.new ≡ self.old }
     {
-        mem::replace(&mut self.outdated, Outdated::nothing(self.alloc))
+        mem::replace(&mut self.outdated, Outdated::of(Vec::new(self.alloc), None))
     }
 
     /// Finds the covers of the rows (HyFD, Papenbrock and Naumann, 2016).
@@ -417,7 +412,7 @@ impl Book {
         ensures sound { Sound self.new }
     {
         self.free();
-        self.searcher.stores.keep_own();
+        self.searcher.stores.others.clear();
         if workers < 2 {
             self.search(&Alone { gate })?;
         } else {
@@ -482,7 +477,7 @@ impl Book {
         ensures witnesses { self.new.witnesses ≡ self.old.witnesses }
         ensures sound { Sound self.new }
     {
-        self.outdated = Outdated::nothing(self.alloc);
+        self.outdated = Outdated::of(Vec::new(self.alloc), None);
         self.candidates.free();
         self.cursors = Cursors::start();
         let next = self.rows.next();
@@ -499,11 +494,11 @@ impl Book {
     {
         if self.witnesses.is_empty() {
             if self.rows.live_len() <= FEW_ROWS {
-                return self.compare_all();
+                return self.compare_all(judges);
             }
-            self.sample()?;
+            self.sample(judges)?;
         } else {
-            self.compare_new()?;
+            self.compare_new(judges)?;
         }
         let mut calm = false;
         for size in 0..=self.candidates.columns() {
@@ -519,31 +514,32 @@ impl Book {
     }
 
     // Books what all pairs of live rows agree on. That is all the evidence that there is: what it leaves holds.
-    fn compare_all(&mut self) -> Result<(), AllocError>
+    fn compare_all<J: Judges>(&mut self, judges: &J) -> Result<(), AllocError>
+        requires { J.ready }
         ensures rows { self.new.rows ≡ self.old.rows }
         ensures witnesses { Extends self.old.witnesses self.new.witnesses }
         ensures sound { Sound self.new }
     {
         let found = all_pairs(self.alloc, &self.snapshot, RowNo::of(1))?;
-        self.book_all(found)?;
+        self.book_all(judges, found)?;
         self.mark_all();
         Ok(())
     }
 
     // Books what the rows that came since most candidates were validated and all rows agree on, if that is worth while. It is all the
     // evidence against these candidates that there is: those that it leaves hold.
-    fn compare_new(&mut self) -> Result<(), AllocError>
+    fn compare_new<J: Judges>(&mut self, judges: &J) -> Result<(), AllocError>
+        requires { J.ready }
         ensures rows { self.new.rows ≡ self.old.rows }
         ensures witnesses { Extends self.old.witnesses self.new.witnesses }
         ensures sound { Sound self.new }
     {
         let (alloc, next) = (self.alloc, self.rows.next());
-        let order = &self.searcher.order;
-        let Some(from) = worth_comparing(alloc, &self.candidates, order, next)? else {
+        let Some(from) = worth_comparing(alloc, &self.candidates, next)? else {
             return Ok(());
         };
         let found = all_pairs(alloc, &self.snapshot, from)?;
-        self.book_all(found)?;
+        self.book_all(judges, found)?;
         self.mark_known(from)
     }
 
@@ -555,9 +551,24 @@ impl Book {
         ensures witnesses { self.new.witnesses ≡ self.old.witnesses }
         ensures sound { Sound self.new }
     {
+        self.mark_known_of(Target::RowId, from)?;
+        for column in 0..self.candidates.columns() {
+            self.mark_known_of(Target::Col(column), from)?;
+        }
+        Ok(())
+    }
+
+    // Marks those of a target.
+    fn mark_known_of(&mut self, target: Target, from: RowNo) -> Result<(), AllocError>
+        requires target { IsColumnTarget (width self.old.rows) target }
+        requires told { IsAllTold self.old from }
+        ensures rows { self.new.rows ≡ self.old.rows }
+        ensures witnesses { self.new.witnesses ≡ self.old.witnesses }
+        ensures sound { Sound self.new }
+    {
         let next = self.rows.next();
-        let order = &self.searcher.order;
-        let known = known_below(self.alloc, &self.candidates, order, from, next)?;
+        let (candidates, order) = (&self.candidates, &self.searcher.order);
+        let known = known_below(self.alloc, candidates, target, order, from, next)?;
         let snapshot = self.snapshot.clone()?;
         self.mark_held(&snapshot, known.as_slice())
     }
@@ -576,13 +587,14 @@ impl Book {
     }
 
     // Books what pairs of rows near each other agree on.
-    fn sample(&mut self) -> Result<(), AllocError>
+    fn sample<J: Judges>(&mut self, judges: &J) -> Result<(), AllocError>
+        requires { J.ready }
         ensures rows { self.new.rows ≡ self.old.rows }
         ensures witnesses { Extends self.old.witnesses self.new.witnesses }
         ensures sound { Sound self.new }
     {
         let found = sampled(self.alloc, &self.rows, &self.snapshot)?;
-        self.book_all(found)
+        self.book_all(judges, found)
     }
 
     // Validates the unfinished candidates with so many columns that no evidence just found refutes, books the evidence, and tells
@@ -601,7 +613,7 @@ impl Book {
         let judged = judged_by_parts(judges, alloc, rows, &snapshot, list.as_slice(), stores)?;
         let few = judged.found.len() < list.len();
         self.mark_held(&snapshot, judged.held.as_slice())?;
-        self.book_all(judged.found)?;
+        self.book_all(judges, judged.found)?;
         Ok(few)
     }
 
@@ -628,8 +640,9 @@ impl Book {
     }
 
     // Books the evidence that is news, all of it or none.
-    fn book_all(&mut self, found: Vec<Evidence>) -> Result<(), AllocError>
-        requires { All (IsEvidence self.old.rows) found.items }
+    fn book_all<J: Judges>(&mut self, judges: &J, found: Vec<Evidence>) -> Result<(), AllocError>
+        requires ready { J.ready }
+        requires found { All (IsEvidence self.old.rows) found.items }
         ensures told { OnOk result (All (λ e. is_news (width self.new.rows) (sets_of self.new.witnesses) e.agree ≡ false) found.items) }
         ensures rows { self.new.rows ≡ self.old.rows }
         ensures witnesses { Extends self.old.witnesses self.new.witnesses }
@@ -640,7 +653,8 @@ impl Book {
             return Ok(());
         }
         let news = news_of(alloc, &self.witnesses, &self.candidates, found)?;
-        let parts = drafted(alloc, &self.candidates, &news.draft)?;
+        let count = news.witnesses.len();
+        let parts = judges.drafted(alloc, &self.candidates, &news.draft, count)?;
         self.witnesses.add_all(news.witnesses.as_slice())?;
         drop(put_all(&mut self.candidates, parts));
         self.cursors = Cursors::start();
@@ -664,8 +678,8 @@ impl Book {
         let snapshot = self.snapshot.clone()?;
         let job = Job::of(first.target, first.left, first.upto, next, snapshot);
         let blank = Blank::new(1);
-        let stores = &mut self.searcher.stores;
-        let mut pairs = stores.violations::<Brand>(self.alloc, &job, 1, blank)?;
+        let store = &mut self.searcher.stores.own;
+        let mut pairs = violations::<Brand>(store, self.alloc, &job, 1, blank)?;
         match pairs.pop() {
             Some(pair) => {
                 self.refute(pair.0, pair.1)?;

@@ -5,7 +5,7 @@ ghost use Rattle.col_set.specs.Target.{IsColumnTarget};
 ghost use Rattle.rel_base.specs.RowState.{RowState};
 ghost use Rattle.candidate_cover.specs.Cands.{width};
 ghost use Rattle.candidate_cover.specs.Drafts.{AreLeast, is_news};
-ghost use Rattle.negative_cover.specs.Witnesses as sets;
+ghost use Rattle.negative_cover.specs.Witnesses.{sets_of};
 ghost use Rattle.negative_cover.specs.declared.negative_cover.Witness.{Witness};
 ghost use Rattle.cover_core.specs.Evidences.{IsEvidence, IsNews};
 
@@ -15,25 +15,8 @@ use rel_base::{ColSet, MOST_COLUMNS, RowNo, Target};
 use row_log::RowLog;
 use std::alloc::{AllocError, Global};
 
-// Two rows, and the columns on which they agree. Evidence stands by these columns in report order.
-#[derive(Clone, Copy, PartialEq, Eq, PartialOrd, Ord)]
-pub(crate) struct Evidence {
-    pub(crate) agree: ColSet,
-    pub(crate) i: RowNo,
-    pub(crate) j: RowNo,
-}
-
-impl Evidence {
-    fn witness(self) -> Witness
-        ensures { result ≡ record { i = self.i; j = self.j; agree = self.agree } }
-    {
-        Witness {
-            i: self.i,
-            j: self.j,
-            agree: self.agree,
-        }
-    }
-}
+// Evidence is what a witness is once it is booked.
+pub(crate) use negative_cover::Witness as Evidence;
 
 // What two rows agree on, where they are different and live.
 fn evidence_of(rows: &RowLog, i: RowNo, j: RowNo) -> Option<Evidence>
@@ -46,23 +29,7 @@ fn evidence_of(rows: &RowLog, i: RowNo, j: RowNo) -> Option<Evidence>
     Some(Evidence { agree, i, j })
 }
 
-// Adds what two rows agree on, where they are different and live.
-pub(crate) fn push_pair(
-    rows: &RowLog,
-    i: RowNo,
-    j: RowNo,
-    found: &mut Vec<Evidence>,
-) -> Result<(), AllocError>
-    requires { All (IsEvidence rows.now) found.old.items }
-    ensures { OnOk result (All (IsEvidence rows.now) found.new.items) }
-{
-    if let Some(evidence) = evidence_of(rows, i, j) {
-        found.push(evidence)?;
-    }
-    Ok(())
-}
-
-// Adds what each of these pairs of rows agrees on.
+// Adds what each of these pairs of rows agrees on, where they are different and live.
 pub(crate) fn push_evidence(
     rows: &RowLog,
     pairs: &[(RowNo, RowNo)],
@@ -72,7 +39,9 @@ pub(crate) fn push_evidence(
     ensures { OnOk result (All (IsEvidence rows.now) found.new.items) }
 {
     for pair in pairs {
-        push_pair(rows, pair.0, pair.1, found)?;
+        if let Some(evidence) = evidence_of(rows, pair.0, pair.1) {
+            found.push(evidence)?;
+        }
     }
     Ok(())
 }
@@ -92,17 +61,6 @@ const RECENT: usize = 512;
 // The evidence that was found last.
 pub(crate) fn recent(found: &[Evidence]) -> &[Evidence] {
     &found[found.len().saturating_sub(RECENT)..]
-}
-
-// The agree sets of the witnesses.
-fn sets_of(alloc: Global, witnesses: &NegativeCover) -> Result<Vec<ColSet>, AllocError>
-    ensures { IfOk result (λ found. found.items ≡ sets.sets_of witnesses.now) }
-{
-    let mut found = Vec::with_capacity(alloc, witnesses.len())?;
-    for witness in witnesses.witnesses() {
-        found.push(witness.agree)?;
-    }
-    Ok(found)
 }
 
 // The evidence that no witness had told, as witnesses, and what these leave.
@@ -127,7 +85,7 @@ fn noted(
         return Ok(draft);
     }
     let grown = draft.grown(alloc, evidence.agree)?;
-    more.push(evidence.witness())?;
+    more.push(evidence)?;
     Ok(grown)
 }
 
@@ -138,12 +96,12 @@ pub(crate) fn news_of(
     candidates: &CandidateCover,
     mut found: Vec<Evidence>,
 ) -> Result<News, AllocError>
-    requires { AreLeast (width candidates.now) (sets.sets_of witnesses.now) candidates.now }
+    requires { AreLeast (width candidates.now) (sets_of witnesses.now) candidates.now }
     ensures news { IfOk result (λ news. (r : RowState) → All (IsEvidence r) found.items → IsNews r (width candidates.now) witnesses.now news.witnesses.items news.draft) }
     ensures told { IfOk result (λ news. All (λ e. is_news news.draft.width news.draft.agree_sets e.agree ≡ false) found.items) }
 {
     found.sort_unstable();
-    let mut draft = candidates.draft(alloc, sets_of(alloc, witnesses)?)?;
+    let mut draft = candidates.draft(alloc, witnesses.agree_sets(alloc)?)?;
     let mut more = Vec::new(alloc);
     let mut last = None;
     while let Some(evidence) = found.pop() {

@@ -3,27 +3,34 @@ ghost use Rattle.std.specs.Prelude.{◌≡◌, ◌<◌, ◌≤◌, ◌++◌, len
 ghost use Rattle.std.specs.List.{All};
 ghost use Rattle.cover_core.specs.Evidences.{IsEvidence};
 ghost use Rattle.cover_core.specs.Judged.{IsAsked, IsHeld};
+ghost use Rattle.candidate_cover.specs.Cands.{width};
+ghost use Rattle.cover_core.specs.NewLists.{AreParts};
+ghost use Rattle.validator.specs.Stores.{AreOf};
 ghost use denote.Param.Send.{IsSync};
 
 use crate::evidence::{Evidence, is_told, push_evidence, recent};
-use crate::stores::Stores;
-use crate::verdict::violations_on;
+use crate::parts::{Parts, drafted, drafted_by};
 use crate::waiting::Waiting;
+use candidate_cover::{CandidateCover, Draft};
 use ports::{Gate, Point};
 use rel_base::{Job, Snapshot};
 use row_log::RowLog;
 use std::alloc::{AllocError, Global};
 use std::marker::Brand;
+use std::slice;
 use std::sync::Arc;
 use std::sync::ledger::Blank;
 use std::thread::{Threads, join_mut};
-use validator::Store;
+use validator::{Store, Stores, violations};
 
 // How many pairs of rows a pass asks for where a dependency does not hold.
 const MOST_VIOLATIONS: usize = 64;
 
 // So many candidates are validated between two passes of the gate, at most.
 const PART: usize = 1 << 14;
+
+// What a new agree set leaves is made in the time of so many verdicts.
+const VERDICTS_AN_AGREE_SET: usize = 8;
 
 // The number of who seeks, at the gate.
 const SEEKER: u32 = 0;
@@ -50,11 +57,23 @@ pub(crate) trait Judges {
         stores: &mut Stores,
     ) -> Result<Verdicts, AllocError>
         requires ready { ready }
-        requires same { stores.old ≡ snapshot.now.value }
+        requires same { AreOf snapshot.now.value stores.old }
         requires asked { All (IsAsked rows.now snapshot.now.value) list.now }
         ensures held { IfOk result (λ judged. All (IsHeld rows.now snapshot.now.value) judged.held.items) }
         ensures found { IfOk result (λ judged. All (IsEvidence rows.now) judged.found.items) }
-        ensures stores { stores.new ≡ stores.old };
+        ensures same { AreOf snapshot.now.value stores.new };
+
+    // What a draft with so many new agree sets leaves of the candidates.
+    fn drafted(
+        &self,
+        alloc: Global,
+        candidates: &CandidateCover,
+        draft: &Draft,
+        news: usize,
+    ) -> Result<Parts, AllocError>
+        requires ready { ready }
+        requires width { draft.now.width ≡ width candidates.now }
+        ensures { IfOk result (λ parts. AreParts (width candidates.now) draft.now.agree_sets candidates.now parts.rows parts.columns.items) };
 
     // Passes the gate.
     fn sought(&self);
@@ -77,7 +96,17 @@ impl<'a, G: Gate> Judges for Alone<'a, G> {
         list: &[Waiting],
         stores: &mut Stores,
     ) -> Result<Verdicts, AllocError> {
-        stores.judged(alloc, rows, snapshot, list)
+        judged(alloc, rows, snapshot, list, &mut stores.own)
+    }
+
+    fn drafted(
+        &self,
+        alloc: Global,
+        candidates: &CandidateCover,
+        draft: &Draft,
+        _news: usize,
+    ) -> Result<Parts, AllocError> {
+        drafted(alloc, candidates, draft)
     }
 
     fn sought(&self) {
@@ -105,8 +134,33 @@ impl<'a, R: Threads + Sync, G: Gate> Judges for Beside<'a, R, G> {
         list: &[Waiting],
         stores: &mut Stores,
     ) -> Result<Verdicts, AllocError> {
-        let (workers, least) = (self.workers, self.least);
-        stores.judged_by(self.rt, alloc, rows, snapshot, workers, least, list)
+        let least = self.least;
+        if list.len() >= least {
+            stores.spread(alloc, self.workers)?;
+        }
+        if stores.others.is_empty() || list.len() < least {
+            return judged(alloc, rows, snapshot, list, &mut stores.own);
+        }
+        let count = stores.others.len().saturating_add(1);
+        let (low, high) = list.split_at(share(list.len(), count, 1));
+        let own = slice::from_mut(&mut stores.own);
+        let others = stores.others.as_mut_slice();
+        both_halves(
+            self.rt, alloc, rows, snapshot, least, low, own, high, others,
+        )
+    }
+
+    fn drafted(
+        &self,
+        alloc: Global,
+        candidates: &CandidateCover,
+        draft: &Draft,
+        news: usize,
+    ) -> Result<Parts, AllocError> {
+        if news.saturating_mul(VERDICTS_AN_AGREE_SET) < self.least {
+            return drafted(alloc, candidates, draft);
+        }
+        drafted_by(self.rt, alloc, candidates, draft, self.workers)
     }
 
     fn sought(&self) {
@@ -124,11 +178,11 @@ pub(crate) fn judged_by_parts<J: Judges>(
     stores: &mut Stores,
 ) -> Result<Verdicts, AllocError>
     requires ready { J.ready }
-    requires same { stores.old ≡ snapshot.now.value }
+    requires same { AreOf snapshot.now.value stores.old }
     requires asked { All (IsAsked rows.now snapshot.now.value) list.now }
     ensures held { IfOk result (λ judged. All (IsHeld rows.now snapshot.now.value) judged.held.items) }
     ensures found { IfOk result (λ judged. All (IsEvidence rows.now) judged.found.items) }
-    ensures stores { stores.new ≡ stores.old }
+    ensures same { AreOf snapshot.now.value stores.new }
 {
     let mut all = Verdicts {
         held: Vec::new(alloc),
@@ -146,7 +200,7 @@ pub(crate) fn judged_by_parts<J: Judges>(
 }
 
 // Validates candidates one after another on a store of the snapshot, but for those that evidence just found refutes.
-pub(crate) fn judged(
+fn judged(
     alloc: Global,
     rows: &RowLog,
     snapshot: &Arc<Snapshot>,
@@ -197,7 +251,7 @@ fn judge(
         rows.next(),
         snapshot.clone()?,
     );
-    let pairs = violations_on::<Brand>(store, alloc, &job, MOST_VIOLATIONS, Blank::new(1))?;
+    let pairs = violations::<Brand>(store, alloc, &job, MOST_VIOLATIONS, Blank::new(1))?;
     if pairs.is_empty() {
         held.push(waiting)?;
         return Ok(());
@@ -208,7 +262,7 @@ fn judge(
 // What `judged` does, by a thread for each store, where there are so many candidates at least. Each takes candidates that stand side
 // by side, and what they find is put together in the order of the candidates, so that it does not depend on which thread is first.
 #[cycle(halves)]
-pub(crate) fn judged_by<R: Threads + Sync>(
+fn judged_by<R: Threads + Sync>(
     rt: &R,
     alloc: Global,
     rows: &RowLog,
@@ -217,6 +271,7 @@ pub(crate) fn judged_by<R: Threads + Sync>(
     list: &[Waiting],
     stores: &mut [Store],
 ) -> Result<Verdicts, AllocError>
+    requires some { 0 < length stores.old }
     requires same { All (λ store. store ≡ snapshot.now.value) stores.old }
     requires asked { All (IsAsked rows.now snapshot.now.value) list.now }
     ensures held { IfOk result (λ judged. All (IsHeld rows.now snapshot.now.value) judged.held.items) }
@@ -225,7 +280,7 @@ pub(crate) fn judged_by<R: Threads + Sync>(
 {
     let count = stores.len();
     if count < 2 || list.len() < least {
-        return judged_by_first(alloc, rows, snapshot, list, stores);
+        return judged(alloc, rows, snapshot, list, &mut stores[0]);
     }
     let few = count / 2;
     let (low, high) = list.split_at(share(list.len(), count, few));
@@ -234,39 +289,16 @@ pub(crate) fn judged_by<R: Threads + Sync>(
 }
 
 // How many of these candidates some of the workers take.
-pub(crate) fn share(candidates: usize, workers: usize, some: usize) -> usize
+fn share(candidates: usize, workers: usize, some: usize) -> usize
     requires { 0 < workers }
     ensures { result ≤ candidates }
 {
     (candidates / workers).saturating_mul(some).min(candidates)
 }
 
-// What `judged` does on the first store.
-fn judged_by_first(
-    alloc: Global,
-    rows: &RowLog,
-    snapshot: &Arc<Snapshot>,
-    list: &[Waiting],
-    stores: &mut [Store],
-) -> Result<Verdicts, AllocError>
-    requires same { All (λ store. store ≡ snapshot.now.value) stores.old }
-    requires asked { All (IsAsked rows.now snapshot.now.value) list.now }
-    ensures held { IfOk result (λ judged. All (IsHeld rows.now snapshot.now.value) judged.held.items) }
-    ensures found { IfOk result (λ judged. All (IsEvidence rows.now) judged.found.items) }
-    ensures same { All (λ store. store ≡ snapshot.now.value) stores.new }
-{
-    if stores.is_empty() {
-        return Ok(Verdicts {
-            held: Vec::new(alloc),
-            found: Vec::new(alloc),
-        });
-    }
-    judged(alloc, rows, snapshot, list, &mut stores[0])
-}
-
 // A function of its own, so that what the closures require is what it is given.
 #[cycle(halves)]
-pub(crate) fn both_halves<R: Threads + Sync>(
+fn both_halves<R: Threads + Sync>(
     rt: &R,
     alloc: Global,
     rows: &RowLog,
@@ -289,13 +321,13 @@ pub(crate) fn both_halves<R: Threads + Sync>(
     ensures others { All (λ store. store ≡ snapshot.now.value) others.new }
 {
     let mut first = || -> Result<Verdicts, AllocError>
-        requires { IsSync R.row × All (λ store. store ≡ snapshot.now.value) few.now × All (IsAsked rows.now snapshot.now.value) low.now }
+        requires { IsSync R.row × (0 < length few.now) × All (λ store. store ≡ snapshot.now.value) few.now × All (IsAsked rows.now snapshot.now.value) low.now }
         ensures held { IfOk result (λ judged. All (IsHeld rows.entry.now snapshot.entry.now.value) judged.held.items) }
         ensures found { IfOk result (λ judged. All (IsEvidence rows.entry.now) judged.found.items) }
         ensures same { All (λ store. store ≡ snapshot.entry.now.value) few.exit.now }
     { judged_by(rt, alloc, rows, snapshot, least, low, few) };
     let mut second = || -> Result<Verdicts, AllocError>
-        requires { IsSync R.row × All (λ store. store ≡ snapshot.now.value) others.now × All (IsAsked rows.now snapshot.now.value) high.now }
+        requires { IsSync R.row × (0 < length others.now) × All (λ store. store ≡ snapshot.now.value) others.now × All (IsAsked rows.now snapshot.now.value) high.now }
         ensures held { IfOk result (λ judged. All (IsHeld rows.entry.now snapshot.entry.now.value) judged.held.items) }
         ensures found { IfOk result (λ judged. All (IsEvidence rows.entry.now) judged.found.items) }
         ensures same { All (λ store. store ≡ snapshot.entry.now.value) others.exit.now }

@@ -5,24 +5,19 @@
 mod all_pairs;
 mod answers;
 mod book;
-mod concerned;
 mod cursor;
-mod ended;
 mod evidence;
 mod judging;
 mod known;
 mod listed;
-mod order;
 mod outdated;
 mod parts;
 mod renewal;
 mod sampling;
 mod searcher;
 mod searching;
-mod stores;
 #[cfg(test)]
 mod tests;
-mod verdict;
 mod waiting;
 
 pub use answers::{Draw, Refutation, Release, Settling};

@@ -1,7 +1,6 @@
 // What calls of the book put something else in place of.
 use candidate_cover::OldList;
 use rel_base::Snapshot;
-use std::alloc::Global;
 use std::marker::Model;
 use std::sync::Arc;
 use validator::OldGroups;
@@ -13,8 +12,7 @@ use validator::OldGroups;
 #[derive(Drop)]
 pub struct Outdated {
     lists: Vec<OldList>,
-    groups: Option<OldGroups>,
-    snapshot: Option<Arc<Snapshot>>,
+    rows: Option<(OldGroups, Arc<Snapshot>)>,
 }
 
 impl Model for Outdated {
@@ -26,30 +24,8 @@ impl Model for Outdated {
 }
 
 impl Outdated {
-    // Nothing.
-    pub(crate) fn nothing(alloc: Global) -> Outdated {
-        Outdated::of_lists(Vec::new(alloc))
-    }
-
-    // What a refutation leaves.
-    pub(crate) fn of_lists(lists: Vec<OldList>) -> Outdated {
-        Outdated {
-            lists,
-            groups: None,
-            snapshot: None,
-        }
-    }
-
-    // What a batch leaves.
-    pub(crate) fn of_batch(
-        lists: Vec<OldList>,
-        groups: OldGroups,
-        snapshot: Arc<Snapshot>,
-    ) -> Outdated {
-        Outdated {
-            lists,
-            groups: Some(groups),
-            snapshot: Some(snapshot),
-        }
+    // The lists, and of a batch the groups and the snapshot.
+    pub(crate) fn of(lists: Vec<OldList>, rows: Option<(OldGroups, Arc<Snapshot>)>) -> Outdated {
+        Outdated { lists, rows }
     }
 }

@@ -1,20 +1,22 @@
 // New lists of candidates, which are all made before the first is put in place.
 ghost use Rattle.std.specs.Prelude.{◌≡◌, ◌∷◌, [], ◌++◌, not, List, length, IfOk};
-ghost use Rattle.std.specs.List.{list_any};
+ghost use Rattle.std.specs.List.{All, AllZip, list_any};
 ghost use Rattle.col_set.specs.ColSet.{Columns};
 ghost use Rattle.col_set.specs.Target.{IsColumnTarget, has_target};
 ghost use Rattle.col_set.specs.Evidence.{least};
 ghost use Rattle.candidate_cover.specs.Cands.{cands_of, lefts, width};
-ghost use Rattle.cover_steps.specs.Core.{renewed};
+ghost use Rattle.cover_steps.specs.Core.{renewed, targets};
 ghost use Rattle.candidate_cover.specs.Drafts.{AreLeast};
-ghost use Rattle.cover_core.specs.Concerning.{concerns, is_open, AreConcerned};
+ghost use Rattle.negative_cover.specs.Concerning.{concerns, is_open, AreConcerned};
 ghost use Rattle.cover_core.specs.NewLists.{IsPart, AreParts};
 
-use crate::concerned::Concerned;
 use candidate_cover::{CandidateCover, Draft, OldList, Part};
+use negative_cover::Concerned;
+use rayon::prelude::*;
 use rel_base::{ColSet, MOST_COLUMNS, Steps, Target};
 use std::alloc::{AllocError, Global};
 use std::sync::ledger::Ledger;
+use std::thread::Threads;
 
 // A new list for each target that has one, and room for the lists that they take the place of.
 #[derive(Drop)]
@@ -150,6 +152,64 @@ pub(crate) fn drafted(
         let part = drafted_part(alloc, candidates, draft, Target::Col(column))?;
         columns.push(part)?;
     }
+    let old = Vec::with_capacity(alloc, columns.len().saturating_add(1))?;
+    Ok(Parts { rows, columns, old })
+}
+
+// The row's identity and so many columns.
+fn targets_of(alloc: Global, columns: u8) -> Result<Vec<Target>, AllocError>
+    ensures { IfOk result (λ found. found.items ≡ targets columns) }
+{
+    let mut found = Vec::with_capacity(alloc, columns as usize + 1)?;
+    found.push(Target::RowId)?;
+    for column in 0..columns {
+        found.push(Target::Col(column))?;
+    }
+    Ok(found)
+}
+
+// What a draft leaves of the candidates of each of these targets, by so many threads at most, each of which takes targets that stand side
+// by side.
+fn drafted_parts<R: Threads + Sync>(
+    rt: &R,
+    alloc: Global,
+    candidates: &CandidateCover,
+    draft: &Draft,
+    targets: &[Target],
+    workers: u8,
+) -> Result<Vec<Option<Part>>, AllocError>
+    requires width { draft.now.width ≡ width candidates.now }
+    requires targets { All (IsColumnTarget (width candidates.now)) targets.now }
+    ensures { IfOk result (λ parts. AllZip (IsPart (width candidates.now) draft.now.agree_sets candidates.now) targets.now parts.items) }
+{
+    let share = targets.len().div_ceil(workers.max(1) as usize);
+    let parts: Result<Vec<Option<Part>>, AllocError> = targets
+        .par_iter()
+        .with_min_len(share)
+        .map(
+            move |target: &Target| -> Result<Option<Part>, AllocError>
+                requires { IsColumnTarget (width candidates.now) target.now × (draft.now.width ≡ width candidates.now) }
+                ensures { IfOk result (IsPart (width candidates.entry.now) draft.entry.now.agree_sets candidates.entry.now target.now) }
+            { drafted_part(alloc, candidates, draft, *target) },
+        )
+        .collect(rt, alloc)?;
+    parts
+}
+
+// What a draft leaves, by so many threads at most.
+pub(crate) fn drafted_by<R: Threads + Sync>(
+    rt: &R,
+    alloc: Global,
+    candidates: &CandidateCover,
+    draft: &Draft,
+    workers: u8,
+) -> Result<Parts, AllocError>
+    requires { draft.now.width ≡ width candidates.now }
+    ensures { IfOk result (λ parts. AreParts (width candidates.now) draft.now.agree_sets candidates.now parts.rows parts.columns.items) }
+{
+    let targets = targets_of(alloc, candidates.columns())?;
+    let mut columns = drafted_parts(rt, alloc, candidates, draft, &targets, workers)?;
+    let rows = columns.remove(0);
     let old = Vec::with_capacity(alloc, columns.len().saturating_add(1))?;
     Ok(Parts { rows, columns, old })
 }

@@ -4,14 +4,13 @@ ghost use Rattle.rel_base.specs.CodeTable.{IsCodeTable};
 ghost use Rattle.rel_base.specs.Shows.{Shows};
 ghost use Rattle.candidate_cover.specs.Cands.{width};
 ghost use Rattle.negative_cover.specs.Witnesses.{sets_of, live_of};
-ghost use Rattle.cover_core.specs.EndedRows as rows_of;
+ghost use Rattle.negative_cover.specs.EndedRows as rows_of;
 ghost use Rattle.candidate_cover.specs.Drafts.{AreLeast};
 ghost use Rattle.cover_core.specs.NewLists.{AreParts};
 
-use crate::ended::ended;
 use crate::parts::{Parts, generalised};
 use candidate_cover::CandidateCover;
-use negative_cover::NegativeCover;
+use negative_cover::{NegativeCover, ended};
 use rel_base::{Batch, RowNo, Snapshot, Steps};
 use row_log::RowLog;
 use std::alloc::{AllocError, Global};

@@ -1,13 +1,13 @@
 // Pairs of rows that are compared before any candidate is validated.
-ghost use Rattle.std.specs.Prelude.{OnOk, IfOk};
+ghost use Rattle.std.specs.Prelude.{IfOk};
 ghost use Rattle.std.specs.List.{All};
 ghost use Rattle.cover_core.specs.Evidences.{IsEvidence};
 
-use crate::evidence::{Evidence, push_pair};
+use crate::evidence::{Evidence, push_evidence};
 use rel_base::Snapshot;
 use row_log::RowLog;
+use sampler::neighbours;
 use std::alloc::{AllocError, Global};
-use stripped_partition::Partition;
 
 // About so many pairs are for each column.
 const NEIGHBOURS: u32 = 1 << 13;
@@ -22,32 +22,8 @@ pub(crate) fn sampled(
 {
     let mut found = Vec::new(alloc);
     for column in 0..snapshot.columns() {
-        let partition = Partition::of_column(alloc, snapshot, column)?;
-        push_neighbours(rows, &partition, &mut found)?;
+        let pairs = neighbours(alloc, snapshot, column, NEIGHBOURS)?;
+        push_evidence(rows, pairs.as_slice(), &mut found)?;
     }
     Ok(found)
-}
-
-// Adds what neighbours in the groups of a partition agree on, spread evenly over them.
-fn push_neighbours(
-    rows: &RowLog,
-    partition: &Partition,
-    found: &mut Vec<Evidence>,
-) -> Result<(), AllocError>
-    requires { All (IsEvidence rows.now) found.old.items }
-    ensures { OnOk result (All (IsEvidence rows.now) found.new.items) }
-{
-    let mut left = 0;
-    for k in 0..partition.group_count() {
-        let group = partition.group(k);
-        for place in 1..group.len() {
-            if left == 0 {
-                push_pair(rows, group[place - 1], group[place], found)?;
-                left = partition.error_count() / NEIGHBOURS;
-            } else {
-                left -= 1;
-            }
-        }
-    }
-    Ok(())
 }

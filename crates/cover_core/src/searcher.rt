@@ -1,6 +1,5 @@
 // What a book searches its rows for evidence with.
-use crate::order::Order;
-use crate::stores::Stores;
+use validator::{Order, Stores};
 
 // It stands apart from what the book shares at a desk, behind one pointer, since a turn moves the book.
 #[derive(Drop)]

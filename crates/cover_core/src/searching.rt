@@ -6,13 +6,13 @@ ghost use Rattle.col_set.specs.Target.{IsColumnTarget};
 ghost use Rattle.candidate_cover.specs.Cands.{cands_of, width, IsInOrder};
 ghost use Rattle.candidate_cover.specs.declared.cand.Cand.{Cand as Candidate};
 ghost use Rattle.cover_steps.specs.Core.{entries_in, is_unfinished, is_drawable};
-ghost use Rattle.cover_core.specs.Concerning.{concerns};
+ghost use Rattle.negative_cover.specs.Concerning.{concerns};
 ghost use Rattle.cover_core.specs.Past.{IsPast, IsPastBut, ArePastBut, place};
 ghost use Rattle.cover_core.specs.Tests.{on_cand};
 
-use crate::concerned::Concerned;
 use crate::cursor::{Cursor, Cursors, Unfinished, rank};
 use candidate_cover::{Cand, CandidateCover};
+use negative_cover::Concerned;
 use rel_base::{ColSet, RowNo, Target};
 
 // The first candidate that passes a test, by target and in report order, where none before the cursor does. The cursor moves to

@@ -5,10 +5,10 @@ ghost use Rattle.col_set.specs.Target.{IsColumnTarget};
 ghost use Rattle.candidate_cover.specs.Cands.{width};
 ghost use Rattle.cover_core.specs.Waiting.{IsWaiting, IsKnownBelow};
 
-use crate::order::Order;
 use candidate_cover::{Cand, CandidateCover};
 use rel_base::{ColSet, RowNo, Target};
 use std::alloc::{AllocError, Global};
+use validator::Order;
 
 // A candidate that waits for its verdict, and the places of its columns in the order of verdicts.
 #[derive(Clone, Copy)]
@@ -98,17 +98,28 @@ fn push_waiting(
     Ok(())
 }
 
-// The unfinished candidates that are known to hold below a number.
+// The unfinished candidates of a target that are known to hold below a number.
 pub(crate) fn known_below(
     alloc: Global,
     candidates: &CandidateCover,
+    target: Target,
     order: &Order,
     from: RowNo,
     next: RowNo,
 ) -> Result<Vec<Waiting>, AllocError>
+    requires { IsColumnTarget (width candidates.now) target }
     ensures { IfOk result (λ list. All (IsKnownBelow candidates.now from) list.items) }
 {
-    let list = of_sizes(alloc, candidates, order, Sizes::ANY, next)?;
+    let mut list = Vec::new(alloc);
+    push_waiting(
+        alloc,
+        candidates,
+        target,
+        order,
+        Sizes::ANY,
+        next,
+        &mut list,
+    )?;
     let mut known = Vec::with_capacity(alloc, list.len())?;
     for waiting in list.as_slice() {
         if from <= waiting.cand.upto {
@@ -118,38 +129,61 @@ pub(crate) fn known_below(
     Ok(known)
 }
 
-// For so many candidates it is worth while to compare rows that came since they were validated with all rows.
-const MANY_CANDIDATES: u32 = 500;
+// For so many candidates it is worth while to compare rows that came since they were validated with all rows: a row is compared with
+// all others in the time in which one new row is looked up for some twenty.
+const MANY_CANDIDATES: u32 = 64;
 
-// So many candidates are listed at once, 64 bytes each.
-const MOST_LISTED: usize = 1 << 18;
+// Where many rows came, verdicts share groups of rows, and a row is compared with all others in the time of so few of them.
+const VERDICTS_A_ROW: u32 = 8;
 
-// A row is compared with all others in the time of so few verdicts.
-const VERDICTS_A_ROW: u32 = 16;
+// How many unfinished candidates there are of which anything is known, and the number below which each of them is known to hold.
+#[derive(Clone, Copy)]
+struct Lately {
+    count: u32,
+    from: RowNo,
+}
+
+impl Lately {
+    // With the candidates of one more target.
+    fn with(
+        self,
+        alloc: Global,
+        candidates: &CandidateCover,
+        target: Target,
+        next: RowNo,
+    ) -> Result<Lately, AllocError>
+        requires { IsColumnTarget (width candidates.now) target }
+    {
+        let mut lately = self;
+        let own = candidates.list(alloc, target)?;
+        for cand in own.as_slice() {
+            if cand.upto.number() > 1 && cand.upto < next {
+                lately = Lately {
+                    count: lately.count.saturating_add(1),
+                    from: lately.from.min(cand.upto),
+                };
+            }
+        }
+        Ok(lately)
+    }
+}
 
 // The number below which each unfinished candidate is known to hold of which anything is known, where these are so many that comparing
-// the rows from there on with all rows is less work than a verdict on each, and few enough to be listed at once.
+// the rows from there on with all rows is less work than a verdict on each.
 pub(crate) fn worth_comparing(
     alloc: Global,
     candidates: &CandidateCover,
-    order: &Order,
     next: RowNo,
 ) -> Result<Option<RowNo>, AllocError> {
-    if count(candidates) > MOST_LISTED {
-        return Ok(None);
+    let mut lately = Lately {
+        count: 0,
+        from: next,
+    };
+    lately = lately.with(alloc, candidates, Target::RowId, next)?;
+    for column in 0..candidates.columns() {
+        lately = lately.with(alloc, candidates, Target::Col(column), next)?;
     }
-    let list = of_sizes(alloc, candidates, order, Sizes::ANY, next)?;
-    let (mut from, mut count) = (next, 0u32);
-    for waiting in list.as_slice() {
-        let upto = waiting.cand.upto;
-        if upto.number() > 1 {
-            count = count.saturating_add(1);
-            if upto < from {
-                from = upto;
-            }
-        }
-    }
-    let new = next.number().saturating_sub(from.number());
-    let is_worth_it = count >= MANY_CANDIDATES && new <= count / VERDICTS_A_ROW;
-    Ok(if is_worth_it { Some(from) } else { None })
+    let new = next.number().saturating_sub(lately.from.number());
+    let is_worth_it = lately.count >= MANY_CANDIDATES && new <= lately.count / VERDICTS_A_ROW;
+    Ok(if is_worth_it { Some(lately.from) } else { None })
 }

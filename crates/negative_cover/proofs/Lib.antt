@@ -1,1 +1,3 @@
+pub mod Concerning
+pub mod EndedRows
 pub mod Parting

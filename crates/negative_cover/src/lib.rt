@@ -1,9 +1,13 @@
 //! The negative cover of HyFD (Papenbrock and Naumann, 2016): pairs of rows, each with the columns on which the two agree.
 #![tactic(auto)]
 
+mod concerned;
+mod ended_rows;
 mod negative_cover;
 mod rows;
 #[cfg(test)]
 mod tests;
 
+pub use concerned::Concerned;
+pub use ended_rows::ended;
 pub use negative_cover::{NegativeCover, Parted, Witness};

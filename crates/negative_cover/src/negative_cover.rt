@@ -13,12 +13,12 @@ use std::alloc::{AllocError, Global};
 use std::marker::Model;
 
 /// Two rows, and the columns on which they agree. It refutes each dependency whose left side lies among these columns and
-/// whose target does not.
-#[derive(Clone, Copy, Debug, PartialEq, Eq)]
+/// whose target does not. Witnesses are ordered by these columns in report order, and then by the rows.
+#[derive(Clone, Copy, Debug, PartialEq, Eq, PartialOrd, Ord)]
 pub struct Witness {
+    pub agree: ColSet,
     pub i: RowNo,
     pub j: RowNo,
-    pub agree: ColSet,
 }
 
 /// Witnesses in the order in which they were added, 32 bytes each. Contracts see the list.
@@ -134,6 +134,17 @@ impl NegativeCover {
         ensures { result ≡ slice_get self.now k }
     {
         self.witnesses.get(k).copied()
+    }
+
+    /// The agree sets of the witnesses, in the order in which these were added, 16 bytes each.
+    pub fn agree_sets(&self, alloc: Global) -> Result<Vec<ColSet>, AllocError>
+        ensures { IfOk result (λ sets. sets.items ≡ sets_of self.now) }
+    {
+        let mut sets = Vec::with_capacity(alloc, self.witnesses.len())?;
+        for witness in self.witnesses.as_slice() {
+            sets.push(witness.agree)?;
+        }
+        Ok(sets)
     }
 
     /// The witnesses in the order in which they were added.

@@ -1,5 +1,5 @@
-use crate::{NegativeCover, Witness};
-use rel_base::{ColSet, RowNo, Target};
+use crate::{Concerned, NegativeCover, Witness, ended};
+use rel_base::{Batch, ColSet, Op, Row, RowNo, Target};
 use std::alloc::Global;
 use std::process::Abort;
 use std::test::Fail;
@@ -40,6 +40,9 @@ fn witnesses_of_a_dead_row_are_parted_and_withdrawn(rt: HostRuntime) -> Result<(
     assert!(rt; cover.is_empty());
     cover.add_all(&[first, second])?;
     assert!(rt; cover.get(0) == Some(first) && cover.get(1) == Some(second));
+    let sets = cover.agree_sets(rt.alloc())?;
+    assert!(rt; sets.len() == 2 && sets[0] == first.agree && sets[1] == second.agree);
+    assert!(rt; second < first);
     parts_with_the_second_row(&rt, rt.alloc(), &cover, &[row(&rt, 2)])?;
     parts_with_the_second_row(&rt, rt.alloc(), &cover, &[row(&rt, 2), row(&rt, 5)])?;
     parts_with_the_second_row(&rt, rt.alloc(), &cover, &[row(&rt, 7), row(&rt, 2)])?;
@@ -65,6 +68,38 @@ fn a_witness_refutes_what_its_rows_agree_on(rt: HostRuntime) -> Result<(), Fail>
     assert!(rt; cover.refutes(Target::RowId, ColSet::empty()) == rows);
     assert!(rt; cover.refutes(Target::Col(0), one) == None);
     assert!(rt; cover.refutes(Target::Col(1), one.with(2)) == None);
+    Ok(())
+}
+
+// The one witness is of two rows that agree on column 0 alone.
+#[test]
+fn witnesses_tell_which_targets_an_agree_set_concerns(rt: HostRuntime) -> Result<(), Fail> {
+    let zero = ColSet::empty().with(0);
+    let mut cover = NegativeCover::new(rt.alloc());
+    cover.add(Witness {
+        i: row(&rt, 1),
+        j: row(&rt, 2),
+        agree: zero,
+    })?;
+    let beside = Concerned::by(&cover, ColSet::empty().with(1), 3);
+    assert!(rt; beside.rows && beside.columns == zero.with(2));
+    let inside = Concerned::by(&cover, ColSet::empty(), 3);
+    assert!(rt; inside.has(Target::Col(0)) && !inside.has(Target::Col(1)));
+    assert!(rt; !inside.has(Target::RowId) && !inside.is_none());
+    assert!(rt; Concerned::by(&cover, zero, 3).is_none());
+    Ok(())
+}
+
+#[test]
+fn rows_end_that_are_deleted_or_updated(rt: HostRuntime) -> Result<(), Fail> {
+    let alloc = rt.alloc();
+    let mut ops = Vec::new(alloc);
+    ops.push(Op::Update(row(&rt, 5), Row::copied(alloc, &[b"x"])?))?;
+    ops.push(Op::Insert(Row::copied(alloc, &[b"y"])?))?;
+    ops.push(Op::Delete(row(&rt, 2)))?;
+    let rows = ended(alloc, &Batch::of(ops))?;
+    assert!(rt; rows.len() == 2);
+    assert!(rt; rows[0] == row(&rt, 2) && rows[1] == row(&rt, 5));
     Ok(())
 }
 

@@ -1,6 +1,7 @@
 -- Inclusions found from what is kept of relations.
-use Rattle.std.proofs.Common.{◌≡◌, ◌∙◌, ◌+◌, ◌<◌, inl, inr, ℕ, arith, Bool, true, false, refl, sym, ap, ap₂, subst, List, [], ◌∷◌, ◌++◌, length, map, filter, flat_map, get_or, append_assoc, append-nil}
-use Rattle.std.specs.List.{All, AllZip, sum, sum_by}
+use Rattle.std.proofs.Common.{◌≡◌, ◌∙◌, ◌+◌, ◌<◌, ◌≤◌, ◌&&◌, ◌||◌, not, inl, inr, ℕ, arith, Bool, true, false, refl, sym, ap, ap₂, subst, List, [], ◌∷◌, ◌++◌, length, map, filter, flat_map, get_or, append_assoc, append-nil}
+use Rattle.std.specs.List.{All, AllZip, list_all, list_any, sum, sum_by}
+use Rattle.std.proofs.lemmas.Bool.{eq-eqb}
 use Rattle.std.proofs.lemmas.List.{length-append, map-append}
 use Rattle.std.proofs.lemmas.List.Concat.{flat_map-append}
 use Rattle.std.proofs.lemmas.List.Elements.{AllZip-get_or, AllZip-push, All-cons, All-filter, All-nil, length_all_zip}
@@ -9,11 +10,13 @@ use Rattle.std.proofs.lemmas.List.FromFn.{length-map-range_with_len}
 use Rattle.col_set.specs.AllSets.{Listed-upto_within}
 use Rattle.col_set.specs.ColSet.{upto}
 use Rattle.col_set.specs.Lists.{Listed, Listed-flat_map_which, Listed-map_which, filter_same}
+use Rattle.rel_base.specs.Agreement.{same_cell}
 use Rattle.rel_base.specs.Cells.{Cell}
 use Rattle.rel_base.specs.RowState.{RowState, width}
 use Rattle.rel_base.specs.Inclusion.{Included, all_columns, column_cells, included, inclusions}
 use Rattle.rel_base.proofs.Parts.{Included-tested, included-true}
 use Rattle.row_log.specs.Distinct.{AreDistinctCells}
+use Rattle.inclusion_merge.specs.Candidates.{pairs_from}
 use Rattle.inclusion_merge.proofs.Pairing.{upto_more}
 use Rattle.report_text.specs.Inclusions.{inclusions_text}
 use Rattle.profile_cli.specs.Columns.{AreColumnsOf, SameFilled}
@@ -151,3 +154,26 @@ pub inclusion_lines-found : (states : List RowState) (given widths : List ℕ) (
 unfolding inclusion_lines
 inclusion_lines-found states given widths columns found are same is =
     ap₂ inclusions_text (same ∙ are.widths_are) (is ∙ sym (inclusions_same (all_columns states) columns are.each))
+
+-- ---- the columns of one relation as they are
+same_itself : (xs : List (List Cell)) → AllZip SameFilled xs xs
+same_itself [] = tt
+same_itself (x ∷ xs) = (record { each = λ c filled. ((λ k. k), (λ k. k)) }, same_itself xs)
+
+pub are_columns : (r : RowState) (n : ℕ) → n ≡ width r → AreColumnsOf (r ∷ []) (n ∷ []) (all_columns (r ∷ []))
+are_columns r n e = record { widths_are = ap (λ (w : ℕ). w ∷ []) e; each = same_itself (all_columns (r ∷ [])) }
+
+-- no column is included in itself
+pub included_itself : (columns : List (List Cell)) (c : ℕ) → included columns c c ≡ false
+unfolding included
+included_itself columns c = ap (λ (b : Bool). not b && list_all (λ a. same_cell a [] || list_any (same_cell a) (get_or columns c [])) (get_or columns c [])) (eq-eqb c c refl)
+
+-- the pairs of all dependent columns
+pub inclusions-all : (r : RowState) (w n : ℕ) → w ≡ width r → n ≤ w → w ≤ n
+    → filter (λ p. included (all_columns (r ∷ [])) p.0 p.1) (flat_map (λ c. pairs_from c (upto w)) (upto n)) ≡ inclusions (all_columns (r ∷ []))
+unfolding inclusions
+inclusions-all r w n wide most least =
+    let long : length (all_columns (r ∷ [])) ≡ width r = ap length (append-nil (map (column_cells r) (upto (width r)))) ∙ length-map-range_with_len (column_cells r) 0 (width r) in
+    let each : w ≡ length (all_columns (r ∷ [])) = wide ∙ sym long in
+    let all : n ≡ length (all_columns (r ∷ [])) = omega arith in
+    ap₂ (λ (k m : ℕ). filter (λ p. included (all_columns (r ∷ [])) p.0 p.1) (flat_map (λ c. pairs_from c (upto k)) (upto m))) each all

@@ -7,6 +7,7 @@ mod command;
 mod covering;
 mod demo;
 mod ending;
+mod kept_inclusions;
 pub mod laws;
 mod made;
 mod normalizing;

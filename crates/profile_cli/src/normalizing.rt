@@ -12,7 +12,7 @@ ghost use Rattle.profile_cli.specs.Normalize as words;
 use crate::covering::settled;
 use crate::made::Made;
 use crate::projecting::projected;
-use crate::session::push_whole_report;
+use crate::reports::push_whole_report;
 use bcnf_split::split;
 use cover_core::Book;
 use key_finder::table_keys_of;

@@ -1,5 +1,5 @@
 // The text of a run.
-ghost use Rattle.std.specs.Prelude.{◌≡◌, ◌++◌, ◌<◌, ◌≤◌, None, length, map, IfOk, OnOk};
+ghost use Rattle.std.specs.Prelude.{◌≡◌, ◌++◌, ◌∷◌, [], ◌<◌, ◌≤◌, None, length, map, IfOk, OnOk};
 ghost use Rattle.rel_base.specs.Covers.{covers};
 ghost use Rattle.rel_base.specs.RowState.{opened};
 ghost use Rattle.cover_steps.specs.Core.{first_unfinished as first_unfinished_of};
@@ -29,6 +29,27 @@ pub(crate) fn push_report_of(
     let found = covers_of(book)?;
     let rows = book.rows();
     lines.push_report(name, rows.names(), u64::from(rows.live_len()), &found)?;
+    Ok(found)
+}
+
+/// Adds the report of the rows as they are now, and the inclusions among their columns, and gives the covers of the rows. Each candidate
+/// is known to hold.
+pub(crate) fn push_whole_report<R: Threads + Sync>(
+    rt: &R,
+    alloc: Global,
+    workers: u8,
+    lines: &mut Lines,
+    name: &Name,
+    book: &Book,
+) -> Result<Covers, AllocError>
+    requires { first_unfinished_of book.now ≡ None }
+    ensures text { OnOk result (lines.new ≡ lines.old ++ reports (name.now ∷ []) (book.now.rows ∷ [])) }
+    ensures covers { IfOk result (λ found. found ≡ covers book.now.rows) }
+{
+    let found = push_report_of(lines, name, book)?;
+    let mut columns = Columns::new(alloc);
+    columns.push(alloc, book.rows())?;
+    columns.push_inclusions(rt, alloc, workers, lines)?;
     Ok(found)
 }
 

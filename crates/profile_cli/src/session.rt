@@ -2,7 +2,6 @@
 ghost use Rattle.std.specs.Prelude.{◌≡◌, ◌++◌, ◌∷◌, [], ◌<◌, ◌≤◌, ◌+◌, ◌^◌, ℕ, List, None, length, IfOk, OnOk};
 ghost use Rattle.std.specs.List.{All};
 ghost use Rattle.rel_base.specs.declared.batch.Op.{Op};
-ghost use Rattle.rel_base.specs.Covers.{covers};
 ghost use Rattle.rel_base.specs.RowState.{RowState, opened, width};
 ghost use Rattle.rel_base.specs.Batches.{after, kept_or_after};
 ghost use Rattle.batch_update.specs.declared.item.Item.{Item};
@@ -12,15 +11,15 @@ ghost use Rattle.profile_cli.specs.Reports.{reports};
 ghost use Rattle.profile_cli.specs.Session as spec;
 ghost use Rattle.profile_cli.specs.Waiting.{waiting, text_with, AreWaiting, AreTold, IsReply};
 
-use crate::columns::Columns;
 use crate::covering::refined;
+use crate::kept_inclusions::KeptInclusions;
 use crate::reports::push_report_of;
 use crate::request::Options;
 use batch_update::{Item, read_changes};
 use cover_core::{Applying, Book};
 use ports::Gate;
 use refine_pool::Refined;
-use rel_base::{Batch, Covers, Limits, Name, Relation, Why};
+use rel_base::{Batch, Limits, Name, Relation, Why};
 use report_text::Lines;
 use std::alloc::{AllocError, Global};
 use std::sync::Wait;
@@ -91,6 +90,8 @@ struct Session {
     asked: Vec<Asked>,
     // The sound ones of these.
     batches: Vec<Batch>,
+    // What serves to find the inclusions for the next report.
+    kept: KeptInclusions,
 }
 
 impl Session {
@@ -106,6 +107,7 @@ impl Session {
             lines: Lines::new(alloc),
             asked: Vec::new(alloc),
             batches: Vec::new(alloc),
+            kept: KeptInclusions::new(alloc),
         }
     }
 
@@ -141,7 +143,7 @@ impl Session {
             }
             Item::Report => {
                 let session = self.answered(rt, alloc, workers, gate)?;
-                session.reported(rt, alloc, workers, name)
+                session.reported(alloc, name)
             }
         }
     }
@@ -169,6 +171,7 @@ impl Session {
             mut lines,
             asked,
             batches,
+            kept,
         } = self;
         let live = book.rows().live_len();
         let Refined { book, replies } = refined(rt, alloc, workers, gate, book, batches)?;
@@ -178,24 +181,21 @@ impl Session {
             lines,
             asked: Vec::new(alloc),
             batches: Vec::new(alloc),
+            kept,
         })
     }
 
     // Adds the report of the rows as they are now, and the inclusions among their columns.
-    fn reported<R: Threads + Sync>(
-        mut self,
-        rt: &R,
-        alloc: Global,
-        workers: u8,
-        name: &Name,
-    ) -> Result<Session, AllocError>
+    fn reported(mut self, alloc: Global, name: &Name) -> Result<Session, AllocError>
         requires { first_unfinished_of self.book ≡ None }
         ensures text { IfOk result (λ s. s.lines ≡ self.lines ++ reports (name.now ∷ []) (self.book.rows ∷ [])) }
         ensures book { IfOk result (λ s. s.book ≡ self.book) }
         ensures asked { IfOk result (λ s. s.asked.items ≡ self.asked.items) }
         ensures batches { IfOk result (λ s. s.batches.items ≡ self.batches.items) }
     {
-        push_whole_report(rt, alloc, workers, &mut self.lines, name, &self.book)?;
+        push_report_of(&mut self.lines, name, &self.book)?;
+        self.kept
+            .push_inclusions(alloc, self.book.rows(), &mut self.lines)?;
         Ok(self)
     }
 
@@ -273,25 +273,4 @@ fn push_answer(
         }
         Applying::NoMemory => Err(AllocError),
     }
-}
-
-/// Adds the report of the rows as they are now, and the inclusions among their columns, and gives the covers of the rows. Each candidate
-/// is known to hold.
-pub(crate) fn push_whole_report<R: Threads + Sync>(
-    rt: &R,
-    alloc: Global,
-    workers: u8,
-    lines: &mut Lines,
-    name: &Name,
-    book: &Book,
-) -> Result<Covers, AllocError>
-    requires { first_unfinished_of book.now ≡ None }
-    ensures text { OnOk result (lines.new ≡ lines.old ++ reports (name.now ∷ []) (book.now.rows ∷ [])) }
-    ensures covers { IfOk result (λ found. found ≡ covers book.now.rows) }
-{
-    let found = push_report_of(lines, name, book)?;
-    let mut columns = Columns::new(alloc);
-    columns.push(alloc, book.rows())?;
-    columns.push_inclusions(rt, alloc, workers, lines)?;
-    Ok(found)
 }

@@ -18,14 +18,18 @@ use std::sync::Wait;
 // So many operations are fed before the workers come, where they are a good part of the rows.
 const MANY_OPERATIONS: usize = 1000;
 
-// Of so many live rows one verdict that begins anew takes as long as hundreds in an order that shares groups of rows.
+// Of so many live rows, what a batch leaves is sought in bulk, where verdicts share groups of rows and a few new rows are compared with
+// all, in far less time than candidate by candidate.
 const MANY_ROWS: u32 = 5000;
 
-/// Whether the batches are fed before the workers come: they change so many of the rows that what is checked beside them would be checked
-/// again, or there is nothing to check beside them, since all is settled, and the rows are many.
+/// Whether the batches are fed before the workers come: the rows are so many that what the batches leave is better sought in bulk, or
+/// the batches change so many of the rows that what is checked beside them would be checked again.
 pub fn are_fed_first(batches: &[Batch], book: &Book) -> bool {
+    if batches.is_empty() {
+        return false;
+    }
     let rows = book.rows().live_len();
-    if rows >= MANY_ROWS && !batches.is_empty() && book.settled() {
+    if rows >= MANY_ROWS {
         return true;
     }
     let mut count = 0usize;

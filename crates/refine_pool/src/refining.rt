@@ -41,9 +41,9 @@ pub struct Refined {
 /// workers go on after the last of them. A worker that finds all candidates held by others compares further pairs of rows while
 /// it waits, as long as that brings news. The groups of rows that the workers make stay in the book for a later phase.
 ///
-/// Where the batches change many rows, a thousand and an eighth of all, nothing that workers check beside them would last; where all is
-/// settled when the phase begins, workers find nothing to check beside them. So there, if the rows are many, the batches are fed first,
-/// evidence is sought in the rows that they leave, and the workers come last.
+/// Where the rows are many, five thousand, what the batches leave is sought in bulk in far less time than candidate by candidate; where
+/// the batches change many rows, a thousand and an eighth of all, nothing that workers check beside them would last. There the batches
+/// are fed first, evidence is sought in the rows that they leave, and the workers come last.
 ///
 /// The gate is passed outside turns: by those who seek after each verdict, by each worker after a draw that answered a job, after its
 /// verdict and after it was booked, and by the feeder after each batch that was answered.

@@ -117,7 +117,7 @@ pub record AreCellsBelow (d : Coding) (used : List Bool) (n : ℕ) (cells : List
 pub AreCellsBelow-none : (d : Coding) (used : List Bool) (cells : List Cell) → cells ≡ [] → AreCellsBelow d used 0 cells
 AreCellsBelow-none d used cells e = subst (AreCellsBelow d used 0) (sym e) (record { there = λ c l u f. absurd (omega arith); back = λ x h. absurd h; once = tt })
 
-not_fresh : (nulls : Nulls) (x : Cell) → x ≢ [] → is_fresh nulls x ≡ false
+pub not_fresh : (nulls : Nulls) (x : Cell) → x ≢ [] → is_fresh nulls x ≡ false
 not_fresh Equal x ne = refl
 not_fresh Distinct x ne = false-same_cell x [] ne
 

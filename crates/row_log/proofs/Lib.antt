@@ -6,3 +6,4 @@ pub mod Log
 pub mod Changing
 pub mod Batch
 pub mod Distinct
+pub mod Marks

@@ -4,3 +4,5 @@ pub mod Table
 pub mod Applying
 pub mod Halting
 pub mod Distinct
+pub mod Marked
+pub mod Live

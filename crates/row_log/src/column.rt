@@ -5,8 +5,10 @@ ghost use Rattle.rel_base.specs.Cells.{cell};
 ghost use Rattle.rel_base.specs.Agreement.{Agrees};
 ghost use Rattle.row_log.specs.Column.{AreCodes};
 ghost use Rattle.row_log.specs.Distinct.{AreFlaggedCells, AreUsed, unmarked};
+ghost use Rattle.row_log.specs.Live.{AreMarked};
 
 use crate::codes::{CodeList, code_in};
+use crate::live::MarkedCells;
 use column_dict::{Dict, Text};
 use rel_base::{Codes, MOST_ROWS, Nulls, Row};
 use std::alloc::{AllocError, Global};
@@ -147,6 +149,23 @@ impl Column {
         ensures { result.now ≡ slice_index_or self.now.cells place [] }
     {
         self.dict.cell(self.codes.get(place))
+    }
+
+    /// The cells of the flagged rows, by the codes that they have. It takes a byte a code, and a step a row until all codes were met.
+    pub fn marked<'a>(
+        &'a self,
+        alloc: Global,
+        flags: &[bool],
+    ) -> Result<MarkedCells<'a>, AllocError>
+        requires { length flags.now ≡ length self.now.cells }
+        ensures { IfOk result (λ marked. AreMarked self.now.cells flags.now marked) }
+    {
+        let (older, own) = self.codes.parts();
+        let used = used_codes(alloc, older, own, flags, self.dict.len() as usize)?;
+        Ok(MarkedCells {
+            dict: &self.dict,
+            used,
+        })
     }
 
     /// The cells of the flagged rows, each once, NULL aside. It takes a step a code, and one a row up to the last new code.

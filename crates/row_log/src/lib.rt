@@ -4,10 +4,12 @@
 mod applying;
 mod codes;
 mod column;
+mod live;
 mod row_log;
 mod table;
 #[cfg(test)]
 mod tests;
 
 pub use applying::Applying;
+pub use live::LiveCells;
 pub use row_log::RowLog;

@@ -15,9 +15,10 @@ ghost use Rattle.row_log.specs.Applying.{Answers, Outcome, IsBefore, LeadsFrom, 
 
 use crate::applying::{Applying, Halt};
 use crate::column::Column;
+use crate::live::LiveCells;
 use crate::table::{
-    agreement, append_live, columns_letting_go, columns_taking, handed_codes, push_row,
-    share_codes, truncate_rows,
+    agreement, append_live, columns_letting_go, columns_taking, handed_codes, marked_columns,
+    push_row, share_codes, truncate_rows,
 };
 use column_dict::Text;
 use rel_base::{Batch, ColSet, Limits, Nulls, Op, Relation, Row, RowNo, Snapshot, Why};
@@ -207,6 +208,20 @@ impl RowLog {
         ensures { IfOk result (λ cells. AreDistinctCells self.now column cells) }
     {
         self.columns[column as usize].flagged_cells(alloc, &self.live)
+    }
+
+    /// The cells that live rows have in each column, where they stand, to tell which columns are included in which.
+    ///
+    /// For each column it takes a byte a distinct cell, and a step a row until all its codes were met: where some cell is that of no live
+    /// row, a step for each row ever given.
+    pub fn live_cells<'a>(&'a self, alloc: Global) -> Result<LiveCells<'a>, AllocError>
+        ensures { IfOk result (λ live. live ≡ self.now) }
+    {
+        let columns = marked_columns(alloc, &self.columns, &self.live)?;
+        Ok(LiveCells {
+            rows: self,
+            columns,
+        })
     }
 
     /// The rows at this moment, as codes.

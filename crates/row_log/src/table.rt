@@ -4,10 +4,12 @@ ghost use Rattle.std.specs.List.{All};
 ghost use Rattle.rel_base.specs.Agreement.{agree};
 ghost use Rattle.rel_base.specs.Cells.{cell};
 ghost use Rattle.row_log.specs.Column.{AreCodes};
+ghost use Rattle.row_log.specs.Live.{AreMarked, marked_at};
 ghost use Rattle.row_log.specs.Table.{row_at, HasRow, column_at, with_cells, AreColumnsOf};
 ghost use denote.Param.Send.{IsSync};
 
 use crate::column::Column;
+use crate::live::MarkedCells;
 use agree_sets::agree_codes;
 use rel_base::{COLUMN_PLACES, Codes, ColSet, MOST_COLUMNS, MOST_ROWS, Nulls, Row};
 use std::alloc::{AllocError, Global};
@@ -219,6 +221,23 @@ pub fn handed_codes(alloc: Global, columns: &[Column]) -> Result<Vec<Codes>, All
         codes.push(column.handed(alloc)?)?;
     }
     Ok(codes)
+}
+
+/// The cells that flagged rows have in each column.
+pub fn marked_columns<'a>(
+    alloc: Global,
+    columns: &'a [Column],
+    flags: &[bool],
+) -> Result<Vec<MarkedCells<'a>>, AllocError>
+    requires { All (λ c. length c.cells ≡ length flags.now) columns.now }
+    ensures long { IfOk result (λ marked. length marked.items ≡ length columns.now) }
+    ensures each { IfOk result (λ marked. (j : ℕ) → j < length columns.now → AreMarked (column_at columns.now j).cells flags.now (marked_at marked.items j)) }
+{
+    let mut marked = Vec::with_capacity(alloc, columns.len())?;
+    for column in columns {
+        marked.push(column.marked(alloc, flags)?)?;
+    }
+    Ok(marked)
 }
 
 /// Puts the codes that came since into the lists that snapshots share, where they are many.

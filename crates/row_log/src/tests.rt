@@ -1,8 +1,9 @@
 // The log beside the plain rows, on small drawn relations and batches.
-ghost use Rattle.std.specs.Prelude.{◌≡◌};
+ghost use Rattle.std.specs.Prelude.{◌≡◌, ◌≢◌, ◌<◌, length};
+ghost use Rattle.rel_base.specs.RowState.{width};
 
-use crate::{Applying, RowLog};
-use plain_base::{PlainRows, Samples, agree, are_as_wide, relation_of};
+use crate::{Applying, LiveCells, RowLog};
+use plain_base::{PlainRows, Samples, agree, are_as_wide, is_included, relation_of};
 use rel_base::{Batch, ColSet, Limits, Nulls, Relation, Row, RowNo};
 use std::alloc::{AllocError, Global};
 use std::process::Abort;
@@ -196,6 +197,100 @@ fn distinct_cells_are_the_parts_of_live_rows(rt: HostRuntime) -> Result<(), Fail
         let cells = log.distinct_cells(rt.alloc(), 0)?;
         let parts = rows.projection(rt.alloc(), ColSet::of_bits(1))?;
         assert!(rt; are_cells_of(&cells, &parts), "seed {seed}");
+    }
+    Ok(())
+}
+
+// The cells of the live rows in a column.
+fn live_column(alloc: Global, rows: &PlainRows, column: usize) -> Result<Row, Fail> {
+    let live = rows.live_rows(alloc)?;
+    let mut cells: Vec<&[u8]> = Vec::new(alloc);
+    for row in &live {
+        if column < row.len() {
+            cells.push(row.cell(column))?;
+        }
+    }
+    Ok(Row::copied(alloc, &cells)?)
+}
+
+// Whether a pair of columns is told to be an inclusion as it plainly is, with a hint kept from before, the one that it gives, and
+// one that is out of range.
+fn tells_inclusion(
+    live: &LiveCells,
+    columns: &[Row],
+    dependent: u8,
+    referenced: u8,
+    kept: &mut u32,
+) -> bool
+    requires dependent { dependent < width live.now }
+    requires referenced { referenced < width live.now }
+    requires apart { dependent ≢ referenced }
+    requires first { dependent < length columns.now }
+    requires second { referenced < length columns.now }
+{
+    let wanted = is_included(columns, dependent as usize, referenced as usize);
+    if live.lacking(dependent, referenced, u32::MAX).is_none() != wanted {
+        return false;
+    }
+    match live.lacking(dependent, referenced, *kept) {
+        Some(code) => {
+            *kept = code;
+            !wanted && live.lacking(dependent, referenced, code) == Some(code)
+        }
+        None => wanted,
+    }
+}
+
+// Whether each pair of three columns is. The hints stand by pair.
+fn tells_inclusions(
+    alloc: Global,
+    log: &RowLog,
+    rows: &PlainRows,
+    hints: &mut [u32; 9],
+) -> Result<bool, Fail> {
+    let mut columns = Vec::new(alloc);
+    for column in 0..3usize {
+        columns.push(live_column(alloc, rows, column)?)?;
+    }
+    if log.names().len() != 3 || columns.len() != 3 {
+        return Ok(false);
+    }
+    let live = log.live_cells(alloc)?;
+    for dependent in 0..3u8 {
+        for referenced in 0..3u8 {
+            let kept = &mut hints[dependent as usize * 3 + referenced as usize];
+            if dependent != referenced
+                && !tells_inclusion(&live, &columns, dependent, referenced, kept)
+            {
+                return Ok(false);
+            }
+        }
+    }
+    Ok(true)
+}
+
+#[test]
+fn inclusions_are_told_as_plainly_before_and_after_a_batch(rt: HostRuntime) -> Result<(), Fail> {
+    let alloc = rt.alloc();
+    for nulls in [Nulls::Equal, Nulls::Distinct] {
+        for seed in 0..12 {
+            let (mut log, rows) = opened(alloc, seed, nulls)?;
+            let mut hints = [0; 9];
+            assert!(rt;
+                tells_inclusions(alloc, &log, &rows, &mut hints)?,
+                "seed {seed}"
+            );
+            let batch = Samples::from_seed(seed + 300).batch(alloc, 2, 3, 3)?;
+            assert!(rt; are_as_wide(&batch, rows.names().len()));
+            let outcome = rows.after(alloc, &batch)?;
+            assert!(rt; are_as_wide(&batch, log.names().len()));
+            if let (Applying::Applied { .. }, Ok(after)) = (log.apply(&batch), outcome) {
+                assert!(rt;
+                    tells_inclusions(alloc, &log, &after, &mut hints)?,
+                    "seed {seed}"
+                );
+            }
+        }
     }
     Ok(())
 }

@@ -1,6 +1,6 @@
 -- Pairs of rows that agree on a column, by how many rows of the same code stand between them.
 use Rattle.std.specs.Prelude.{◌≡◌, ◌<◌, ◌+◌, ◌==◌, ◌&&◌, ◌↔◌, ℕ, nat_lt, List, length}
-use Rattle.std.specs.List.{filter, AllPairs, Contains}
+use Rattle.std.specs.List.{filter, All, AllPairs, Contains}
 use Rattle.rel_base.specs.CodeTable.{CodeTable, code_at}
 use Rattle.rel_base.specs.Shows.{live_numbers}
 
@@ -20,3 +20,7 @@ pub record IsPair (s : CodeTable) (c distance i j : ℕ) : Type 0 where
 pub record IsWindow (s : CodeTable) (c distance : ℕ) (pairs : List (ℕ × ℕ)) : Type 0 where
   pub order : AllPairs (λ p q. p.0 < q.0) pairs
   pub each : (i j : ℕ) → Contains pairs (i, j) ↔ IsPair s c distance i j
+
+-- each is of two live rows of one code with none of that code between them
+abbrev pub AreNeighbours : CodeTable → ℕ → List (ℕ × ℕ) → Type 0
+AreNeighbours s c pairs = All (λ p. IsPair s c 1 p.0 p.1) pairs

@@ -1,5 +1,5 @@
-// Windows beside all pairs of drawn rows.
-use crate::window;
+// Windows beside all pairs of drawn rows, and neighbours.
+use crate::{neighbours, window};
 use plain_base::Samples;
 use rel_base::{Codes, RowNo, Snapshot};
 use std::alloc::{AllocError, Global};
@@ -58,21 +58,42 @@ impl Rows {
     }
 }
 
-#[test]
-fn neighbours_of_a_few_rows(rt: HostRuntime) -> Result<(), Fail> {
-    let rows = Rows {
-        codes: [5, 5, 9, 5, 9, 5, 1, 5],
-        live: [true, true, true, false, true, true, true, true],
-    };
-    let snapshot = rows.snapshot(rt.alloc())?;
-    let near = window(rt.alloc(), &snapshot, 0, 1)?;
-    let wanted = [(1, 2), (2, 6), (3, 5), (6, 8)];
-    assert!(rt; near.len() == wanted.len());
-    for (pair, numbers) in near.iter().zip(&wanted) {
-        assert!(rt; pair.0.number() == numbers.0 && pair.1.number() == numbers.1);
+// Whether the pairs are of rows with these numbers.
+fn are_of(pairs: &[(RowNo, RowNo)], wanted: &[(u32, u32)]) -> bool {
+    if pairs.len() != wanted.len() {
+        return false;
     }
+    for (pair, numbers) in pairs.iter().zip(wanted) {
+        if pair.0.number() != numbers.0 || pair.1.number() != numbers.1 {
+            return false;
+        }
+    }
+    true
+}
+
+// Rows of two groups, a row alone and a dead one.
+static FEW: Rows = Rows {
+    codes: [5, 5, 9, 5, 9, 5, 1, 5],
+    live: [true, true, true, false, true, true, true, true],
+};
+
+#[test]
+fn windows_of_a_few_rows(rt: HostRuntime) -> Result<(), Fail> {
+    let snapshot = FEW.snapshot(rt.alloc())?;
+    let near = window(rt.alloc(), &snapshot, 0, 1)?;
+    assert!(rt; are_of(near.as_slice(), &[(1, 2), (2, 6), (3, 5), (6, 8)]));
     assert!(rt; window(rt.alloc(), &snapshot, 0, 3)?.len() == 1);
     assert!(rt; window(rt.alloc(), &snapshot, 0, u32::MAX)?.is_empty());
+    Ok(())
+}
+
+#[test]
+fn neighbours_are_spread_over_the_groups(rt: HostRuntime) -> Result<(), Fail> {
+    let snapshot = FEW.snapshot(rt.alloc())?;
+    let all = neighbours(rt.alloc(), &snapshot, 0, 8)?;
+    assert!(rt; are_of(all.as_slice(), &[(1, 2), (2, 6), (6, 8), (3, 5)]));
+    let few = neighbours(rt.alloc(), &snapshot, 0, 2)?;
+    assert!(rt; are_of(few.as_slice(), &[(1, 2), (3, 5)]));
     Ok(())
 }
 

@@ -1,6 +1,6 @@
 -- What a stripped partition says of dependencies.
 use Rattle.std.proofs.Common.{inl, inr, ◌≡◌, ◌≢◌, ◌⊎◌, ℕ, zero, suc, ◌<◌, ◌≤◌, Bool, true, false, cond, ◌&&◌, eqb, ltb, refl, sym, ap, ◌∙◌, subst, arith, List, [], ◌∷◌, length, get_or, Option, Some, None, option_map, find}
-use Rattle.std.specs.List.{filter, flat_map, concat, AllPairs}
+use Rattle.std.specs.List.{filter, flat_map, concat, count_by, AllPairs}
 use Rattle.std.specs.List.Sorted.{IsStrictlyIncreasing}
 use Rattle.std.proofs.lemmas.Bool.{true≢false, false≢true, eqb-true, eqb-false, ltb-true, lt-ltb, cases_order, cases_Bool, and_parts, and_from, not-true, not-false, false_from_ne_true}
 use Rattle.std.proofs.lemmas.List.Concat.{concat_is}
@@ -18,11 +18,12 @@ use Rattle.rel_base.specs.Shows.{code_agree, live_numbers, code_agree_sets, hold
 use Rattle.rel_base.proofs.Agree.{PairOf-pairs, Listed-rising}
 use Rattle.rel_base.proofs.States.{All-from, increasing-Climbs}
 use Rattle.rel_base.proofs.Valid.{determined-at, determined-from}
-use Rattle.stripped_partition.specs.Stripped.{group_of, grouped, agree_on, stripped, error_of}
+use Rattle.stripped_partition.specs.Stripped.{group_of, agree_on, stripped, error_of}
 use Rattle.stripped_partition.specs.SplitBy.{least, differ, is_split, split_pair, split_by}
 use Rattle.stripped_partition.specs.Order.{Ahead}
+use Rattle.stripped_partition.specs.AnyOrder.{AreGroupsBy}
 use Rattle.stripped_partition.specs.Laws.{RowsStandOnce}
-use Rattle.stripped_partition.proofs.Grouped.{two_of, IsSame, GroupOf, Listed-grouped_parts, Listed-grouped, Ahead-grouped}
+use Rattle.stripped_partition.proofs.Grouped.{two_of, IsSame, GroupOf, Ahead-Apart, Listed-grouped_parts, Listed-grouped, Ahead-grouped}
 use Rattle.stripped_partition.proofs.Firsts.{Once, Once-filter}
 use Rattle.stripped_partition.proofs.Agreeing.{code_agree-parts, code_agree-from, agree_on-subset, subset-agree_on, agree_same, agree_on-with_parts, agree_on-with}
 use Rattle.stripped_partition.proofs.Errors.{Climbs-Once, Once-length, filter_same_length, follows, group_climbs, Once-each, error_of-grouped}
@@ -209,30 +210,35 @@ module _ (s : CodeTable) (x : ℕ) where
             let w = together (k ∷ g) k i h (inl refl) (inr l) in
             (code_agree-parts s k i a (held (Col a) k i e w.0 w.1 (c.0 i l) w.2)).1
 
-  -- ---- the rows of all groups
-  Once-rows : Once (flat_map (λ (g : List ℕ). g) (stripped s x))
-  unfolding stripped
-  Once-rows = Once-each (agree_on s x) (agree_same s x) (live_numbers s) (Climbs-live s) (λ g. g) (grouped (agree_on s x) (live_numbers s)) (λ g i l. l)
-      (λ g of. Climbs-Once g (group_climbs (agree_on s x) (agree_same s x) (live_numbers s) (Climbs-live s) g of)) (Listed-grouped_parts (agree_on s x) (agree_same s x) (live_numbers s))
-      (Ahead-grouped (agree_on s x) (agree_same s x) (live_numbers s) (Climbs-live s))
+  pub stripped_itself : AreGroupsBy s x (stripped s x)
+  stripped_itself = record { kept = λ g h. h; only = λ g h. h; apart = Ahead-Apart (stripped s x) Ahead-stripped }
 
-  rows-live : (i : ℕ) → Listed i (concat (stripped s x)) → Listed i (live_numbers s)
-  rows-live i h =
-      let w = Listed-flat_map_which (λ (g : List ℕ). g) i (stripped s x) (subst (Listed i) (concat_is (stripped s x)) h) in
-      let of = stripped-parts w.0 w.1 in
-      (Listed-filter_parts (agree_on s x of.row) i (live_numbers s) (subst (Listed i) of.is w.2)).0
+  -- ---- the rows of all groups, in whatever order these stand
+  module _ (groups : List (List ℕ)) (are : AreGroupsBy s x groups) where
+    Once-rows : Once (flat_map (λ (g : List ℕ). g) groups)
+    Once-rows = Once-each (agree_on s x) (agree_same s x) (live_numbers s) (Climbs-live s) (λ g. g) groups (λ g i l. l)
+        (λ g of. Climbs-Once g (group_climbs (agree_on s x) (agree_same s x) (live_numbers s) (Climbs-live s) g of)) (λ g h. stripped-parts g (are.only g h)) are.apart
 
-  few_rows : (p : ℕ → Bool) → length (filter p (concat (stripped s x))) ≤ length (filter p (live_numbers s))
-  few_rows p = Once-length (filter p (concat (stripped s x))) (filter p (live_numbers s)) (Once-filter p (concat (stripped s x)) (subst Once (sym (concat_is (stripped s x))) Once-rows))
-      (λ i h. let w = Listed-filter_parts p i (concat (stripped s x)) h in Listed-filter p i (live_numbers s) (rows-live i w.0) w.1)
+    pub rows-live : (i : ℕ) → Listed i (concat groups) → Listed i (live_numbers s)
+    rows-live i h =
+        let w = Listed-flat_map_which (λ (g : List ℕ). g) i groups (subst (Listed i) (concat_is groups) h) in
+        let of = stripped-parts w.0 (are.only w.0 w.1) in
+        (Listed-filter_parts (agree_on s x of.row) i (live_numbers s) (subst (Listed i) of.is w.2)).0
+
+    few_rows : (p : ℕ → Bool) → length (filter p (concat groups)) ≤ length (filter p (live_numbers s))
+    few_rows p = Once-length (filter p (concat groups)) (filter p (live_numbers s)) (Once-filter p (concat groups) (subst Once (sym (concat_is groups)) Once-rows))
+        (λ i h. let w = Listed-filter_parts p i (concat groups) h in Listed-filter p i (live_numbers s) (rows-live i w.0) w.1)
+
+    pub rows_once : (p : ℕ → Bool) → count_by p (concat groups) ≤ count_by p (live_numbers s)
+    rows_once p = let a = length-filter p (concat groups) in let b = length-filter p (live_numbers s) in let l = few_rows p in omega arith
 
   pub RowsStandOnce-stripped : RowsStandOnce s x
   RowsStandOnce-stripped = record {
     two = All-from (λ (g : List ℕ). 2 ≤ length g) (stripped s x) (λ g h. (stripped-parts g h).two);
     ascending = All-from IsStrictlyIncreasing (stripped s x) (λ g h. increasing-Climbs g (group_ascends g h));
     in_order = pairs_ahead (stripped s x) Ahead-stripped;
-    live = λ i h. Contains-listed i (live_numbers s) (rows-live i (Listed-contained i (concat (stripped s x)) h));
-    once = λ p. let a = length-filter p (concat (stripped s x)) in let b = length-filter p (live_numbers s) in let l = few_rows p in omega arith;
+    live = λ i h. Contains-listed i (live_numbers s) (rows-live (stripped s x) stripped_itself i (Listed-contained i (concat (stripped s x)) h));
+    once = rows_once (stripped s x) stripped_itself;
   }
     where
       pairs_ahead : (gs : List (List ℕ)) → Ahead gs → AllPairs (λ g h. least g < least h) gs

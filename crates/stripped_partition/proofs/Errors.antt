@@ -8,8 +8,8 @@ use Rattle.col_set.specs.Lists.{Listed, Listed-append_cases, Listed-filter, List
 use Rattle.col_set.proofs.Places.{Climbs}
 use Rattle.rel_base.proofs.Valid.{Climbs-filter}
 use Rattle.stripped_partition.specs.Stripped.{group_of, grouped, error_of}
-use Rattle.stripped_partition.specs.Order.{Ahead}
-use Rattle.stripped_partition.proofs.Grouped.{first_least, two_of, IsSame, GroupOf, Listed-grouped_parts, Listed-grouped, group_apart, Ahead-grouped}
+use Rattle.stripped_partition.specs.Order.{Apart}
+use Rattle.stripped_partition.proofs.Grouped.{first_least, two_of, IsSame, GroupOf, Listed-grouped_parts, Listed-grouped, group_apart, Ahead-Apart, Ahead-grouped}
 use Rattle.stripped_partition.proofs.Firsts.{Once, Once-filter}
 
 -- ---- lists that have each member once
@@ -117,14 +117,12 @@ module _ (same : ℕ → ℕ → Bool) (is : IsSame same) (rows : List ℕ) (up 
 
   -- parts of different groups have no row in common
   pub Once-each : (f : List ℕ → List ℕ) (gs : List (List ℕ)) → ((g : List ℕ) (i : ℕ) → Listed i (f g) → Listed i g) → ((g : List ℕ) → GroupOf same rows g → Once (f g))
-      → ((g : List ℕ) → Listed g gs → GroupOf same rows g) → Ahead gs → Once (flat_map f gs)
+      → ((g : List ℕ) → Listed g gs → GroupOf same rows g) → Apart gs → Once (flat_map f gs)
   Once-each f [] within once of a = tt
   Once-each f (g ∷ gs) within once of a = Once-append (f g) (flat_map f gs) (once g (of g (inl refl))) (Once-each f gs within once (λ h l. of h (inr l)) a.1) (λ i h l.
       let w = Listed-flat_map_which f i gs l in
       let e : g ≡ w.0 = group_apart same is rows g w.0 i (of g (inl refl)) (of w.0 (inr w.1)) (within g i h) (within w.0 i w.2) in
-      let m = a.0 w.0 w.1 in
-      let d : get_or g 0 0 ≡ get_or w.0 0 0 = ap (λ (x : List ℕ). get_or x 0 0) e in
-      absurd (omega arith))
+      absurd (a.0 w.0 w.1 (ap (λ (x : List ℕ). get_or x 0 0) e)))
 
   drop_within : (g : List ℕ) (i : ℕ) → Listed i (drop 1 g) → Listed i g
   drop_within [] i h = absurd h
@@ -139,7 +137,7 @@ module _ (same : ℕ → ℕ → Bool) (is : IsSame same) (rows : List ℕ) (up 
 
   Once-tails : Once tails
   unfolding tails
-  Once-tails = Once-each (drop 1) (grouped same rows) drop_within (λ g of. Once-drop g (Climbs-Once g (group_climbs g of))) (Listed-grouped_parts same is rows) (Ahead-grouped same is rows up)
+  Once-tails = Once-each (drop 1) (grouped same rows) drop_within (λ g of. Once-drop g (Climbs-Once g (group_climbs g of))) (Listed-grouped_parts same is rows) (Ahead-Apart (grouped same rows) (Ahead-grouped same is rows up))
 
   tails_follow : (j : ℕ) → Listed j tails → Listed j (filter (follows same rows) rows)
   unfolding tails

@@ -11,18 +11,19 @@ use Rattle.rel_base.specs.CodeTable.{CodeTable, code_at}
 use Rattle.rel_base.specs.Shows.{live_numbers}
 use Rattle.rel_base.proofs.States.{All-from, All-listed}
 use Rattle.stripped_partition.specs.Groups.{cut, EndsRise, IsCut, IsFlat}
-use Rattle.stripped_partition.specs.Stripped.{group_of, grouped, agree_on, stripped}
+use Rattle.stripped_partition.specs.Stripped.{group_of, grouped, agree_on, stripped, IsPartitionOf}
 use Rattle.stripped_partition.specs.Order.{Apart, IsInOrder}
+use Rattle.stripped_partition.specs.AnyOrder.{IsReordered, AreGroupsBy, AreGroupsOf}
 use Rattle.stripped_partition.specs.Splits.{firsts, rows_with, repeated_codes, parts}
 use Rattle.stripped_partition.specs.Codes.{IsRecoded, IsTable}
-use Rattle.stripped_partition.proofs.Grouped.{Ahead-Apart, group_apart}
+use Rattle.stripped_partition.proofs.Grouped.{Ahead-Apart, group_apart, same_ahead}
 use Rattle.stripped_partition.proofs.Firsts.{with_code, repeated, code_parts}
-use Rattle.stripped_partition.proofs.Splitting.{Splits, Apart-all_parts, split_is}
+use Rattle.stripped_partition.proofs.Splitting.{Splits, split_are}
 use Rattle.stripped_partition.proofs.Agreeing.{code_agree-parts, code_agree-from, agree_same, agree_on-with_parts, agree_on-with, agree_on-union_parts, agree_on-union}
 use Rattle.stripped_partition.proofs.Live.{Climbs-live, live_within}
 use Rattle.stripped_partition.proofs.Cuts.{length-cut, sum-cut}
 use Rattle.stripped_partition.proofs.PlacingStep.{long_pairs}
-use Rattle.stripped_partition.proofs.Dependencies.{in_group, stripped-parts, Ahead-stripped, together}
+use Rattle.stripped_partition.proofs.Dependencies.{in_group, stripped-parts, stripped_itself, Ahead-stripped, together}
 use Rattle.stripped_partition.proofs.Flat.{flat-cut, flat-rise, all_parts-length}
 use Rattle.stripped_partition.proofs.Ordering.{apart_at}
 
@@ -137,28 +138,38 @@ pub cut_listed : (rows ends : List ℕ) → IsCut rows ends → (k : ℕ) → k 
 cut_listed rows ends is k l i h = subst (Listed i) (concat_cut rows ends is) (subst (Listed i) (sym (concat_is (cut 0 rows ends)))
     (Listed-flat_map (λ (y : List ℕ). y) (get_or (cut 0 rows ends) k []) i (cut 0 rows ends) (Listed-get_or (cut 0 rows ends) k [] (let n = length-cut 0 rows ends in omega arith)) h))
 
-module _ (s : CodeTable) (x : ℕ) (rows ends : List ℕ) (is : IsCut rows ends) (of : cut 0 rows ends ≡ stripped s x) where
+-- the groups of a partition, in the order that the partition has
+pub in_its_order : (s : CodeTable) (x : ℕ) (groups : List (List ℕ)) → groups ≡ stripped s x → AreGroupsBy s x groups
+in_its_order s x groups e = subst (AreGroupsBy s x) (sym e) (stripped_itself s x)
+
+pub partition_groups : (s : CodeTable) (groups : List (List ℕ)) → IsPartitionOf s groups → AreGroupsOf s groups
+partition_groups s groups of = record { columns = of.columns; are = in_its_order s of.columns groups of.is }
+
+-- groups that are put in order
+pub put_in_order : (s : CodeTable) (x : ℕ) (groups new : List (List ℕ)) → AreGroupsBy s x groups → IsInOrder groups new → new ≡ stripped s x
+put_in_order s x groups new are order =
+    same_ahead new (stripped s x) (order.ahead are.apart) (Ahead-stripped s x) (λ g h. are.only g (order.only g h)) (λ g h. order.kept g (are.kept g h))
+
+module _ (s : CodeTable) (x : ℕ) (rows ends : List ℕ) (is : IsCut rows ends) (of : AreGroupsBy s x (cut 0 rows ends)) where
   -- a row of a group is among the rows
   pub row_listed : (g : List ℕ) (i : ℕ) → Listed g (stripped s x) → Listed i g → Listed i rows
-  row_listed g i h l = subst (Listed i) (concat_cut rows ends is) (subst (Listed i) (sym (concat_is (cut 0 rows ends))) (Listed-flat_map (λ (y : List ℕ). y) g i (cut 0 rows ends) (subst (Listed g) (sym of) h) l))
+  row_listed g i h l = subst (Listed i) (concat_cut rows ends is) (subst (Listed i) (sym (concat_is (cut 0 rows ends))) (Listed-flat_map (λ (y : List ℕ). y) g i (cut 0 rows ends) (of.kept g h) l))
 
   -- each row is live
   pub rows_given : All (λ (row : ℕ). row < s.to) rows
   rows_given = All-from (λ (row : ℕ). row < s.to) rows (λ i h.
       let w = Listed-flat_map_which (λ (y : List ℕ). y) i (cut 0 rows ends) (subst (Listed i) (concat_is (cut 0 rows ends)) (subst (Listed i) (sym (concat_cut rows ends is)) h)) in
-      let t = together s x w.0 i i (subst (Listed w.0) of w.1) w.2 w.2 in
+      let t = together s x w.0 i i (of.only w.0 w.1) w.2 w.2 in
       (live_within s i t.0).1)
 
   -- what is split by codes that tell the finer relation from this one
-  pub finer_is : (z : ℕ) (code : ℕ → ℕ) (bound : ℕ) (codes made_rows made_ends : List ℕ) (new : List (List ℕ)) → Splits (agree_on s x) (agree_on s z) (live_numbers s) code bound
-      → codes ≡ map code rows → IsFlat made_rows made_ends (flat_map (parts bound) (cut 0 (zip rows codes) ends)) → IsInOrder (cut 0 made_rows made_ends) new → new ≡ stripped s z
+  pub finer_are : (z : ℕ) (code : ℕ → ℕ) (bound : ℕ) (codes made_rows made_ends : List ℕ) → Splits (agree_on s x) (agree_on s z) (live_numbers s) code bound
+      → codes ≡ map code rows → IsFlat made_rows made_ends (flat_map (parts bound) (cut 0 (zip rows codes) ends)) → AreGroupsBy s z (cut 0 made_rows made_ends)
   unfolding stripped
-  finer_is z code bound codes made_rows made_ends new by coded flat order =
-      let e : cut 0 made_rows made_ends ≡ flat_map (code_parts code bound) (grouped (agree_on s x) (live_numbers s)) =
-      flat-cut made_rows made_ends _ flat ∙ parts_are code bound rows codes ends coded ∙ ap (flat_map (code_parts code bound)) of in
-      let apart = Apart-all_parts (agree_on s x) (agree_on s z) (live_numbers s) code bound (agree_same s x) (agree_same s z) (Climbs-live s) by in
-      split_is (agree_on s x) (agree_on s z) (live_numbers s) code bound (agree_same s x) (agree_same s z) (Climbs-live s) by new (order.ahead (subst Apart (sym e) apart))
-      (λ g h. subst (Listed g) e (order.only g h)) (λ g h. order.kept g (subst (Listed g) (sym e) h))
+  finer_are z code bound codes made_rows made_ends by coded flat =
+      let e : cut 0 made_rows made_ends ≡ flat_map (code_parts code bound) (cut 0 rows ends) = flat-cut made_rows made_ends _ flat ∙ parts_are code bound rows codes ends coded in
+      subst (λ (gs : List (List ℕ)). IsReordered (grouped (agree_on s z) (live_numbers s)) gs) (sym e)
+      (split_are (agree_on s x) (agree_on s z) (live_numbers s) code bound (agree_same s x) (agree_same s z) (Climbs-live s) by (cut 0 rows ends) of)
 
   -- ---- one more column
   module _ (a : ℕ) (wide : a < length s.codes) (codes new_codes : List ℕ) (bound : ℕ) (gathered : codes ≡ map (λ row. code_at s row a) rows) (r : IsRecoded codes new_codes bound) where
@@ -180,10 +191,10 @@ module _ (s : CodeTable) (x : ℕ) (rows ends : List ℕ) (is : IsCut rows ends)
           agree_on-with s x a i j e (code_agree-from s i j a wide (r.apart (code_at s i a) (code_at s j a) (row_coded i m.0) (row_coded j m.1) same));
     }
 
-    pub refined : (made_rows made_ends : List ℕ) (new : List (List ℕ)) → IsFlat made_rows made_ends (flat_map (parts bound) (cut 0 (zip rows new_codes) ends)) → IsInOrder (cut 0 made_rows made_ends) new → new ≡ stripped s (with x a)
-    refined made_rows made_ends new flat order =
-        finer_is (with x a) (λ i. r.recode (code_at s i a)) bound new_codes made_rows made_ends new column_splits
-        (r.is ∙ ap (map r.recode) gathered ∙ map-map r.recode (λ row. code_at s row a) rows) flat order
+    pub refined : (made_rows made_ends : List ℕ) → IsFlat made_rows made_ends (flat_map (parts bound) (cut 0 (zip rows new_codes) ends)) → AreGroupsBy s (with x a) (cut 0 made_rows made_ends)
+    refined made_rows made_ends flat =
+        finer_are (with x a) (λ i. r.recode (code_at s i a)) bound new_codes made_rows made_ends column_splits
+        (r.is ∙ ap (map r.recode) gathered ∙ map-map r.recode (λ row. code_at s row a) rows) flat
 
   -- ---- the columns of another partition
   module _ (y : ℕ) (none : ℕ) (table : List ℕ) (groups : List (List ℕ)) (other : groups ≡ stripped s y) (few : length groups ≤ none) (t : IsTable groups table) where
@@ -232,10 +243,10 @@ module _ (s : CodeTable) (x : ℕ) (rows ends : List ℕ) (is : IsCut rows ends)
           agree_on-union s x y i j e (together s y (get_or groups (get_or table i none) []) i j (subst (Listed (get_or groups (get_or table i none) [])) other (Listed-get_or groups (get_or table i none) [] l)) (at_place i l) m).2;
     }
 
-    pub multiplied : (places made_rows made_ends : List ℕ) (new : List (List ℕ)) → places ≡ map (λ row. get_or table row none) rows
-        → IsFlat made_rows made_ends (flat_map (parts (length groups)) (cut 0 (zip rows places) ends)) → IsInOrder (cut 0 made_rows made_ends) new → new ≡ stripped s (union x y)
-    multiplied places made_rows made_ends new gathered flat order =
-        finer_is (union x y) (λ i. get_or table i none) (length groups) places made_rows made_ends new table_splits gathered flat order
+    pub multiplied : (places made_rows made_ends : List ℕ) → places ≡ map (λ row. get_or table row none) rows
+        → IsFlat made_rows made_ends (flat_map (parts (length groups)) (cut 0 (zip rows places) ends)) → AreGroupsBy s (union x y) (cut 0 made_rows made_ends)
+    multiplied places made_rows made_ends gathered flat =
+        finer_are (union x y) (λ i. get_or table i none) (length groups) places made_rows made_ends table_splits gathered flat
 
 -- what is split is the same where rows, ends and codes are
 pub same_flat : (bound : ℕ) (rows rows_read ends ends_read codes codes_read made_rows made_ends : List ℕ) → rows_read ≡ rows → ends_read ≡ ends → codes_read ≡ codes

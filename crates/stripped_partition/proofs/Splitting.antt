@@ -1,13 +1,14 @@
 -- The parts of the groups by one relation are the groups by a finer one.
-use Rattle.std.proofs.Common.{inl, inr, ◌≡◌, ◌≢◌, ℕ, ◌<◌, ◌≤◌, Bool, true, eqb, refl, sym, ap, ◌∙◌, subst, arith, List, [], ◌∷◌, length, get_or}
+use Rattle.std.proofs.Common.{inl, inr, ◌≡◌, ◌≢◌, ℕ, ◌<◌, ◌≤◌, Bool, true, eqb, refl, sym, ap, ◌∙◌, subst, List, [], ◌∷◌, length, get_or}
 use Rattle.std.specs.List.{flat_map}
 use Rattle.std.proofs.lemmas.Bool.{eqb-true, eq-eqb, cases_eq}
 use Rattle.col_set.specs.Lists.{Listed, Listed-filter, Listed-filter_parts, Listed-flat_map, Listed-flat_map_which}
 use Rattle.col_set.proofs.Places.{Climbs}
 use Rattle.rel_base.proofs.Valid.{Climbs-filter}
 use Rattle.stripped_partition.specs.Stripped.{group_of, grouped}
-use Rattle.stripped_partition.specs.Order.{Ahead, Apart}
-use Rattle.stripped_partition.proofs.Grouped.{same_climbing, another, two_of, Apart-append, same_ahead, IsSame, GroupOf, Listed-grouped_parts, Listed-grouped, group_is, group_apart, Ahead-grouped}
+use Rattle.stripped_partition.specs.AnyOrder.{IsReordered}
+use Rattle.stripped_partition.specs.Order.{Apart}
+use Rattle.stripped_partition.proofs.Grouped.{same_climbing, another, two_of, Apart-append, IsSame, GroupOf, Listed-grouped_parts, Listed-grouped, group_is, group_apart}
 use Rattle.stripped_partition.proofs.Firsts.{with_code, code_parts, PartOf, parts-listed, Listed-parts, part_first, Apart-parts}
 
 -- among rows that are the same by the coarse relation, the fine one says that codes are equal and below the bound
@@ -85,21 +86,19 @@ module _ (coarse fine : ℕ → ℕ → Bool) (rows : List ℕ) (code : ℕ → 
       (subst (λ (x : List ℕ). Listed x (code_parts code bound (group_of coarse rows i))) e
       (Listed-parts code bound (group_of coarse rows i) i m (by.tells i o.other of.listed u.0 o.apart u.1).1 (subst (λ (x : List ℕ). 2 ≤ length x) (sym e) of.two)))
 
-  Apart-each : (gs : List (List ℕ)) → ((g : List ℕ) → Listed g gs → GroupOf coarse rows g) → Ahead gs → Apart (flat_map (code_parts code bound) gs)
+  Apart-each : (gs : List (List ℕ)) → ((g : List ℕ) → Listed g gs → GroupOf coarse rows g) → Apart gs → Apart (flat_map (code_parts code bound) gs)
   Apart-each [] f a = tt
   Apart-each (γ ∷ gs) f a = Apart-append (code_parts code bound γ) (flat_map (code_parts code bound) gs) (Apart-parts code bound γ) (Apart-each gs (λ g l. f g (inr l)) a.1) (λ g h l m e.
       let w = Listed-flat_map_which (code_parts code bound) h gs m in
       let i = (part_first code bound γ g (parts-listed code bound γ g l)).0 in
       let j = (part_first code bound w.0 h (parts-listed code bound w.0 h w.2)).0 in
       let same : γ ≡ w.0 = group_apart coarse isc rows γ w.0 (get_or g 0 0) (f γ (inl refl)) (f w.0 (inr w.1)) i (subst (λ (k : ℕ). Listed k w.0) (sym e) j) in
-      let below = a.0 w.0 w.1 in
-      let equal : get_or γ 0 0 ≡ get_or w.0 0 0 = ap (λ (x : List ℕ). get_or x 0 0) same in
-      absurd (omega arith))
+      a.0 w.0 w.1 (ap (λ (x : List ℕ). get_or x 0 0) same))
 
-  pub Apart-all_parts : Apart (flat_map (code_parts code bound) (grouped coarse rows))
-  Apart-all_parts = Apart-each (grouped coarse rows) (Listed-grouped_parts coarse isc rows) (Ahead-grouped coarse isc rows up)
-
-  -- the parts, put in order, are the groups by the fine relation
-  pub split_is : (gs : List (List ℕ)) → Ahead gs → ((g : List ℕ) → Listed g gs → Listed g (flat_map (code_parts code bound) (grouped coarse rows))) → ((g : List ℕ) → Listed g (flat_map (code_parts code bound) (grouped coarse rows)) → Listed g gs)
-      → gs ≡ grouped fine rows
-  split_is gs a f g = same_ahead gs (grouped fine rows) a (Ahead-grouped fine isf rows up) (λ x l. part_listed x (f x l)) (λ x l. g x (Listed-part x l))
+  -- the parts of the groups by the coarse relation, in whatever order, are the groups by the fine one
+  pub split_are : (gs : List (List ℕ)) → IsReordered (grouped coarse rows) gs → IsReordered (grouped fine rows) (flat_map (code_parts code bound) gs)
+  split_are gs are = record {
+    kept = λ g h. let w = Listed-flat_map_which (code_parts code bound) g (grouped coarse rows) (Listed-part g h) in Listed-flat_map (code_parts code bound) w.0 g gs (are.kept w.0 w.1) w.2;
+    only = λ g h. let w = Listed-flat_map_which (code_parts code bound) g gs h in part_listed g (Listed-flat_map (code_parts code bound) w.0 g (grouped coarse rows) (are.only w.0 w.1) w.2);
+    apart = Apart-each gs (λ g h. Listed-grouped_parts coarse isc rows g (are.only g h)) are.apart;
+  }

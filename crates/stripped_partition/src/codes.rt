@@ -41,12 +41,22 @@ pub(crate) fn codes_of(
     requires column { column < length snapshot.now.codes }
     ensures { IfOk result (λ codes. codes.items ≡ map (λ row. code_at snapshot.now row column) rows.now) }
 {
+    let mut codes = vec![in alloc; 0; rows.len()]?;
+    write_codes(&mut codes, snapshot, column, rows);
+    Ok(codes)
+}
+
+// Writes the codes of these rows in a column.
+pub(crate) fn write_codes(codes: &mut [u32], snapshot: &Snapshot, column: u8, rows: &[RowNo])
+    requires room { length codes.old ≡ length rows.now }
+    requires given { All (λ row. row < snapshot.now.to) rows.now }
+    requires column { column < length snapshot.now.codes }
+    ensures { codes.new ≡ map (λ row. code_at snapshot.now row column) rows.now }
+{
     // `to` is called for its clause on the lengths of the lists.
     let _to = snapshot.to();
     let (shared, own) = snapshot.column(column).parts();
-    let mut codes = vec![in alloc; 0; rows.len()]?;
-    gather(&mut codes, shared, own, rows);
-    Ok(codes)
+    gather(codes, shared, own, rows);
 }
 
 // Writes the codes of these rows, where those of all rows stand in two lists of which the second goes on behind the first.
@@ -114,6 +124,16 @@ pub(crate) fn dense(alloc: Global, codes: Vec<u32>) -> Result<(Vec<u32>, usize),
     let bound = codes.len();
     let ranks = ranks(alloc, &codes)?;
     Ok((ranks, bound))
+}
+
+// Makes a list at least so long.
+pub(crate) fn make_long(codes: &mut Vec<u32>, len: usize) -> Result<(), AllocError>
+    ensures { OnOk result (len ≤ vec_len codes.new) }
+{
+    if codes.len() < len {
+        codes.resize(len, 0)?;
+    }
+    Ok(())
 }
 
 // Makes room for a slot for each of the codes, where all slots are clear.

@@ -189,7 +189,7 @@ pub(crate) fn split_in(
 {
     let mut groups = Groups {
         rows: Vec::with_capacity(alloc, rows.len())?,
-        ends: Vec::new(alloc),
+        ends: Vec::with_capacity(alloc, rows.len() / 2)?,
     };
     split_groups(&mut groups, slots, rows, ends, codes)?;
     groups.rows.shrink_to_fit();

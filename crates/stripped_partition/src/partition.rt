@@ -4,6 +4,8 @@ ghost use Rattle.std.specs.List.{All};
 ghost use Rattle.col_set.specs.ColSet.{Columns, empty, with, union};
 ghost use Rattle.rel_base.specs.CodeTable.{CodeTable};
 ghost use Rattle.stripped_partition.specs.Stripped.{stripped, IsPartitionOf, error_of};
+ghost use Rattle.stripped_partition.specs.AnyOrder.{AreGroupsBy, AreGroupsOf};
+ghost use Rattle.stripped_partition.specs.Order.{IsInOrder};
 ghost use Rattle.stripped_partition.specs.SplitBy.{split_by, AgreesOn};
 
 use crate::groups::{self, Groups};
@@ -97,10 +99,49 @@ impl Partition {
         ensures of { IfOk result (λ p. IsPartitionOf snapshot.now p) }
         ensures clear { OnOk result (slots.new.items ≡ replicate (vec_len slots.new) 0) }
     {
-        let codes = codes::codes_of(alloc, snapshot, column, &self.rows)?;
-        codes::make_room(slots, &codes)?;
-        let groups = groups::split_in(alloc, slots, &self.rows, &self.ends, &codes)?;
-        let Groups { rows, ends } = order::in_order(alloc, groups)?;
+        let mut codes = Vec::new(alloc);
+        let unordered = self.refine_unordered(alloc, snapshot, column, slots, &mut codes)?;
+        unordered.ordered(alloc)
+    }
+
+    /// The groups that `refine_in` makes, in another order: the parts of a group stand where the group stood. To put many groups in
+    /// order takes half the time of making them, so who needs no order refines by this, and goes on from what it made.
+    ///
+    /// It takes the groups of this partition in any order too. The slots are those of `refine_in`. The codes are a list that callers
+    /// keep from one call to the next, so that no call makes one; what it holds says nothing, and it grows to the rows of the largest
+    /// partition.
+    pub fn refine_unordered(
+        &self,
+        alloc: Global,
+        snapshot: &Snapshot,
+        column: u8,
+        slots: &mut Vec<u32>,
+        codes: &mut Vec<u32>,
+    ) -> Result<Partition, AllocError>
+        requires of { AreGroupsOf snapshot.now self.now }
+        requires column { column < length snapshot.now.codes }
+        requires clear { slots.old.items ≡ replicate (vec_len slots.old) 0 }
+        ensures groups { IfOk result (λ p. (x : Columns) → AreGroupsBy snapshot.now x self.now → AreGroupsBy snapshot.now (with x column) p) }
+        ensures of { IfOk result (λ p. AreGroupsOf snapshot.now p) }
+        ensures clear { OnOk result (slots.new.items ≡ replicate (vec_len slots.new) 0) }
+    {
+        codes::make_long(codes, self.rows.len())?;
+        let codes = &mut codes[..self.rows.len()];
+        codes::write_codes(codes, snapshot, column, &self.rows);
+        codes::make_room(slots, codes)?;
+        let groups = groups::split_in(alloc, slots, &self.rows, &self.ends, codes)?;
+        Ok(Partition {
+            rows: groups.rows,
+            ends: groups.ends,
+        })
+    }
+
+    // The groups by their least rows.
+    fn ordered(self, alloc: Global) -> Result<Partition, AllocError>
+        ensures { IfOk result (λ p. IsInOrder self p) }
+    {
+        let Partition { rows, ends } = self;
+        let Groups { rows, ends } = order::in_order(alloc, Groups { rows, ends })?;
         Ok(Partition { rows, ends })
     }
 
@@ -122,7 +163,7 @@ impl Partition {
         self.ends.len()
     }
 
-    /// The rows of a group, ascending. The groups stand by their least rows.
+    /// The rows of a group, ascending. The groups stand by their least rows, but for those of `refine_unordered`.
     pub fn group(&self, k: usize) -> &[RowNo]
         requires { k < length self.now }
         ensures { result.now ≡ slice_index_or self.now k [] }

@@ -147,6 +147,61 @@ fn products_are_refinements(rt: HostRuntime) -> Result<(), Fail> {
     Ok(())
 }
 
+// Whether each group of the one stands in the other, which has as many.
+fn has_same_groups(one: &Partition, other: &Partition) -> bool {
+    for k in 0..one.group_count() {
+        if !has_group(other, one.group(k)) {
+            return false;
+        }
+    }
+    one.group_count() == other.group_count()
+}
+
+fn has_group(partition: &Partition, group: &[RowNo]) -> bool {
+    for k in 0..partition.group_count() {
+        if partition.group(k) == group {
+            return true;
+        }
+    }
+    false
+}
+
+// Whether the partition by two columns has the same groups where these are never put in order.
+#[tactic(auto, using(crate::proofs::Refining::partition_groups))]
+fn orders_meet(
+    alloc: Global,
+    snapshot: &Snapshot,
+    left: u8,
+    right: u8,
+) -> Result<bool, AllocError> {
+    if left >= snapshot.columns() || right >= snapshot.columns() {
+        return Ok(false);
+    }
+    let mut slots = Vec::new(alloc);
+    let mut codes = Vec::new(alloc);
+    let all = Partition::of_all(alloc, snapshot)?;
+    let one = all.refine_unordered(alloc, snapshot, left, &mut slots, &mut codes)?;
+    let both = one.refine_unordered(alloc, snapshot, right, &mut slots, &mut codes)?;
+    let ordered = Partition::of_column(alloc, snapshot, left)?.refine(alloc, snapshot, right)?;
+    Ok(has_same_groups(&both, &ordered) && both.error_count() == ordered.error_count())
+}
+
+#[test]
+fn groups_are_the_same_in_any_order(rt: HostRuntime) -> Result<(), Fail> {
+    for seed in 0..20u64 {
+        let snapshot = snapshot_of(rt.alloc(), &drawn(seed), 4 + (seed % 4) as usize)?;
+        for left in 0..3 {
+            for right in 0..3 {
+                assert!(rt;
+                    orders_meet(rt.alloc(), &snapshot, left, right)?,
+                    "seed {seed}"
+                );
+            }
+        }
+    }
+    Ok(())
+}
+
 #[test]
 fn groups_by_a_column(rt: HostRuntime) -> Result<(), Fail> {
     let columns = [[1, 1, 2, 2, 2, 3], [7, 8, 8, 8, 9, 9], [0, 0, 0, 0, 0, 0]];

@@ -1,5 +1,5 @@
 -- Lists of kept partitions.
-use Rattle.std.proofs.Common.{inl, inr, ◌⊎◌, not, eqb, ◌≡◌, ◌≢◌, ℕ, ◌+◌, ◌++◌, take, drop, ◌<◌, ◌^◌, true, false, Bool, ◌&&◌, ◌||◌, ap₂, refl, sym, ap, ◌∙◌, subst, arith, List, length, get_or, Option, Some, None}
+use Rattle.std.proofs.Common.{inl, inr, ◌⊎◌, not, eqb, ◌≡◌, ◌≢◌, ℕ, zero, suc, ◌+◌, [], ◌∷◌, ◌++◌, take, drop, replicate, ◌<◌, ◌^◌, true, false, Bool, ◌&&◌, ◌||◌, ap₂, refl, sym, ap, ◌∙◌, subst, arith, List, length, get_or, Option, Some, None}
 use Rattle.std.proofs.lemmas.Bool.{and_parts, false≢true, cases_eq, ne_eqb}
 use Rattle.std.specs.Option.{option_or}
 use Rattle.std.proofs.lemmas.List.Elements.{All-append, All-take, All-drop}
@@ -11,7 +11,7 @@ use Rattle.col_set.specs.ColSet.{empty, with, union, minus}
 use Rattle.col_set.specs.Members.{has-with, has-empty, has-union, has-minus, same_set}
 use Rattle.col_set.specs.Subsets.{true-subset, subset-true, has_within, subset_below}
 use Rattle.rel_base.specs.CodeTable.{CodeTable}
-use Rattle.stripped_partition.specs.Stripped.{stripped}
+use Rattle.stripped_partition.specs.AnyOrder.{AreGroupsBy}
 use Rattle.validator.specs.Kept.{IsKept, AreKept}
 use Rattle.validator.specs.Walk.{plus, IsClear}
 use Rattle.validator.specs.declared.shelf.Kept.{Kept}
@@ -134,5 +134,29 @@ settled_more old kept rest k p e = record {
 }
 
 -- the partition at a place
-pub kept_of : (s : CodeTable) (kept : List Kept) (k : ℕ) (r : Kept) → AreKept s kept → k < length kept → r ≡ get_or kept k r → r.partition.value ≡ stripped s r.columns
+pub kept_of : (s : CodeTable) (kept : List Kept) (k : ℕ) (r : Kept) → AreKept s kept → k < length kept → r ≡ get_or kept k r → AreGroupsBy s r.columns r.partition.value
+unfolding IsKept
 kept_of s kept k r are l e = subst (IsKept s) (sym e) (are k r l)
+
+-- a partition that is kept with its columns
+pub kept_from : (s : CodeTable) (kept : Kept) (columns : ℕ) (groups : List (List ℕ)) → kept.partition.value ≡ groups → kept.columns ≡ columns → AreGroupsBy s columns groups → IsKept s kept
+unfolding IsKept
+kept_from s kept columns groups e d are = subst (λ (x : ℕ). AreGroupsBy s x kept.partition.value) (sym d) (subst (AreGroupsBy s columns) (sym e) are)
+
+-- one more owner of a partition
+pub kept_as : (s : CodeTable) (kept new : Kept) → new.partition.value ≡ kept.partition.value → new.columns ≡ kept.columns → IsKept s kept → IsKept s new
+unfolding IsKept
+kept_as s kept new e d are = kept_from s new kept.columns kept.partition.value e d are
+
+-- slots that are clear
+pub clear_zeros : (slots : List ℕ) → IsClear slots → slots ≡ replicate (length slots) 0
+clear_zeros [] f = refl
+clear_zeros (x ∷ slots) f = ap₂ (λ (y : ℕ) (ys : List ℕ). y ∷ ys) (f 0) (clear_zeros slots (λ k. f (suc k)))
+
+-- one more that is kept
+pub kept_push : (s : CodeTable) (old new : List Kept) (kept : Kept) → new ≡ old ++ kept ∷ [] → AreKept s old → IsKept s kept → AreKept s new
+kept_push s old new kept e are is = subst (AreKept s) (sym e) (All-append (IsKept s) old (kept ∷ []) are one)
+  where
+    one : (k : ℕ) (d : Kept) → k < 1 → IsKept s (get_or (kept ∷ []) k d)
+    one zero d l = is
+    one (suc k) d l = absurd (omega arith)

@@ -18,10 +18,12 @@ use Rattle.rel_base.specs.Shows.{code_agree, live_numbers, holds_in, holds_in_be
 use Rattle.rel_base.proofs.Shown.{HoldsInBelow-tested}
 use Rattle.rel_base.proofs.States.{All-from, increasing-Climbs}
 use Rattle.rel_base.proofs.Valid.{Climbs-filter}
-use Rattle.stripped_partition.specs.Stripped.{group_of, agree_on, stripped, IsPartitionOf}
+use Rattle.stripped_partition.specs.Stripped.{group_of, agree_on, stripped}
+use Rattle.stripped_partition.specs.AnyOrder.{AreGroupsBy, AreGroupsOf}
 use Rattle.stripped_partition.proofs.Agreeing.{agree_same, code_agree-parts, code_agree-from, agree_on-subset, subset-agree_on, agree_on-with_parts, agree_on-with}
-use Rattle.stripped_partition.proofs.Dependencies.{held_from, in_group, stripped-parts, together, group_ascends, RowsStandOnce-stripped}
-use Rattle.stripped_partition.proofs.Grouped.{first_least}
+use Rattle.stripped_partition.proofs.Dependencies.{held_from, in_group, stripped-parts, together, group_ascends, rows_once}
+use Rattle.stripped_partition.proofs.Grouped.{first_least, group_apart}
+use Rattle.stripped_partition.proofs.Ordering.{apart_at}
 use Rattle.stripped_partition.proofs.Live.{live_within}
 use Rattle.validator.specs.Verdicts.{IsViolation, AreFound, new_rows}
 use Rattle.validator.specs.Walk.{key, plus, first_with, IsUniform, IsApart, IsCompared, IsClear}
@@ -209,9 +211,9 @@ module _ (s : CodeTable) (by : Option ℕ) (t : Target) (from : ℕ) (groups : L
       here r (inr (inl e)) = subst (λ (z : ℕ × ℕ). InGroup s by t groups (k + 1) z.0 z.1) (sym e) (record { place = k; early = omega arith; in_all = Listed-get_or groups k [] l; apart = mine })
       here r (inr (inr h)) = absurd h
 
-module _ (s : CodeTable) (by : Option ℕ) (t : Target) (from : ℕ) (groups : List (List ℕ)) (of : IsPartitionOf s groups) where
+module _ (s : CodeTable) (by : Option ℕ) (t : Target) (from : ℕ) (groups : List (List ℕ)) (of : AreGroupsOf s groups) where
   live_few : newer from (concat groups) ≤ new_rows s from
-  live_few = subst (λ (gs : List (List ℕ)). newer from (concat gs) ≤ new_rows s from) (sym of.is) ((RowsStandOnce-stripped s of.columns).once (λ i. leb from i))
+  live_few = rows_once s of.columns groups of.are (λ i. leb from i)
 
   pub seen_few : (most k : ℕ) (pairs : List (ℕ × ℕ)) (slots : List ℕ) (steps start : ℕ) → Seen s by t from most groups k pairs slots steps start → steps ≤ start + new_rows s from
   seen_few most k pairs slots steps start p = let a = p.few in let b = newer_groups from groups k in let c = live_few in omega arith
@@ -222,7 +224,7 @@ module _ (s : CodeTable) (by : Option ℕ) (t : Target) (from : ℕ) (groups : L
     group_listed = subst (λ (x : List ℕ). Listed x groups) (sym is) (Listed-get_or groups k [] l)
 
     in_stripped : Listed g (stripped s of.columns)
-    in_stripped = subst (Listed g) of.is group_listed
+    in_stripped = of.are.only g group_listed
 
     live : (i : ℕ) → Listed i g → (0 < i) × (i < s.to)
     live i h = live_within s i (together s of.columns g i i in_stripped h h).0
@@ -259,36 +261,27 @@ module _ (s : CodeTable) (by : Option ℕ) (t : Target) (from : ℕ) (groups : L
 -- ---- what all groups answer
 module _ (s : CodeTable) (by : Option ℕ) (t : Target) (from : ℕ) (groups : List (List ℕ)) (wide : IsColumnTarget (length s.codes) t) (column : ForSome by (λ b. b < length s.codes)) where
   -- rows of two groups do not agree on the columns
-  separated : (x : ℕ) → groups ≡ stripped s x → (i j : ℕ) → Separate groups i j → agree_on s x i j ≡ true → ⊥
+  separated : (x : ℕ) → AreGroupsBy s x groups → (i j : ℕ) → Separate groups i j → agree_on s x i j ≡ true → ⊥
   separated x e i j w a =
-      let order = (RowsStandOnce-stripped s x).in_order in
-      let in_all = λ (n : ℕ) (l : n < length groups). subst (Listed (get_or groups n [])) e (Listed-get_or groups n [] l) in
       let m : w.place < length groups = (let l = w.less in let n = w.within in omega arith) in
-      let lead : Listed (get_or (get_or groups w.place []) 0 0) (get_or groups w.place []) = Listed-get_or (get_or groups w.place []) 0 0 (some (get_or groups w.place []) i w.first) in
-      let near = together s x (get_or groups w.place []) (get_or (get_or groups w.place []) 0 0) i (in_all w.place m) lead w.first in
-      let of = stripped-parts s x (get_or groups w.later []) (in_all w.later w.within) in
+      let in_first = e.only (get_or groups w.place []) (Listed-get_or groups w.place [] m) in
+      let in_later = e.only (get_or groups w.later []) (Listed-get_or groups w.later [] w.within) in
+      let near = together s x (get_or groups w.place []) i i in_first w.first w.first in
+      let of = stripped-parts s x (get_or groups w.later []) in_later in
       let its = Listed-filter_parts (agree_on s x of.row) j (live_numbers s) (subst (Listed j) of.is w.second) in
       let same = agree_same s x in
-      let far : agree_on s x of.row (get_or (get_or groups w.place []) 0 0) ≡ true =
-      same.trans of.row j (get_or (get_or groups w.place []) 0 0) its.1 (same.trans j i (get_or (get_or groups w.place []) 0 0) (same.symm i j a) (same.symm (get_or (get_or groups w.place []) 0 0) i near.2)) in
-      let moved : Listed (get_or (get_or groups w.place []) 0 0) (get_or groups w.later []) =
-      subst (Listed (get_or (get_or groups w.place []) 0 0)) (sym of.is) (Listed-filter (agree_on s x of.row) (get_or (get_or groups w.place []) 0 0) (live_numbers s) near.0 far) in
-      let least_there = first_least (get_or groups w.later []) (get_or (get_or groups w.place []) 0 0) (group_ascends s x (get_or groups w.later []) (in_all w.later w.within)) moved in
-      let less = subst (λ (gs : List (List ℕ)). get_or (get_or gs w.place []) 0 0 < get_or (get_or gs w.later []) 0 0) (sym e)
-      (order w.place w.later [] w.less (subst (λ (gs : List (List ℕ)). w.later < length gs) e w.within)) in
-      omega arith
-    where
-      some : (xs : List ℕ) (x : ℕ) → Listed x xs → 0 < length xs
-      some [] x h = absurd h
-      some (z ∷ xs) x h = omega arith
+      let far : agree_on s x of.row i ≡ true = same.trans of.row j i its.1 (same.symm i j a) in
+      let moved : Listed i (get_or groups w.later []) = subst (Listed i) (sym of.is) (Listed-filter (agree_on s x of.row) i (live_numbers s) near.0 far) in
+      let one = group_apart (agree_on s x) same (live_numbers s) (get_or groups w.place []) (get_or groups w.later []) i (stripped-parts s x (get_or groups w.place []) in_first) of w.first moved in
+      apart_at groups e.apart w.place w.later m w.within (let l = w.less in λ (d : w.place ≡ w.later). omega arith) (ap (λ (g : List ℕ). get_or g 0 0) one)
 
   pub found : (k : ℕ) (pairs : List (ℕ × ℕ)) → Gathered s by t from groups k pairs → (pairs ≡ [] → length groups ≤ k)
-      → (x : ℕ) → groups ≡ stripped s x → holds_in_below from s (plus x by) t ≡ true → AreFound s (plus x by) t pairs
+      → (x : ℕ) → AreGroupsBy s x groups → holds_in_below from s (plus x by) t ≡ true → AreFound s (plus x by) t pairs
   found k pairs p done x e below = record {
     each = All-from (λ (r : ℕ × ℕ). IsViolation s (plus x by) t r.0 r.1) pairs (λ r h.
-        let w = p.each r h in violation s x by t from wide column (get_or groups w.place []) r.0 r.1 (subst (Listed (get_or groups w.place [])) e w.in_all) w.apart);
+        let w = p.each r h in violation s x by t from wide column (get_or groups w.place []) r.0 r.1 (e.only (get_or groups w.place []) w.in_all) w.apart);
     apart = λ i j d l m sub. separated x e (get_or pairs i d).0 (get_or pairs j d).0 (p.apart i j d l m)
         (plus-parts s x by (get_or pairs i d).0 (get_or pairs j d).0 (subset-agree_on s (plus x by) (get_or pairs i d).0 (get_or pairs j d).0 sub)).0;
     none = λ z. held_in s x by t from wide column (HoldsInBelow-tested s from (plus x by) t below)
-        (λ g h. p.uniform z g (subst (Listed g) (sym (take_all k groups (done z))) (subst (Listed g) (sym e) h)));
+        (λ g h. p.uniform z g (subst (Listed g) (sym (take_all k groups (done z))) (e.kept g h)));
   }

@@ -4,12 +4,13 @@ use Rattle.std.specs.List.{All}
 use Rattle.col_set.specs.ColSet.{Columns, has, with, empty}
 use Rattle.rel_base.specs.CodeTable.{CodeTable}
 use Rattle.stripped_partition.specs.Stripped.{stripped, error_of}
+use Rattle.stripped_partition.specs.AnyOrder.{AreGroupsBy}
 use Rattle.validator.specs.declared.shelf.TheConstants.{UNKNOWN}
 use Rattle.validator.specs.declared.shelf.Kept.{Kept}
 
--- it is the stripped partition by its columns
-abbrev pub IsKept : CodeTable → Kept → Type 0
-IsKept s kept = kept.partition.value ≡ stripped s kept.columns
+-- its groups are those by its columns, in any order
+unfoldable pub IsKept : CodeTable → Kept → Type 0
+IsKept s kept = AreGroupsBy s kept.columns kept.partition.value
 
 abbrev pub AreKept : CodeTable → List Kept → Type 0
 AreKept s kept = All (IsKept s) kept

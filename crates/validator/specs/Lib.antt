@@ -4,3 +4,4 @@ pub mod Kept
 pub mod Asking
 pub mod Chains
 pub mod Links
+pub mod Stores

@@ -6,9 +6,11 @@ mod judge;
 mod links;
 mod newer;
 mod old_groups;
+mod order;
 mod refined;
 mod shelf;
 mod store;
+mod stores;
 #[cfg(test)]
 mod tests;
 mod verdict;
@@ -16,5 +18,7 @@ mod walk;
 
 pub use judge::validate;
 pub use old_groups::OldGroups;
+pub use order::Order;
 pub use store::Store;
+pub use stores::{Stores, violations};
 pub use verdict::Verdict;

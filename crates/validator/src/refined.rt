@@ -2,6 +2,7 @@
 ghost use Rattle.std.specs.Prelude.{◌≡◌, ◌<◌, ◌^◌, length, IfOk};
 ghost use Rattle.std.specs.Option.{ForSome};
 ghost use Rattle.stripped_partition.specs.Stripped.{stripped};
+ghost use Rattle.stripped_partition.specs.AnyOrder.{AreGroupsBy};
 ghost use Rattle.validator.specs.Walk.{plus};
 
 use col_set::ColSet;
@@ -24,7 +25,7 @@ pub(crate) fn all_but_one(
     columns: ColSet,
 ) -> Result<Refined, AllocError>
     requires { columns < 2 ^ length snapshot.now.codes }
-    ensures partition { IfOk result (λ r. r.partition ≡ stripped snapshot.now r.columns) }
+    ensures partition { IfOk result (λ r. AreGroupsBy snapshot.now r.columns r.partition) }
     ensures columns { IfOk result (λ r. plus r.columns r.by ≡ columns) }
     ensures by { IfOk result (λ r. ForSome r.by (λ column. column < length snapshot.now.codes)) }
 {

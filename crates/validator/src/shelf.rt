@@ -3,7 +3,8 @@ ghost use Rattle.std.specs.Prelude.{◌≡◌, ◌<◌, ◌≤◌, ◌+◌, ◌^
 ghost use Rattle.std.specs.Option.{ForSome};
 ghost use Rattle.col_set.specs.ColSet.{has, subset, union, with, empty};
 ghost use Rattle.rel_base.specs.CodeTable.{CodeTable};
-ghost use Rattle.validator.specs.Kept.{AreKept, AreWeights, AreKnown, weight_of};
+ghost use Rattle.stripped_partition.specs.AnyOrder.{AreGroupsBy};
+ghost use Rattle.validator.specs.Kept.{IsKept, AreKept, AreWeights, AreKnown, weight_of};
 ghost use Rattle.validator.specs.Asking.{IsAsked};
 ghost use Rattle.validator.specs.Verdicts.{AreFound, new_rows};
 ghost use Rattle.validator.specs.Walk.{IsClear, plus};
@@ -53,9 +54,11 @@ pub(crate) struct Kept {
 }
 
 impl Kept {
+    // The partition by these columns, as it is kept.
     fn of(alloc: Global, partition: Partition, columns: ColSet) -> Result<Kept, AllocError>
         ensures partition { IfOk result (λ kept. kept.partition.value ≡ partition) }
         ensures columns { IfOk result (λ kept. kept.columns ≡ columns) }
+        ensures kept { IfOk result (λ kept. (s : CodeTable) → AreGroupsBy s columns partition → IsKept s kept) }
     {
         let rows = rows_of(&partition);
         let partition = Arc::new(alloc, partition)?;
@@ -68,8 +71,7 @@ impl Kept {
 
     // One more owner of the same partition.
     fn shared(&self) -> Result<Kept, AllocError>
-        ensures partition { IfOk result (λ kept. kept.partition.value ≡ self.now.partition.value) }
-        ensures columns { IfOk result (λ kept. kept.columns ≡ self.now.columns) }
+        ensures { IfOk result (λ kept. (s : CodeTable) → IsKept s self.now → IsKept s kept) }
     {
         Ok(Kept {
             partition: self.partition.clone()?,
@@ -146,6 +148,7 @@ fn push_refined(
     snapshot: &Snapshot,
     kept: &mut Vec<Kept>,
     slots: &mut Vec<u32>,
+    codes: &mut Vec<u32>,
     k: usize,
     column: u8,
 ) -> Result<(), AllocError>
@@ -161,12 +164,15 @@ fn push_refined(
 {
     let entry = &kept[k];
     let columns = entry.columns.with(column);
-    let partition = entry.partition.refine_in(alloc, snapshot, column, slots)?;
+    let partition = entry
+        .partition
+        .refine_unordered(alloc, snapshot, column, slots, codes)?;
     kept.push(Kept::of(alloc, partition, columns)?)?;
     Ok(())
 }
 
 // Keeps the partition by a column, and answers its weight.
+#[tactic(auto, using(stripped_partition::proofs::Refining::in_its_order))]
 fn push_column(
     alloc: Global,
     snapshot: &Snapshot,
@@ -187,6 +193,7 @@ fn push_column(
 }
 
 // Keeps the partition by no column.
+#[tactic(auto, using(stripped_partition::proofs::Refining::in_its_order))]
 fn push_all(alloc: Global, snapshot: &Snapshot, kept: &mut Vec<Kept>) -> Result<(), AllocError>
     requires { AreKept snapshot.now kept.old.items }
     ensures kept { AreKept snapshot.now kept.new.items }
@@ -258,6 +265,7 @@ fn refine_kept(
     kept: &mut Vec<Kept>,
     weights: &[u32; COLUMN_PLACES],
     slots: &mut Vec<u32>,
+    codes: &mut Vec<u32>,
     base: usize,
     columns: ColSet,
 ) -> Result<(usize, Option<u8>), AllocError>
@@ -279,7 +287,7 @@ fn refine_kept(
         }
         let column = lightest(left, first, weights);
         let next = kept.len();
-        push_refined(alloc, snapshot, kept, slots, k, column)?;
+        push_refined(alloc, snapshot, kept, slots, codes, k, column)?;
         k = next;
         left = left.without(column);
     }
@@ -359,6 +367,7 @@ impl Shelf {
         snapshot: &Snapshot,
         asked: &Asked,
         slots: &mut Vec<u32>,
+        codes: &mut Vec<u32>,
         steps: &mut Steps<L>,
     ) -> Result<Vec<(RowNo, RowNo)>, AllocError>
         requires asked { IsAsked snapshot.now asked.now }
@@ -376,7 +385,7 @@ impl Shelf {
             self.weigh(alloc, snapshot, asked.left)?;
         }
         self.shorten_path(asked.left);
-        let found = self.search_kept(alloc, snapshot, asked, slots, steps);
+        let found = self.search_kept(alloc, snapshot, asked, slots, codes, steps);
         self.settle();
         found
     }
@@ -467,6 +476,7 @@ impl Shelf {
         snapshot: &Snapshot,
         asked: &Asked,
         slots: &mut Vec<u32>,
+        codes: &mut Vec<u32>,
         steps: &mut Steps<L>,
     ) -> Result<Vec<(RowNo, RowNo)>, AllocError>
         requires asked { IsAsked snapshot.now asked.now }
@@ -487,6 +497,7 @@ impl Shelf {
             &mut self.kept,
             &self.order,
             slots,
+            codes,
             base,
             rest,
         )?;

@@ -35,7 +35,11 @@ const FEW_ROWS: u32 = 1000;
 /// a row: each refines behind the columns that it shares with the one before, and nothing where the left side is the same.
 ///
 /// The path comes on top of the room. It has at most one partition for each number of columns up to that of the left side, and
-/// most of them have few rows.
+/// most of them have few rows. So do a slot for each code and the codes of the rows of the largest partition that was refined, 4
+/// bytes each, which stay so that no verdict makes them anew.
+///
+/// The groups of kept partitions stand in no order, since no verdict wants one: to put many of them in order takes half the time of
+/// making them.
 ///
 /// Where the new rows of a job are few, they are looked up one by one and no group is made: each new row is compared with the last
 /// row before it in its group, found among the rows with its code in the lightest column of the left side, which are linked. The
@@ -48,6 +52,7 @@ pub struct Store {
     snapshot: Arc<Snapshot>,
     shelf: Shelf,
     slots: Vec<u32>,
+    codes: Vec<u32>,
     links: Vec<Link>,
     earlier: Option<Arc<Snapshot>>,
     room: usize,
@@ -77,6 +82,7 @@ impl Store {
             snapshot,
             shelf: Shelf::of(alloc, rows, room, no_weights()),
             slots: Vec::new(alloc),
+            codes: Vec::new(alloc),
             links: Vec::new(alloc),
             earlier: None,
             room,
@@ -96,6 +102,7 @@ impl Store {
             snapshot,
             shelf,
             slots: Vec::new(alloc),
+            codes: Vec::new(alloc),
             links: Vec::new(alloc),
             earlier: None,
             room,
@@ -275,7 +282,8 @@ impl Store {
         ensures store { self.new ≡ self.old }
     {
         let shelf = &mut self.shelf;
-        let found = shelf.search(alloc, &self.snapshot, asked, &mut self.slots, steps);
+        let (slots, codes) = (&mut self.slots, &mut self.codes);
+        let found = shelf.search(alloc, &self.snapshot, asked, slots, codes, steps);
         if found.is_err() {
             self.slots = Vec::new(alloc);
         }

@@ -7,10 +7,10 @@ ghost use Rattle.validator.specs.Verdicts.{IsFitting};
 mod sample;
 
 use self::sample::{COLUMNS, ROWS, Sample, drawn};
-use crate::{Store, Verdict, validate};
+use crate::{Order, Store, Stores, Verdict, validate, violations};
 use col_set::{ColSet, Target};
 use plain_base::Samples;
-use rel_base::{Job, MOST_COLUMNS, RowNo, Steps};
+use rel_base::{COLUMN_PLACES, Job, MOST_COLUMNS, RowNo, Steps};
 use std::alloc::{AllocError, Global};
 use std::marker::Brand;
 use std::process::Abort;
@@ -187,6 +187,57 @@ fn compare_left_sides(
     let _old = store.renew(alloc, sample.snapshot.clone()?);
     compare_turns(alloc, rt, sample, store, (48, 64))?;
     assert!(rt; sample.weighs(&store.weights(alloc)?));
+    Ok(())
+}
+
+// Whether the first column determines the second one, as a store tells that was lent.
+fn is_determined(
+    alloc: Global,
+    rt: &impl Abort,
+    sample: &Sample,
+    store: &mut Store,
+) -> Result<bool, AllocError>
+    requires { store.old ≡ sample.now.snapshot.value }
+    ensures { store.new ≡ store.old }
+{
+    let (first, to) = (ColSet::empty().with(0), RowNo::of(ROWS + 2));
+    let snapshot = sample.snapshot.clone()?;
+    let job = Job::of(Target::Col(1), first, RowNo::of(1), to, snapshot);
+    assert!(rt; is_fitting(&job));
+    let pairs = violations::<Brand>(store, alloc, &job, 2, Blank::new(1))?;
+    assert!(rt; are_right(sample, &job, pairs.as_slice()));
+    Ok(pairs.is_empty())
+}
+
+#[test]
+fn stores_of_one_snapshot_are_lent_and_taken_back(rt: HostRuntime) -> Result<(), Fail> {
+    let alloc = rt.alloc();
+    let sample = drawn(alloc, &rt, &mut Samples::from_seed(2019))?;
+    let mut stores = Stores::of(alloc, &sample.snapshot)?;
+    let wanted = is_determined(alloc, &rt, &sample, &mut stores.own)?;
+    stores.spread(alloc, 3)?;
+    assert!(rt; stores.others.len() == 2);
+    let lent = stores.lend(alloc, &sample.snapshot, 4)?;
+    assert!(rt; lent.len() == 4 && lent[2].is_some() && lent[3].is_none());
+    assert!(rt; stores.others.is_empty());
+    stores.take_back(alloc, &sample.snapshot, lent)?;
+    assert!(rt; stores.others.len() == 2);
+    assert!(rt; is_determined(alloc, &rt, &sample, &mut stores.own)? == wanted);
+    let _old = stores.renew(alloc, sample.snapshot.clone()?);
+    assert!(rt; stores.others.is_empty());
+    Ok(())
+}
+
+#[test]
+fn light_columns_have_the_first_places(rt: HostRuntime) -> Result<(), Fail> {
+    let mut weights = [9; COLUMN_PLACES];
+    weights[3] = 1;
+    weights[1] = 4;
+    let order = Order::of(&weights);
+    let both = ColSet::empty().with(1).with(3);
+    assert!(rt; order.places_of(both) == ColSet::empty().with(0).with(1));
+    assert!(rt; order.places_of(ColSet::empty().with(3)) == ColSet::empty().with(0));
+    assert!(rt; order.places_of(ColSet::empty().with(0)) == ColSet::empty().with(2));
     Ok(())
 }
 

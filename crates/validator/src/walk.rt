@@ -6,7 +6,7 @@ ghost use Rattle.std.specs.List.Sorted.{IsStrictlyIncreasing};
 ghost use Rattle.col_set.specs.ColSet.{Columns};
 ghost use Rattle.col_set.specs.Target.{has_target, IsColumnTarget};
 ghost use Rattle.rel_base.specs.Shows.{code_agree, holds_in_below};
-ghost use Rattle.stripped_partition.specs.Stripped.{stripped, IsPartitionOf};
+ghost use Rattle.stripped_partition.specs.AnyOrder.{AreGroupsBy, AreGroupsOf};
 ghost use Rattle.validator.specs.Verdicts.{AreFound, new_rows};
 ghost use Rattle.validator.specs.Walk as walks;
 ghost use Rattle.validator.specs.Walk.{plus, IsCompared, IsClear, IsClearBut};
@@ -236,12 +236,12 @@ pub(crate) fn pairs_in_groups<L: Ledger>(
     slots: &mut Vec<u32>,
     steps: &mut Steps<L>,
 ) -> Result<Vec<(RowNo, RowNo)>, AllocError>
-    requires of { IsPartitionOf snapshot.now partition.now }
+    requires of { AreGroupsOf snapshot.now partition.now }
     requires target { IsColumnTarget (length snapshot.now.codes) question.now.target }
     requires column { ForSome question.now.by (λ column. column < length snapshot.now.codes) }
     requires some { 0 < question.now.most }
     requires clear { IsClear slots.old.items }
-    ensures pairs { IfOk result (λ pairs. (x : Columns) → partition.now ≡ stripped snapshot.now x → holds_in_below question.now.from snapshot.now (plus x question.now.by) question.now.target ≡ true → AreFound snapshot.now (plus x question.now.by) question.now.target pairs.items) }
+    ensures pairs { IfOk result (λ pairs. (x : Columns) → AreGroupsBy snapshot.now x partition.now → holds_in_below question.now.from snapshot.now (plus x question.now.by) question.now.target ≡ true → AreFound snapshot.now (plus x question.now.by) question.now.target pairs.items) }
     ensures few { IfOk result (λ pairs. vec_len pairs ≤ question.now.most) }
     ensures clear { OnOk result (IsClear slots.new.items) }
     ensures steps { steps.new ≤ steps.old + new_rows snapshot.now question.now.from }

@@ -1,8 +1,9 @@
 // The covers of relations that are drawn, before and after batches, against the plain programs.
 use super::{apply, finish};
+use crate::waiting::worth_comparing;
 use crate::{Applying, Book, Settling};
 use plain_base::{PlainRows, Samples, are_as_wide, relation_of};
-use rel_base::{Batch, Covers, Limits, Nulls, Relation};
+use rel_base::{Batch, Covers, Limits, Nulls, Op, Relation};
 use std::alloc::{AllocError, Global};
 use std::process::Abort;
 use std::test::Fail;
@@ -12,9 +13,20 @@ const COLUMNS: usize = 4;
 
 // The relation of this seed.
 pub(super) fn relation(rt: &impl Abort, alloc: Global, seed: u64) -> Result<Relation, AllocError> {
+    wide_relation(rt, alloc, seed, 6, COLUMNS)
+}
+
+// The relation of this seed with so many rows and columns.
+fn wide_relation(
+    rt: &impl Abort,
+    alloc: Global,
+    seed: u64,
+    rows: usize,
+    columns: usize,
+) -> Result<Relation, AllocError> {
     let mut samples = Samples::from_seed(seed);
-    let names = samples.row(alloc, COLUMNS)?;
-    let relation = relation_of(names, samples.rows(alloc, 6, COLUMNS)?);
+    let names = samples.row(alloc, columns)?;
+    let relation = relation_of(names, samples.rows(alloc, rows, columns)?);
     assert!(rt; relation.is_some());
     Ok(relation.unwrap())
 }
@@ -109,6 +121,43 @@ static CASES: [(u64, Nulls); 4] = [
 fn covers_are_those_of_the_plain_programs(rt: HostRuntime) -> Result<(), Fail> {
     for case in &CASES {
         open_and_follow(&rt, rt.alloc(), case.0, case.1)?;
+    }
+    Ok(())
+}
+
+// Columns and rows of a relation with so many candidates that a new row is compared with all.
+const MANY_COLUMNS: usize = 9;
+
+const MANY_ROWS: usize = 10;
+
+// Inserts a row into both, and tells whether it is worth comparing with all rows.
+fn insert_drawn(
+    rt: &impl Abort,
+    alloc: Global,
+    book: &mut Book,
+    rows: &mut PlainRows,
+    samples: &mut Samples,
+) -> Result<bool, AllocError> {
+    let row = samples.row(alloc, MANY_COLUMNS)?;
+    let batch = Batch::of(vec![in alloc; Op::Insert(row)]?);
+    change(rt, alloc, book, rows, &batch)?;
+    let next = book.rows().next();
+    Ok(worth_comparing(alloc, book.candidates(), next)?.is_some())
+}
+
+#[test]
+fn few_new_rows_are_compared_with_all(rt: HostRuntime) -> Result<(), Fail> {
+    let (alloc, limits) = (rt.alloc(), Limits::standard());
+    for seed in 21..23 {
+        let read = wide_relation(&rt, alloc, seed, MANY_ROWS, MANY_COLUMNS)?;
+        let again = wide_relation(&rt, alloc, seed, MANY_ROWS, MANY_COLUMNS)?;
+        let mut book = Book::open(alloc, read, limits)?;
+        let mut rows = PlainRows::opened(alloc, Nulls::Equal, limits, again)?;
+        let mut samples = Samples::from_seed(seed + 100);
+        compare(&rt, alloc, &mut book, &rows)?;
+        let is_worth_it = insert_drawn(&rt, alloc, &mut book, &mut rows, &mut samples)?;
+        assert!(&rt; is_worth_it, "seed {seed}");
+        compare(&rt, alloc, &mut book, &rows)?;
     }
     Ok(())
 }

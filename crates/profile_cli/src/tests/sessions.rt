@@ -76,7 +76,7 @@ pub static BATCHES: [Case<'static>; 8] = [
     },
 ];
 
-pub static REPORTS: [Case<'static>; 4] = [
+pub static REPORTS: [Case<'static>; 5] = [
     Case {
         words: WORDS,
         files: K,
@@ -125,6 +125,24 @@ pub static REPORTS: [Case<'static>; 4] = [
             "relation,k.csv,2,2\n",
             K_HEAD,
             "key,1\nkey,2\nfd,2,1\nfd,1,2\nind,1.1,1.2\n",
+        ],
+        tables: &[],
+        status: 0,
+    },
+    Case {
+        words: WORDS,
+        files: &[("k.csv", "k,v\n1,2\n2,2\n")],
+        input: "?\n-,2\n!\n?\n+,2,1\n!\n?\n=,3,2,3\n!\n?\n",
+        text: &[
+            "relation,k.csv,2,2\n",
+            K_HEAD,
+            "key,1\nfd,,2\nind,1.2,1.1\napplied,1,0,1,1\nrelation,k.csv,2,1\n",
+            K_HEAD,
+            "key,\nfd,,1\nfd,,2\napplied,2,1,0,2\nrelation,k.csv,2,2\n",
+            K_HEAD,
+            "key,1\nkey,2\nfd,2,1\nfd,1,2\nind,1.1,1.2\nind,1.2,1.1\napplied,3,1,1,2\nrelation,k.csv,2,2\n",
+            K_HEAD,
+            "key,1\nkey,2\nfd,2,1\nfd,1,2\n",
         ],
         tables: &[],
         status: 0,

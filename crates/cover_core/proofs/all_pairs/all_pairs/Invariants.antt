@@ -1,6 +1,5 @@
-use Rattle.std.proofs.Common.{take}
-use Rattle.cover_core.specs.AllPairs.{AreSeen, HaveCompared}
+use Rattle.cover_core.specs.AllPairs.{AreSeen, AreComparedBelow}
 use Rattle.cover_core.proofs.all_pairs.all_pairs.Given as goal
 
-abbrev pub invariant-loop-second : goal.invariant-loop-second
-invariant-loop-second l = AreSeen l.seen.keys l.found.items × HaveCompared l.from l.second-items (take l.second-index l.second-items) l.found.items
+abbrev pub invariant-loop-number : goal.invariant-loop-number
+invariant-loop-number l = AreSeen l.seen.keys l.found.items × AreComparedBelow l.snapshot l.fn.from l.number l.found.items

@@ -2,7 +2,7 @@ use Rattle.std.proofs.Common.{ℕ, ◌<◌, ◌∙◌, List, refl, sym, ap₂, s
 use Rattle.std.proofs.lemmas.Bool.{not-false, MatchBool-at_true}
 use Rattle.col_set.specs.Lists.{Listed}
 use Rattle.agree_sets.specs.Agreement.{agree_set}
-use Rattle.cover_core.specs.declared.evidence.Evidence.{Evidence}
+use Rattle.negative_cover.specs.declared.negative_cover.Witness.{Witness as Evidence}
 use Rattle.cover_core.specs.AllPairs.{found_sets, AreSeen}
 use Rattle.cover_core.proofs.AllPairs.{seen_at, seen_more, compared_known, compared_new}
 use Rattle.cover_core.proofs.all_pairs.compare.Goals as goal

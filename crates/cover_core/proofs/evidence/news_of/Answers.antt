@@ -9,7 +9,7 @@ use Rattle.col_set.proofs.Places.{Contains-listed, Listed-contained}
 use Rattle.negative_cover.specs.declared.negative_cover.Witness.{Witness}
 use Rattle.candidate_cover.specs.Cands.{width}
 use Rattle.candidate_cover.specs.Drafts.{is_news}
-use Rattle.cover_core.specs.declared.evidence.Evidence.{Evidence}
+use Rattle.negative_cover.specs.declared.negative_cover.Witness.{Witness as Evidence}
 use Rattle.cover_core.specs.Evidences.{IsEvidence, IsNews}
 use Rattle.cover_core.proofs.Evidences.{All-front, All-back, All-permuted, news_none, same_option, popped, emptied}
 use Rattle.cover_core.proofs.Putting.{none_left}
@@ -20,7 +20,7 @@ loop-evidence-init c = (
   (λ r a. (
     All-permuted (IsEvidence r) c.args.found.items c.sort_unstable.new.self.items c.sort_unstable.ensures.permutation a,
     subst (λ (more : List Witness). IsNews r (width c.args.candidates.now) c.args.witnesses.now more c.in_ok-draft.draft) (sym c.new-more.ensures.items)
-        (news_none r (width c.args.candidates.now) c.args.witnesses.now c.in_ok-draft.draft (c.in_ok-draft.ensures ∙ (λ i. record { width = width c.args.candidates.now; agree_sets = c.in_ok-sets_of.ensures i }))),
+        (news_none r (width c.args.candidates.now) c.args.witnesses.now c.in_ok-draft.draft (c.in_ok-draft.ensures ∙ (λ i. record { width = width c.args.candidates.now; agree_sets = c.in_ok-agree_sets.ensures i }))),
   )),
   (λ e h. inl (Listed-contained e c.sort_unstable.new.self.items (Contains-permutation c.args.found.items c.sort_unstable.new.self.items e c.sort_unstable.ensures.permutation (Contains-listed e c.args.found.items h)))),
   (λ a e. absurd (none-some a e)),

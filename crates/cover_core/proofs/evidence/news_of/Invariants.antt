@@ -4,7 +4,7 @@ use Rattle.col_set.specs.Lists.{Listed}
 use Rattle.rel_base.specs.RowState.{RowState}
 use Rattle.candidate_cover.specs.Cands.{width}
 use Rattle.candidate_cover.specs.Drafts.{is_news}
-use Rattle.cover_core.specs.declared.evidence.Evidence.{Evidence}
+use Rattle.negative_cover.specs.declared.negative_cover.Witness.{Witness as Evidence}
 use Rattle.cover_core.specs.Evidences.{IsEvidence, IsNews}
 use Rattle.cover_core.proofs.evidence.news_of.Given as goal
 

@@ -1,11 +1,10 @@
-use Rattle.std.proofs.Common.{◌∙◌, ◌++◌, ◌∷◌, [], sym, ap}
-use Rattle.negative_cover.specs.declared.negative_cover.Witness.{Witness}
+use Rattle.std.proofs.Common.{◌∙◌, sym}
 use Rattle.cover_core.proofs.Evidences.{news_more, noted_told, noted_kept}
 use Rattle.cover_core.proofs.evidence.noted.Goals as goal
 
 pub returns-clause-news : goal.returns-clause-news
-returns-clause-news c = λ r n ws is k. news_more r n ws c.args.more.now.items c.push.new.self.items c.args.draft c.in_ok-grown.grown (record { i = c.args.evidence.i; j = c.args.evidence.j; agree = c.args.evidence.agree }) k (sym c.is_news.ensures ∙ c.if-not-is_news.false) is c.in_ok-grown.ensures
-    (c.in_ok-push.ensures.items ∙ ap (λ (v : Witness). c.args.more.now.items ++ v ∷ []) c.witness.ensures)
+returns-clause-news c = λ r n ws is k. news_more r n ws c.args.more.now.items c.push.new.self.items c.args.draft c.in_ok-grown.grown c.args.evidence k (sym c.is_news.ensures ∙ c.if-not-is_news.false) is c.in_ok-grown.ensures
+    c.in_ok-push.ensures.items
 
 pub returns-clause-told : goal.returns-clause-told
 returns-clause-told c = noted_told c.args.draft c.in_ok-grown.grown c.args.evidence.agree c.in_ok-grown.ensures

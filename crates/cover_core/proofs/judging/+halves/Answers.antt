@@ -3,7 +3,7 @@ use Rattle.std.specs.List.{All}
 use Rattle.std.proofs.lemmas.List.Elements.{All-append}
 use Rattle.cover_core.specs.Evidences.{IsEvidence}
 use Rattle.cover_core.specs.Judged.{IsHeld}
-use Rattle.cover_core.specs.declared.evidence.Evidence.{Evidence}
+use Rattle.negative_cover.specs.declared.negative_cover.Witness.{Witness as Evidence}
 use Rattle.cover_core.specs.declared.waiting.Waiting.{Waiting}
 use Rattle.cover_core.proofs.judging.+halves.Goals as goal
 

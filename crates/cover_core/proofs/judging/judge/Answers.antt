@@ -7,17 +7,17 @@ use Rattle.cover_core.proofs.JobVerdicts.{asked-fitting, asked-held}
 use Rattle.cover_core.proofs.Putting.{none_left}
 use Rattle.cover_core.proofs.judging.judge.Goals as goal
 
-pub violations_on-requires-clause-name : goal.violations_on-requires-clause-name
-violations_on-requires-clause-name c = refl
+pub violations-requires-clause-name : goal.violations-requires-clause-name
+violations-requires-clause-name c = refl
 
-pub violations_on-requires-clause-parts : goal.violations_on-requires-clause-parts
-violations_on-requires-clause-parts c = refl
+pub violations-requires-clause-parts : goal.violations-requires-clause-parts
+violations-requires-clause-parts c = refl
 
-pub violations_on-requires-clause-some : goal.violations_on-requires-clause-some
-violations_on-requires-clause-some c = let e = c.new.ensures in omega (arith, e)
+pub violations-requires-clause-some : goal.violations-requires-clause-some
+violations-requires-clause-some c = let e = c.new.ensures in omega (arith, e)
 
-pub violations_on-requires-clause-fitting : goal.violations_on-requires-clause-fitting
-violations_on-requires-clause-fitting c = asked-fitting c.args.rows.now c.args.snapshot.now.value c.args.waiting c.next.result c.next.ensures.value c.of-job.result
+pub violations-requires-clause-fitting : goal.violations-requires-clause-fitting
+violations-requires-clause-fitting c = asked-fitting c.args.rows.now c.args.snapshot.now.value c.args.waiting c.next.result c.next.ensures.value c.of-job.result
     (record { target = c.of-job.ensures.target; left = c.of-job.ensures.left; from = c.of-job.ensures.from; to = c.of-job.ensures.to; shared = c.of-job.ensures.snapshot ∙ c.in_ok-clone.ensures.cases }) c.requires.asked
 
 pub returns-then-is_empty-clause-held : goal.returns-then-is_empty-clause-held

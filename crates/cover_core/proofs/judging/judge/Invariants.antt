@@ -1,4 +1,4 @@
 use Rattle.cover_core.proofs.judging.judge.Given as goal
 
-abbrev pub ghosts-violations_on : goal.ghosts-violations_on
-ghosts-violations_on a = record { name = a.blank.name; parts = a.blank.parts }
+abbrev pub ghosts-violations : goal.ghosts-violations
+ghosts-violations a = record { name = a.blank.name; parts = a.blank.parts }

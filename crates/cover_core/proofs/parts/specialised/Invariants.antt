@@ -1,7 +1,7 @@
 use Rattle.std.proofs.Common.{ℕ, List, [], ◌∷◌, ◌++◌}
 use Rattle.candidate_cover.specs.Cands.{width}
 use Rattle.candidate_cover.specs.Drafts.{AreLeast}
-use Rattle.cover_core.specs.Concerning.{AreConcerned}
+use Rattle.negative_cover.specs.Concerning.{AreConcerned}
 use Rattle.cover_core.proofs.Putting.{ArePartsSoFar}
 use Rattle.cover_core.proofs.parts.specialised.Given as goal
 

@@ -1,7 +1,7 @@
 use Rattle.std.proofs.Common.{◌∙◌, ap, subst, List, ℕ}
 use Rattle.candidate_cover.specs.Cands.{width}
 use Rattle.negative_cover.specs.Witnesses.{sets_of, live_of}
-use Rattle.cover_core.specs.EndedRows.{ended}
+use Rattle.negative_cover.specs.EndedRows.{ended}
 use Rattle.cover_core.specs.NewLists.{AreParts}
 use Rattle.cover_core.proofs.Calls.{AreLeast-parted}
 use Rattle.cover_core.proofs.Ending.{live_of-permuted}

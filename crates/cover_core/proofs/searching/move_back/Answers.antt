@@ -2,7 +2,7 @@ use Rattle.std.proofs.Common.{◌≡◌, ◌<◌, sym, refl, subst, arith, below
 use Rattle.std.specs.List.{find}
 use Rattle.col_set.specs.declared.target.Target.TheVariants.{Col, RowId}
 use Rattle.candidate_cover.specs.Cands.{cands_of}
-use Rattle.cover_core.specs.Concerning.{concerns}
+use Rattle.negative_cover.specs.Concerning.{concerns}
 use Rattle.cover_core.specs.Past.{rank, IsPast}
 use Rattle.cover_core.proofs.Back.{if-none, if-some, back-row, back-column, stays-back}
 use Rattle.cover_core.proofs.searching.move_back.Goals as goal

@@ -4,11 +4,17 @@ use Rattle.col_set.specs.ColSet.{with}
 use Rattle.col_set.specs.Subsets.{has_within}
 use Rattle.col_set.proofs.EachColumn.{first-Some}
 use Rattle.stripped_partition.specs.Stripped.{stripped}
+use Rattle.stripped_partition.proofs.Refining.{in_its_order}
 use Rattle.validator.proofs.Refinements.{no_columns, with-without}
 use Rattle.validator.proofs.refined.all_but_one.Goals as goal
 
 pub returns-in_default-clause-partition : goal.returns-in_default-clause-partition
-returns-in_default-clause-partition c = c.in_ok-of_all.ensures.value ∙ ap (stripped c.args.snapshot.now) (sym (no_columns c.args.columns c.in_default.ensures.value))
+returns-in_default-clause-partition c =
+    in_its_order c.args.snapshot.now c.args.columns _
+    (c.in_ok-of_all.ensures.value ∙ ap (stripped c.args.snapshot.now) (sym (no_columns c.args.columns c.in_default.ensures.value)))
+
+pub returns-clause-partition : goal.returns-clause-partition
+returns-clause-partition c = in_its_order c.args.snapshot.now c.without-wanted.result _ c.in_ok-partition.ensures
 
 pub by_each-requires : goal.by_each-requires
 by_each-requires c =

@@ -1,12 +1,14 @@
 use Rattle.std.proofs.Common.{◌∙◌, sym, ap, subst, List, ℕ}
 use Rattle.rel_base.specs.Batches.{after}
+use Rattle.rel_base.specs.CodeTable.{CodeTable}
+use Rattle.validator.specs.Stores.{AreOf}
 use Rattle.negative_cover.specs.Witnesses.{live_of}
 use Rattle.row_log.specs.declared.applying.Applying.{Applying}
 use Rattle.cover_steps.specs.Core.{Core}
 use Rattle.cover_steps.specs.Steps as steps
 use Rattle.cover_core.specs.Kept.{IsBook}
 use Rattle.cover_core.specs.Replies.{reply_of_batch}
-use Rattle.cover_core.specs.EndedRows.{ended}
+use Rattle.negative_cover.specs.EndedRows.{ended}
 use Rattle.cover_core.proofs.Ending.{live_of-permuted}
 use Rattle.cover_core.proofs.Whole.{ApplyAll, apply-all}
 use Rattle.cover_core.proofs.Cursors.{past-both, to_search, searched}
@@ -24,7 +26,7 @@ pub invariant_of-self-in-Ok : goal.invariant_of-self-in-Ok
 invariant_of-self-in-Ok c =
     let w = searched (record { rows = c.apply-answer.new.self; witnesses = c.withdraw.new.self; candidates = c.put_all-lists.new.candidates }) _ (all c).kept c.next-next.result c.start-self-inside.result c.first_unfinished-self-inside.new.cursor c.first_unfinished-self-inside.result c.next-next.ensures.value (past-both _ c.start-self-inside.result c.start-self-inside.ensures.unfinished c.start-self-inside.ensures.drawable) c.first_unfinished-self-inside.ensures.past c.first_unfinished-self-inside.ensures.found in (
       subst (λ snapshot. IsBook (record { rows = c.apply-answer.new.self; witnesses = c.withdraw.new.self; candidates = c.put_all-lists.new.candidates }) snapshot.value) (sym c.replace-snapshot.ensures.after) (all c).kept,
-      c.renew-groups.ensures ∙ c.in-Ok.ensures.shared ∙ sym (ap (λ snapshot. snapshot.value) c.replace-snapshot.ensures.after),
+      subst (λ (t : CodeTable). AreOf t c.renew-groups.new.self) (c.in-Ok.ensures.shared ∙ sym (ap (λ snapshot. snapshot.value) c.replace-snapshot.ensures.after)) c.renew-groups.ensures,
       w.past,
       w.first,
     )

@@ -1,7 +1,7 @@
 use Rattle.std.proofs.Common.{◌∙◌, ℕ, sym, refl, subst}
 use Rattle.std.proofs.lemmas.Bool.{false≢true}
 use Rattle.negative_cover.specs.Witnesses.{sets_of}
-use Rattle.cover_core.specs.Concerning.{AreConcerned}
+use Rattle.negative_cover.specs.Concerning.{AreConcerned}
 use Rattle.cover_core.proofs.Calls.{are_least}
 use Rattle.cover_core.proofs.Concerning.{known-found, news-found, same-unconcerned, renewed-width}
 use Rattle.cover_core.proofs.Whole.{refute-all, live-found}

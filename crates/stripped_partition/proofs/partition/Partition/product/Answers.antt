@@ -1,11 +1,12 @@
 use Rattle.std.proofs.Common.{◌≡◌, ◌≤◌, ℕ, List, length, map, zip, slice_index_or, sym, ap, ap₂, ◌∙◌, subst, subst₂, arith}
 use Rattle.std.specs.List.{flat_map}
 use Rattle.std.proofs.lemmas.List.{length-map}
+use Rattle.col_set.specs.ColSet.{union}
 use Rattle.stripped_partition.specs.Groups.{cut, IsCut, IsFlat}
 use Rattle.stripped_partition.specs.Codes.{IsTable}
 use Rattle.stripped_partition.specs.Splits.{parts}
 use Rattle.stripped_partition.proofs.Cuts.{length-cut, few_ends}
-use Rattle.stripped_partition.proofs.Refining.{split_cut, multiplied, same_flat}
+use Rattle.stripped_partition.proofs.Refining.{in_its_order, put_in_order, split_cut, multiplied, same_flat}
 use Rattle.stripped_partition.proofs.partition.Partition.product.Goals as goal
 
 -- the places that were gathered
@@ -38,12 +39,13 @@ returns c s x y e f =
     let rows = c.self.inside.rows.items in let ends = c.self.inside.ends.items in
     let theirs = cut 0 c.other.inside.rows.items c.other.inside.ends.items in
     let n : c.len.result ≡ length c.other.inside.ends.items = (let l = c.len.ensures in omega (arith, c.other.inside.ends.ok.0)) in
-    multiplied s x rows ends c.self.invariant (c.self.view_is ∙ e) y 4294967295 c.in_ok-table.table.items theirs (c.other.view_is ∙ f)
+    put_in_order s (union x y) (cut 0 c.in_ok-groups.groups.rows.items c.in_ok-groups.groups.ends.items) (cut 0 c.in_ok-rows.field-0.rows.items c.in_ok-rows.field-0.ends.items)
+    (multiplied s x rows ends c.self.invariant (in_its_order s x (cut 0 rows ends) (c.self.view_is ∙ e)) y 4294967295 c.in_ok-table.table.items theirs (c.other.view_is ∙ f)
     (few c.other.inside.rows.items c.other.inside.ends.items c.other.invariant)
     (tabled c.other.inside.rows.items c.deref.result.now c.other.inside.ends.items c.deref-2.result.now c.in_ok-table.table.items c.deref.ensures.value c.deref-2.ensures.value c.in_ok-table.ensures)
-    c.in_ok-codes.codes.items c.in_ok-groups.groups.rows.items c.in_ok-groups.groups.ends.items (cut 0 c.in_ok-rows.field-0.rows.items c.in_ok-rows.field-0.ends.items)
+    c.in_ok-codes.codes.items c.in_ok-groups.groups.rows.items c.in_ok-groups.groups.ends.items
     (gathered rows c.deref-4.result.now c.in_ok-table.table.items c.deref-3.result.now c.in_ok-codes.codes.items c.deref-4.ensures.value c.deref-3.ensures.value c.in_ok-codes.ensures)
     (flat c.len.result (length theirs) rows ends c.in_ok-codes.codes.items c.in_ok-groups.groups.rows.items c.in_ok-groups.groups.ends.items (n ∙ sym (length-cut 0 c.other.inside.rows.items c.other.inside.ends.items))
     (same_flat c.len.result rows c.deref-5.result.now ends c.deref-6.result.now c.in_ok-codes.codes.items c.deref-7.result.now c.in_ok-groups.groups.rows.items c.in_ok-groups.groups.ends.items
-    c.deref-5.ensures.value c.deref-6.ensures.value c.deref-7.ensures.value c.in_ok-groups.ensures))
+    c.deref-5.ensures.value c.deref-6.ensures.value c.deref-7.ensures.value c.in_ok-groups.ensures)))
     c.in_ok-rows.ensures.order

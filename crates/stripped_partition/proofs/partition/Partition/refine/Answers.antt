@@ -5,13 +5,14 @@ use Rattle.col_set.specs.ColSet.{with}
 use Rattle.rel_base.specs.CodeTable.{code_at}
 use Rattle.stripped_partition.specs.Groups.{cut}
 use Rattle.stripped_partition.specs.Codes.{IsRecoded}
-use Rattle.stripped_partition.proofs.Refining.{rows_given, split_cut, refined, same_flat}
+use Rattle.stripped_partition.proofs.Refining.{in_its_order, put_in_order, rows_given, split_cut, refined, same_flat}
 use Rattle.stripped_partition.proofs.partition.Partition.refine.Goals as goal
 
 pub codes_of-requires-clause-given : goal.codes_of-requires-clause-given
 codes_of-requires-clause-given c =
     subst (All (λ (row : ℕ). row < c.args.snapshot.now.to)) (sym c.deref.ensures.value)
-    (rows_given c.args.snapshot.now c.requires.of.columns c.self.inside.rows.items c.self.inside.ends.items c.self.invariant (c.self.view_is ∙ c.requires.of.is))
+    (rows_given c.args.snapshot.now c.requires.of.columns c.self.inside.rows.items c.self.inside.ends.items c.self.invariant
+    (in_its_order c.args.snapshot.now c.requires.of.columns (cut 0 c.self.inside.rows.items c.self.inside.ends.items) (c.self.view_is ∙ c.requires.of.is)))
 
 -- the codes that were gathered
 gathered : (f : ℕ → ℕ) (rows rows_read codes : List ℕ) → rows_read ≡ rows → codes ≡ map f rows_read → codes ≡ map f rows
@@ -40,12 +41,13 @@ in_order-requires c =
 
 pub returns-clause-value : goal.returns-clause-value
 returns-clause-value c x e =
-    refined c.args.snapshot.now x c.self.inside.rows.items c.self.inside.ends.items c.self.invariant (c.self.view_is ∙ e) c.args.column c.requires.column
+    put_in_order c.args.snapshot.now (with x c.args.column) (cut 0 c.in_ok-groups.groups.rows.items c.in_ok-groups.groups.ends.items) (cut 0 c.in_ok-rows.field-0.rows.items c.in_ok-rows.field-0.ends.items)
+    (refined c.args.snapshot.now x c.self.inside.rows.items c.self.inside.ends.items c.self.invariant (in_its_order c.args.snapshot.now x (cut 0 c.self.inside.rows.items c.self.inside.ends.items) (c.self.view_is ∙ e)) c.args.column c.requires.column
     c.in_ok-codes.codes.items c.in_ok-codes-2.codes.items c.in_ok-codes-2.bound
     (gathered (λ row. code_at c.args.snapshot.now row c.args.column) c.self.inside.rows.items c.deref.result.now c.in_ok-codes.codes.items c.deref.ensures.value c.in_ok-codes.ensures)
-    c.in_ok-codes-2.ensures c.in_ok-groups.groups.rows.items c.in_ok-groups.groups.ends.items (cut 0 c.in_ok-rows.field-0.rows.items c.in_ok-rows.field-0.ends.items)
+    c.in_ok-codes-2.ensures c.in_ok-groups.groups.rows.items c.in_ok-groups.groups.ends.items
     (same_flat c.in_ok-codes-2.bound c.self.inside.rows.items c.deref-2.result.now c.self.inside.ends.items c.deref-3.result.now c.in_ok-codes-2.codes.items c.deref-4.result.now
-    c.in_ok-groups.groups.rows.items c.in_ok-groups.groups.ends.items c.deref-2.ensures.value c.deref-3.ensures.value c.deref-4.ensures.value c.in_ok-groups.ensures)
+    c.in_ok-groups.groups.rows.items c.in_ok-groups.groups.ends.items c.deref-2.ensures.value c.deref-3.ensures.value c.deref-4.ensures.value c.in_ok-groups.ensures))
     c.in_ok-rows.ensures.order
 
 pub returns-clause-of : goal.returns-clause-of

@@ -1,47 +1,18 @@
-use Rattle.std.proofs.Common.{◌≡◌, ◌<◌, ℕ, List, length, map, vec_len, sym, ap, ◌∙◌, subst, arith}
-use Rattle.std.specs.List.{All}
-use Rattle.std.proofs.lemmas.List.{length-map}
+use Rattle.std.proofs.lemmas.Result.{IfOk-weaker}
 use Rattle.col_set.specs.ColSet.{with}
-use Rattle.rel_base.specs.CodeTable.{code_at}
-use Rattle.stripped_partition.specs.Groups.{cut}
-use Rattle.stripped_partition.specs.Codes.{IsRecoded}
-use Rattle.stripped_partition.proofs.Refining.{rows_given, split_cut, refined, same_flat}
+use Rattle.stripped_partition.proofs.Refining.{in_its_order, put_in_order}
 use Rattle.stripped_partition.proofs.partition.Partition.refine_in.Goals as goal
 
-pub codes_of-requires-clause-given : goal.codes_of-requires-clause-given
-codes_of-requires-clause-given c =
-    subst (All (λ (row : ℕ). row < c.args.snapshot.now.to)) (sym c.deref.ensures.value)
-    (rows_given c.args.snapshot.now c.requires.of.columns c.self.inside.rows.items c.self.inside.ends.items c.self.invariant (c.self.view_is ∙ c.requires.of.is))
-
--- the codes that were gathered
-gathered : (f : ℕ → ℕ) (rows rows_read codes : List ℕ) → rows_read ≡ rows → codes ≡ map f rows_read → codes ≡ map f rows
-gathered f rows rows_read codes r e = e ∙ ap (map f) r
-
-as_many : (f : ℕ → ℕ) (rows codes : List ℕ) → codes ≡ map f rows → length codes ≡ length rows
-as_many f rows codes e = ap length e ∙ length-map rows f
-
--- the slots have room for the codes
-recoded : (codes codes_read : List ℕ) (bound room : ℕ) → codes_read ≡ codes → room ≡ bound → IsRecoded codes_read codes_read room → IsRecoded codes codes bound
-recoded codes codes_read bound room e r p = subst (λ (n : ℕ). IsRecoded codes codes n) r (subst (λ (cs : List ℕ). IsRecoded cs cs room) e p)
-
-pub in_order-requires : goal.in_order-requires
-in_order-requires c =
-    split_cut (length c.deref_mut.result.now) c.self.inside.rows.items c.in_ok-codes.codes.items c.self.inside.ends.items c.in_ok-groups.groups.rows.items c.in_ok-groups.groups.ends.items c.self.invariant
-    (as_many (λ row. code_at c.args.snapshot.now row c.args.column) c.self.inside.rows.items c.in_ok-codes.codes.items
-    (gathered (λ row. code_at c.args.snapshot.now row c.args.column) c.self.inside.rows.items c.deref.result.now c.in_ok-codes.codes.items c.deref.ensures.value c.in_ok-codes.ensures))
-    (same_flat (length c.deref_mut.result.now) c.self.inside.rows.items c.deref-3.result.now c.self.inside.ends.items c.deref-4.result.now c.in_ok-codes.codes.items c.deref-5.result.now
-    c.in_ok-groups.groups.rows.items c.in_ok-groups.groups.ends.items c.deref-3.ensures.value c.deref-4.ensures.value c.deref-5.ensures.value c.in_ok-groups.ensures.flat)
+pub refine_unordered-requires-clause-of : goal.refine_unordered-requires-clause-of
+refine_unordered-requires-clause-of c = record { columns = c.requires.of.columns; are = in_its_order c.args.snapshot.now c.requires.of.columns c.args.self.now c.requires.of.is }
 
 pub returns-clause-value : goal.returns-clause-value
-returns-clause-value c x e =
-    refined c.args.snapshot.now x c.self.inside.rows.items c.self.inside.ends.items c.self.invariant (c.self.view_is ∙ e) c.args.column c.requires.column
-    c.in_ok-codes.codes.items c.in_ok-codes.codes.items (length c.deref_mut.result.now)
-    (gathered (λ row. code_at c.args.snapshot.now row c.args.column) c.self.inside.rows.items c.deref.result.now c.in_ok-codes.codes.items c.deref.ensures.value c.in_ok-codes.ensures)
-    (recoded c.in_ok-codes.codes.items c.deref-2.result.now (length c.deref_mut.result.now) (vec_len c.make_room.new.slots) c.deref-2.ensures.value (let l = c.deref_mut.ensures.len in omega arith) c.in_ok-make_room.ensures.room)
-    c.in_ok-groups.groups.rows.items c.in_ok-groups.groups.ends.items (cut 0 c.in_ok-rows.field-0.rows.items c.in_ok-rows.field-0.ends.items)
-    (same_flat (length c.deref_mut.result.now) c.self.inside.rows.items c.deref-3.result.now c.self.inside.ends.items c.deref-4.result.now c.in_ok-codes.codes.items c.deref-5.result.now
-    c.in_ok-groups.groups.rows.items c.in_ok-groups.groups.ends.items c.deref-3.ensures.value c.deref-4.ensures.value c.deref-5.ensures.value c.in_ok-groups.ensures.flat)
-    c.in_ok-rows.ensures.order
+returns-clause-value c = IfOk-weaker c.ordered.result _ _ (λ p order x e.
+    put_in_order c.args.snapshot.now (with x c.args.column) c.in_ok-unordered.unordered p (c.in_ok-unordered.ensures.groups x (in_its_order c.args.snapshot.now x c.args.self.now e)) order) c.ordered.ensures
 
 pub returns-clause-of : goal.returns-clause-of
-returns-clause-of c = record { columns = with c.requires.of.columns c.args.column; is = returns-clause-value c c.requires.of.columns c.requires.of.is }
+returns-clause-of c = IfOk-weaker c.ordered.result _ _ (λ p order. record {
+  columns = with c.requires.of.columns c.args.column;
+  is = put_in_order c.args.snapshot.now (with c.requires.of.columns c.args.column) c.in_ok-unordered.unordered p
+      (c.in_ok-unordered.ensures.groups c.requires.of.columns (in_its_order c.args.snapshot.now c.requires.of.columns c.args.self.now c.requires.of.is)) order;
+}) c.ordered.ensures

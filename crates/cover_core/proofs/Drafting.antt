@@ -1,0 +1,82 @@
+-- Lists that several threads make of one draft.
+use Rattle.std.proofs.Common.{inl, inr, ◌≡◌, ◌∙◌, ◌+◌, ◌<◌, ℕ, zero, suc, arith, refl, sym, ap, subst, List, [], ◌∷◌, ◌++◌, length, map, get_or, Option, None, Result, Ok, Err, Vec, IfOk, Contains, MatchResult}
+use Rattle.std.specs.declared.alloc.Global.{Global}
+use Rattle.std.specs.declared.alloc.AllocError.{AllocError}
+use Rattle.std.specs.List.{All, AllZip, range_with_len, remove}
+use Rattle.std.proofs.lemmas.List.{map-append, length-map}
+use Rattle.std.proofs.lemmas.List.FromFn.{length-range_with_len}
+use Rattle.col_set.specs.ColSet.{upto}
+use Rattle.col_set.specs.AllSets.{Listed-upto_within}
+use Rattle.col_set.specs.Lists.{Listed, Listed-map_which}
+use Rattle.col_set.specs.Target.{IsColumnTarget}
+use Rattle.col_set.specs.declared.target.Target.{Target}
+use Rattle.col_set.specs.declared.target.Target.TheVariants.{Col, RowId}
+use Rattle.rel_base.proofs.States.{All-from}
+use Rattle.candidate_cover.proofs.Growing.{upto_more}
+use Rattle.candidate_cover.specs.declared.cand.Cand.{Cand}
+use Rattle.candidate_cover.specs.Lists.{CandLists}
+use Rattle.cover_steps.specs.Core.{targets}
+use Rattle.cover_core.specs.NewLists.{IsPart, AreParts}
+
+pub targets_more : (n : ℕ) → targets (n + 1) ≡ targets n ++ Col n ∷ []
+targets_more n =
+    let e : 0 + n ≡ n = omega arith in
+    ap (λ (cs : List ℕ). RowId ∷ map (λ a. Col a) cs) (upto_more n 0 ∙ ap (λ (i : ℕ). upto n ++ i ∷ []) e) ∙ ap (λ (ts : List Target). RowId ∷ ts) (map-append (λ a. Col a) (upto n) (n ∷ []))
+
+pub targets_fit : (n : ℕ) → All (IsColumnTarget n) (targets n)
+targets_fit n = All-from (IsColumnTarget n) (targets n) (λ t h. at t h)
+  where
+    at : (t : Target) → Listed t (targets n) → IsColumnTarget n t
+    at t (inl e) = subst (IsColumnTarget n) (sym e) tt
+    at t (inr h) = let w = Listed-map_which (λ a. Col a) t (upto n) h in subst (IsColumnTarget n) (sym w.2) (Listed-upto_within n w.0 w.1)
+
+-- ---- all or an error
+module _ (P : Target → Option (List Cand) → Type 0) where
+  abbrev oks : List (Option (List Cand)) → List (Result (Option (List Cand)) AllocError)
+  oks parts = map (λ part. Ok part) parts
+
+  parts_zip : (ts : List Target) (parts : List (Option (List Cand))) → AllZip (λ t r. IfOk r (P t)) ts (oks parts) → AllZip P ts parts
+  parts_zip [] [] h = tt
+  parts_zip [] (p ∷ ps) h = absurd h
+  parts_zip (t ∷ ts) [] h = absurd h
+  parts_zip (t ∷ ts) (p ∷ ps) h = (h.0, parts_zip ts ps h.1)
+
+  pub parts_made : (ts : List Target) (made : List (Result (Option (List Cand)) AllocError)) (r : Result (Vec (Option (List Cand)) Global) AllocError)
+      → AllZip (λ t r. IfOk r (P t)) ts made
+      → MatchResult r (λ v. (parts : List (Option (List Cand))) × (made ≡ oks parts) × (v.items ≡ parts)) (λ e. Contains made (Err e)) → IfOk r (λ v. AllZip P ts v.items)
+  parts_made ts made (Ok v) all h = subst (AllZip P ts) (sym h.2) (parts_zip ts h.0 (subst (λ (rs : List (Result (Option (List Cand)) AllocError)). AllZip (λ t r. IfOk r (P t)) ts rs) h.1 all))
+  parts_made ts made (Err e) all h = tt
+
+-- ---- the parts in order of the targets
+module _ (n : ℕ) (ws : List ℕ) (c : CandLists) where
+  long : (ts : List Target) (parts : List (Option (List Cand))) → AllZip (IsPart n ws c) ts parts → length parts ≡ length ts
+  long [] [] h = refl
+  long [] (p ∷ ps) h = absurd h
+  long (t ∷ ts) [] h = absurd h
+  long (t ∷ ts) (p ∷ ps) h = ap suc (long ts ps h.1)
+
+  at_columns : (m k : ℕ) (parts : List (Option (List Cand))) → AllZip (IsPart n ws c) (map (λ a. Col a) (range_with_len k m)) parts → (a : ℕ) → a < m → IsPart n ws c (Col (k + a)) (get_or parts a None)
+  at_columns zero k parts h a l = absurd (omega arith)
+  at_columns (suc m) k [] h a l = absurd h
+  at_columns (suc m) k (p ∷ ps) h zero l = let e : k + 0 ≡ k = omega arith in subst (λ (i : ℕ). IsPart n ws c (Col i) p) (sym e) h.0
+  at_columns (suc m) k (p ∷ ps) h (suc a) l =
+      let e : k + 1 + a ≡ k + suc a = omega arith in
+      let less : a < m = omega arith in
+      subst (λ (i : ℕ). IsPart n ws c (Col i) (get_or ps a None)) e (at_columns m (k + 1) ps h.1 a less)
+
+  pub are_parts : (parts : List (Option (List Cand))) (first : Option (List Cand)) (others : List (Option (List Cand))) → AllZip (IsPart n ws c) (targets n) parts → parts ≡ first ∷ others → AreParts n ws c first others
+  are_parts parts first others h e =
+      let all : AllZip (IsPart n ws c) (targets n) (first ∷ others) = subst (AllZip (IsPart n ws c) (targets n)) e h in
+      record {
+        rows = all.0;
+        count = long (map (λ a. Col a) (upto n)) others all.1 ∙ length-map (upto n) (λ a. Col a) ∙ length-range_with_len 0 n;
+        columns = λ a l. let z : 0 + a ≡ a = omega arith in subst (λ (i : ℕ). IsPart n ws c (Col i) (get_or others a None)) z (at_columns n 0 others all.1 a l);
+      }
+
+  pub some_parts : (parts : List (Option (List Cand))) → AllZip (IsPart n ws c) (targets n) parts → 0 < length parts
+  some_parts parts h = let l = long (targets n) parts h in omega arith
+
+  -- the first part taken off the others
+  pub parts_are : (parts : List (Option (List Cand))) (first : Option (List Cand)) (others : List (Option (List Cand))) → AllZip (IsPart n ws c) (targets n) parts → first ≡ get_or parts 0 first → others ≡ remove parts 0 → AreParts n ws c first others
+  parts_are [] first others h e f = absurd h
+  parts_are (p ∷ ps) first others h e f = are_parts (p ∷ ps) first others h (ap (λ (x : Option (List Cand)). x ∷ ps) (sym e) ∙ ap (λ (xs : List (Option (List Cand))). first ∷ xs) (sym f))
