@@ -1,5 +1,5 @@
 // Groups of rows by code, by counting.
-ghost use Rattle.std.specs.Prelude.{◌≡◌, ◌<◌, ◌≤◌, ◌+◌, ◌-◌, ◌^◌, ◌==◌, ◌++◌, [], ℕ, length, slice_index, replicate, count_by, zip, flat_map, vec_len, OnOk, IfOk};
+ghost use Rattle.std.specs.Prelude.{◌≡◌, ◌<◌, ◌≤◌, ◌+◌, ◌-◌, ◌^◌, ◌==◌, ◌++◌, [], ℕ, length, slice_index, replicate, count_by, zip, flat_map, vec_len, List, OnOk, IfOk};
 ghost use Rattle.std.specs.List.{concat};
 ghost use Rattle.stripped_partition.specs.Groups.{cut, start_at, ends_of, IsCut, IsFlat};
 ghost use Rattle.stripped_partition.specs.Splits.{parts, Places};
@@ -12,6 +12,26 @@ use std::alloc::{AllocError, Global};
 pub(crate) struct Groups {
     pub(crate) rows: Vec<RowNo>,
     pub(crate) ends: Vec<u32>,
+}
+
+impl Groups {
+    // No group, which takes no memory.
+    pub(crate) fn empty(alloc: Global) -> Groups {
+        Groups {
+            rows: Vec::new(alloc),
+            ends: Vec::new(alloc),
+        }
+    }
+
+    // A copy that takes no more memory than it needs.
+    fn fitted(&self, alloc: Global) -> Result<Groups, AllocError>
+        ensures { IfOk result (λ g. (groups : List (List ℕ)) → IsFlat self.now.rows.items self.now.ends.items groups → IsFlat g.rows.items g.ends.items groups) }
+    {
+        Ok(Groups {
+            rows: self.rows.to_vec(alloc)?,
+            ends: self.ends.to_vec(alloc)?,
+        })
+    }
 }
 
 // From here on a slot holds the place of the next row with its code, and below it how many rows have the code.
@@ -173,9 +193,29 @@ fn split_groups(
     Ok(())
 }
 
-// The parts of two rows or more of each group by the codes of its rows. A code that has no slot makes no part.
+// The parts of two rows or more of each group by the codes of its rows, in place of what stood there. A code that has no slot makes no part.
+fn split_over(
+    groups: &mut Groups,
+    slots: &mut [u32],
+    rows: &[RowNo],
+    ends: &[u32],
+    codes: &[u32],
+) -> Result<(), AllocError>
+    requires cut { IsCut rows.now ends.now }
+    requires coded { length codes.now ≡ length rows.now }
+    requires clear { slots.old ≡ replicate (length slots.old) 0 }
+    ensures flat { OnOk result (IsFlat groups.new.rows.items groups.new.ends.items (flat_map (parts (length slots.old)) (cut 0 (zip rows.now codes.now) ends.now))) }
+    ensures clear { OnOk result (slots.new ≡ replicate (length slots.old) 0) }
+{
+    groups.rows.clear();
+    groups.ends.clear();
+    split_groups(groups, slots, rows, ends, codes)
+}
+
+// What `split_over` makes, as a copy that fits.
 pub(crate) fn split_in(
     alloc: Global,
+    room: &mut Groups,
     slots: &mut [u32],
     rows: &[RowNo],
     ends: &[u32],
@@ -187,14 +227,8 @@ pub(crate) fn split_in(
     ensures flat { IfOk result (λ g. IsFlat g.rows.items g.ends.items (flat_map (parts (length slots.old)) (cut 0 (zip rows.now codes.now) ends.now))) }
     ensures clear { OnOk result (slots.new ≡ replicate (length slots.old) 0) }
 {
-    let mut groups = Groups {
-        rows: Vec::with_capacity(alloc, rows.len())?,
-        ends: Vec::with_capacity(alloc, rows.len() / 2)?,
-    };
-    split_groups(&mut groups, slots, rows, ends, codes)?;
-    groups.rows.shrink_to_fit();
-    groups.ends.shrink_to_fit();
-    Ok(groups)
+    split_over(room, slots, rows, ends, codes)?;
+    room.fitted(alloc)
 }
 
 // Splits groups of rows by their codes, which are below a bound, with slots of its own.
@@ -210,5 +244,9 @@ pub(crate) fn split(
     ensures { IfOk result (λ g. IsFlat g.rows.items g.ends.items (flat_map (parts bound) (cut 0 (zip rows.now codes.now) ends.now))) }
 {
     let mut slots = vec![in alloc; 0u32; bound]?;
-    split_in(alloc, &mut slots, rows, ends, codes)
+    let mut groups = Groups::empty(alloc);
+    split_over(&mut groups, &mut slots, rows, ends, codes)?;
+    groups.rows.shrink_to_fit();
+    groups.ends.shrink_to_fit();
+    Ok(groups)
 }

@@ -6,7 +6,9 @@ mod groups;
 pub mod laws;
 mod order;
 mod partition;
+mod scratch;
 #[cfg(test)]
 mod tests;
 
 pub use partition::Partition;
+pub use scratch::Scratch;

@@ -9,7 +9,7 @@ ghost use Rattle.stripped_partition.specs.Order.{IsInOrder};
 ghost use Rattle.stripped_partition.specs.SplitBy.{split_by, AgreesOn};
 
 use crate::groups::{self, Groups};
-use crate::{codes, order};
+use crate::{Scratch, codes, order};
 use rel_base::{RowNo, Snapshot};
 use std::alloc::{AllocError, Global};
 use std::marker::Model;
@@ -99,24 +99,22 @@ impl Partition {
         ensures of { IfOk result (λ p. IsPartitionOf snapshot.now p) }
         ensures clear { OnOk result (slots.new.items ≡ replicate (vec_len slots.new) 0) }
     {
-        let mut codes = Vec::new(alloc);
-        let unordered = self.refine_unordered(alloc, snapshot, column, slots, &mut codes)?;
+        let mut scratch = Scratch::new(alloc);
+        let unordered = self.refine_unordered(alloc, snapshot, column, slots, &mut scratch)?;
         unordered.ordered(alloc)
     }
 
     /// The groups that `refine_in` makes, in another order: the parts of a group stand where the group stood. To put many groups in
     /// order takes half the time of making them, so who needs no order refines by this, and goes on from what it made.
     ///
-    /// It takes the groups of this partition in any order too. The slots are those of `refine_in`. The codes are a list that callers
-    /// keep from one call to the next, so that no call makes one; what it holds says nothing, and it grows to the rows of the largest
-    /// partition.
+    /// It takes the groups of this partition in any order too. The slots are those of `refine_in`.
     pub fn refine_unordered(
         &self,
         alloc: Global,
         snapshot: &Snapshot,
         column: u8,
         slots: &mut Vec<u32>,
-        codes: &mut Vec<u32>,
+        scratch: &mut Scratch,
     ) -> Result<Partition, AllocError>
         requires of { AreGroupsOf snapshot.now self.now }
         requires column { column < length snapshot.now.codes }
@@ -125,11 +123,12 @@ impl Partition {
         ensures of { IfOk result (λ p. AreGroupsOf snapshot.now p) }
         ensures clear { OnOk result (slots.new.items ≡ replicate (vec_len slots.new) 0) }
     {
-        codes::make_long(codes, self.rows.len())?;
-        let codes = &mut codes[..self.rows.len()];
+        codes::make_long(&mut scratch.codes, self.rows.len())?;
+        let codes = &mut scratch.codes[..self.rows.len()];
         codes::write_codes(codes, snapshot, column, &self.rows);
         codes::make_room(slots, codes)?;
-        let groups = groups::split_in(alloc, slots, &self.rows, &self.ends, codes)?;
+        let room = &mut scratch.groups;
+        let groups = groups::split_in(alloc, room, slots, &self.rows, &self.ends, codes)?;
         Ok(Partition {
             rows: groups.rows,
             ends: groups.ends,

@@ -1,5 +1,5 @@
 // Partitions beside what plainly holds among drawn rows.
-use crate::Partition;
+use crate::{Partition, Scratch};
 use plain_base::{PlainRows, Samples, relation_of};
 use rel_base::{Codes, ColSet, Limits, Nulls, Row, RowNo, Snapshot, Target};
 use std::alloc::{AllocError, Global};
@@ -178,10 +178,10 @@ fn orders_meet(
         return Ok(false);
     }
     let mut slots = Vec::new(alloc);
-    let mut codes = Vec::new(alloc);
+    let mut scratch = Scratch::new(alloc);
     let all = Partition::of_all(alloc, snapshot)?;
-    let one = all.refine_unordered(alloc, snapshot, left, &mut slots, &mut codes)?;
-    let both = one.refine_unordered(alloc, snapshot, right, &mut slots, &mut codes)?;
+    let one = all.refine_unordered(alloc, snapshot, left, &mut slots, &mut scratch)?;
+    let both = one.refine_unordered(alloc, snapshot, right, &mut slots, &mut scratch)?;
     let ordered = Partition::of_column(alloc, snapshot, left)?.refine(alloc, snapshot, right)?;
     Ok(has_same_groups(&both, &ordered) && both.error_count() == ordered.error_count())
 }

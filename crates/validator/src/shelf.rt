@@ -18,7 +18,7 @@ use std::alloc::{AllocError, Global};
 use std::hash::{BuildHasherDefault, DefaultHasher};
 use std::sync::Arc;
 use std::sync::ledger::Ledger;
-use stripped_partition::Partition;
+use stripped_partition::{Partition, Scratch};
 
 // The most columns of a set whose partition is kept, where it has few rows and else.
 const MOST_KEPT_COLUMNS: u32 = 6;
@@ -91,13 +91,14 @@ pub(crate) type Places = IndexMap<ColSet, usize, BuildHasherDefault<DefaultHashe
 //
 // The first `settled` partitions stay for good. They have `rows` rows in their groups, of the `room` that there is, and a partition
 // is large with more than `large` rows. Those behind them are the path: what the last search made on its way and may not stay. No
-// two of the path are by equally many columns.
+// two of the path are by equally many columns. `last` is the left side of the last search that came to the end of its groups.
 #[derive(Drop)]
 pub(crate) struct Shelf {
     pub(crate) kept: Vec<Kept>,
     pub(crate) weights: [u32; COLUMN_PLACES],
     pub(crate) order: [u32; COLUMN_PLACES],
     pub(crate) places: Places,
+    last: ColSet,
     settled: usize,
     rows: usize,
     room: usize,
@@ -148,7 +149,7 @@ fn push_refined(
     snapshot: &Snapshot,
     kept: &mut Vec<Kept>,
     slots: &mut Vec<u32>,
-    codes: &mut Vec<u32>,
+    scratch: &mut Scratch,
     k: usize,
     column: u8,
 ) -> Result<(), AllocError>
@@ -166,7 +167,7 @@ fn push_refined(
     let columns = entry.columns.with(column);
     let partition = entry
         .partition
-        .refine_unordered(alloc, snapshot, column, slots, codes)?;
+        .refine_unordered(alloc, snapshot, column, slots, scratch)?;
     kept.push(Kept::of(alloc, partition, columns)?)?;
     Ok(())
 }
@@ -257,17 +258,18 @@ fn is_larger(kept: &[Kept], k: usize, other: Option<usize>) -> bool
     }
 }
 
-// Refines a kept partition by all but one of the columns that are left, the lightest first, and keeps what it makes. It answers
-// the place of the last one, and the column that is left to the comparisons, which is the heaviest.
+// Refines a kept partition by all but one of the columns that are left, or by all, the lightest first, and keeps what it makes. It
+// answers the place of the last one, and the column that is left to the comparisons, which is the heaviest.
 fn refine_kept(
     alloc: Global,
     snapshot: &Snapshot,
     kept: &mut Vec<Kept>,
     weights: &[u32; COLUMN_PLACES],
     slots: &mut Vec<u32>,
-    codes: &mut Vec<u32>,
+    scratch: &mut Scratch,
     base: usize,
     columns: ColSet,
+    by_all: bool,
 ) -> Result<(usize, Option<u8>), AllocError>
     requires kept { AreKept snapshot.now kept.old.items }
     requires clear { IsClear slots.old.items }
@@ -282,12 +284,12 @@ fn refine_kept(
     let mut k = base;
     let mut left = columns;
     while let Some(first) = left.first() {
-        if left.without(first) == ColSet::empty() {
+        if !by_all && left.without(first) == ColSet::empty() {
             return Ok((k, Some(first)));
         }
         let column = lightest(left, first, weights);
         let next = kept.len();
-        push_refined(alloc, snapshot, kept, slots, codes, k, column)?;
+        push_refined(alloc, snapshot, kept, slots, scratch, k, column)?;
         k = next;
         left = left.without(column);
     }
@@ -317,6 +319,7 @@ impl Shelf {
             weights: no_weights(),
             order,
             places: Places::with_hasher(alloc, BuildHasherDefault::new()),
+            last: ColSet::empty(),
             settled: 0,
             rows: 0,
             room,
@@ -367,7 +370,7 @@ impl Shelf {
         snapshot: &Snapshot,
         asked: &Asked,
         slots: &mut Vec<u32>,
-        codes: &mut Vec<u32>,
+        scratch: &mut Scratch,
         steps: &mut Steps<L>,
     ) -> Result<Vec<(RowNo, RowNo)>, AllocError>
         requires asked { IsAsked snapshot.now asked.now }
@@ -385,9 +388,22 @@ impl Shelf {
             self.weigh(alloc, snapshot, asked.left)?;
         }
         self.shorten_path(asked.left);
-        let found = self.search_kept(alloc, snapshot, asked, slots, codes, steps);
+        let found = self.search_kept(alloc, snapshot, asked, slots, scratch, steps);
         self.settle();
+        self.note_end(asked, &found);
         found
+    }
+
+    // Notes the left side of a search that found fewer pairs than were asked for, and so came to the end of its groups.
+    fn note_end(&mut self, asked: &Asked, found: &Result<Vec<(RowNo, RowNo)>, AllocError>)
+        ensures kept { self.new.kept ≡ self.old.kept }
+        ensures weights { self.new.weights ≡ self.old.weights }
+    {
+        if let Ok(pairs) = found {
+            if pairs.len() < asked.most {
+                self.last = asked.left;
+            }
+        }
     }
 
     // The weight of each column of the snapshot.
@@ -470,13 +486,16 @@ impl Shelf {
     }
 
     // Searches the groups, where the weights are known and the path is by columns of the left side. What it makes is added to the path.
+    //
+    // A left side that is asked for again, with another target, is likely to come with further ones. If the search before came to the end
+    // of the groups, all columns serve to make groups, which are far smaller: that takes less than a few comparisons by the last column.
     fn search_kept<L: Ledger>(
         &mut self,
         alloc: Global,
         snapshot: &Snapshot,
         asked: &Asked,
         slots: &mut Vec<u32>,
-        codes: &mut Vec<u32>,
+        scratch: &mut Scratch,
         steps: &mut Steps<L>,
     ) -> Result<Vec<(RowNo, RowNo)>, AllocError>
         requires asked { IsAsked snapshot.now asked.now }
@@ -489,6 +508,7 @@ impl Shelf {
         ensures few { IfOk result (λ pairs. vec_len pairs ≤ asked.now.most) }
         ensures steps { steps.new ≤ steps.old + new_rows snapshot.now asked.now.from }
     {
+        let by_all = asked.left == self.last;
         let base = self.base(alloc, snapshot, asked.left)?;
         let rest = asked.left.minus(self.kept[base].columns);
         let (k, by) = refine_kept(
@@ -497,9 +517,10 @@ impl Shelf {
             &mut self.kept,
             &self.order,
             slots,
-            codes,
+            scratch,
             base,
             rest,
+            by_all,
         )?;
         let question = Question {
             target: asked.target,
@@ -546,7 +567,8 @@ impl Shelf {
         }
     }
 
-    // Whether the partition at a place may stay for good, beside those that do. If so it is counted, and looked for behind these.
+    // Whether the partition at a place may stay for good, beside those that do. If so it is counted, and looked for behind these. One by
+    // the whole left side serves few but this one.
     fn accepts(&mut self, k: usize) -> bool
         requires { k < vec_len self.old.kept }
         ensures kept { self.new.kept ≡ self.old.kept }
@@ -555,7 +577,8 @@ impl Shelf {
     {
         let columns = self.kept[k].columns;
         let rows = self.rows.saturating_add(self.kept[k].rows);
-        if columns.len() > self.most_columns_of(k)
+        if columns == self.last
+            || columns.len() > self.most_columns_of(k)
             || self.settled >= MOST_KEPT
             || rows > self.room_for(k)
         {

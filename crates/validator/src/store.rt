@@ -19,6 +19,7 @@ use std::marker::Model;
 use std::mem;
 use std::sync::Arc;
 use std::sync::ledger::Ledger;
+use stripped_partition::Scratch;
 
 // So many live rows are few enough that new ones are looked up whatever the column.
 const FEW_ROWS: u32 = 1000;
@@ -35,8 +36,8 @@ const FEW_ROWS: u32 = 1000;
 /// a row: each refines behind the columns that it shares with the one before, and nothing where the left side is the same.
 ///
 /// The path comes on top of the room. It has at most one partition for each number of columns up to that of the left side, and
-/// most of them have few rows. So do a slot for each code and the codes of the rows of the largest partition that was refined, 4
-/// bytes each, which stay so that no verdict makes them anew.
+/// most of them have few rows. So do a slot for each code, 4 bytes each, and the codes and parts of the rows of the largest partition
+/// that was refined, up to 10 bytes a row, which stay so that no verdict makes them anew.
 ///
 /// The groups of kept partitions stand in no order, since no verdict wants one: to put many of them in order takes half the time of
 /// making them.
@@ -52,7 +53,7 @@ pub struct Store {
     snapshot: Arc<Snapshot>,
     shelf: Shelf,
     slots: Vec<u32>,
-    codes: Vec<u32>,
+    scratch: Scratch,
     links: Vec<Link>,
     earlier: Option<Arc<Snapshot>>,
     room: usize,
@@ -82,7 +83,7 @@ impl Store {
             snapshot,
             shelf: Shelf::of(alloc, rows, room, no_weights()),
             slots: Vec::new(alloc),
-            codes: Vec::new(alloc),
+            scratch: Scratch::new(alloc),
             links: Vec::new(alloc),
             earlier: None,
             room,
@@ -102,7 +103,7 @@ impl Store {
             snapshot,
             shelf,
             slots: Vec::new(alloc),
-            codes: Vec::new(alloc),
+            scratch: Scratch::new(alloc),
             links: Vec::new(alloc),
             earlier: None,
             room,
@@ -132,9 +133,10 @@ impl Store {
     ///
     /// It takes the columns of the left side in the order of how many rows they tell apart, the lightest first. It starts from the
     /// kept partition by the most of the first of them, up to six, or from one of the path if that is by more columns, refines it
-    /// by the others but the last, and compares the rows of each group by the last one's codes, up to the first difference. So a
-    /// verdict takes time by the rows of that partition, not by how many are kept; one on few new rows takes time by them and the rows
-    /// with their codes in one column. After want of memory the store is as useful as before.
+    /// by the others but the last, and compares the rows of each group by the last one's codes, up to the first difference. Where the
+    /// left side is that of the verdict before, it refines by all of them: so further targets of one left side cost a look at the few
+    /// rows that still share a group. A verdict takes time by the rows of the partition, not by how many are kept; one on few new rows
+    /// takes time by them and the rows with their codes in one column. After want of memory the store is as useful as before.
     pub fn validate<L: Ledger>(
         &mut self,
         alloc: Global,
@@ -282,8 +284,8 @@ impl Store {
         ensures store { self.new ≡ self.old }
     {
         let shelf = &mut self.shelf;
-        let (slots, codes) = (&mut self.slots, &mut self.codes);
-        let found = shelf.search(alloc, &self.snapshot, asked, slots, codes, steps);
+        let (slots, scratch) = (&mut self.slots, &mut self.scratch);
+        let found = shelf.search(alloc, &self.snapshot, asked, slots, scratch, steps);
         if found.is_err() {
             self.slots = Vec::new(alloc);
         }
