@@ -28,7 +28,7 @@ use Rattle.cover_steps.specs.Core.{Core, cands}
 use Rattle.cover_steps.specs.Sound.{IsMarked, Sound}
 use Rattle.cover_steps.proofs.Keeping.{cand-least, cand-marked}
 use Rattle.negative_cover.specs.declared.negative_cover.Witness.{Witness as Evidence}
-use Rattle.cover_core.specs.AllPairs.{IsCodePair, AreAllPairs}
+use Rattle.negative_cover.specs.AllPairs.{IsCodePair, AreAllPairs}
 use Rattle.cover_core.specs.Evidences.{IsEvidence, IsAllTold}
 use Rattle.cover_core.specs.Judged.{IsHeld}
 use Rattle.cover_core.specs.Kept.{IsBook}

@@ -16,7 +16,6 @@ pub mod Freeing
 pub mod NearBooks
 pub mod Concerning
 pub mod Back
-pub mod AllPairs
 pub mod Complete
 pub mod Forgetting
 pub mod Drafting

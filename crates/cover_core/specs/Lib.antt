@@ -1,4 +1,3 @@
-pub mod AllPairs
 pub mod Evidences
 pub mod Kept
 pub mod Tests

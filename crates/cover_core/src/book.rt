@@ -22,7 +22,6 @@ ghost use Rattle.cover_core.specs.Told.{IsTrueOf};
 ghost use Rattle.cover_core.specs.Work.{Extends, work};
 ghost use Rattle.cover_core.specs.Replies.{reply_of_draw, reply_of_refutation, reply_of_mark, reply_of_release, reply_of_batch, reply_of_settle, IfJob, IfReady};
 
-use crate::all_pairs::all_pairs;
 use crate::answers::{Draw, Refutation, Release, Settling};
 use crate::cursor::{Cursors, Unfinished, is_late};
 use crate::evidence::{Evidence, news_of};
@@ -37,7 +36,7 @@ use crate::searcher::Searcher;
 use crate::searching::{first_drawable, first_unfinished, move_both_back};
 use crate::waiting::{Sizes, Waiting, count, known_below, of_sizes, worth_comparing};
 use candidate_cover::{CandidateCover, Marking};
-use negative_cover::{Concerned, NegativeCover, Witness};
+use negative_cover::{Concerned, NegativeCover, Witness, all_pairs};
 use ports::{Gate, OpenGate};
 use rel_base::{Batch, Covers, Job, Limits, Nulls, Relation, RowNo, Snapshot, Target};
 use row_log::{Applying, RowLog};

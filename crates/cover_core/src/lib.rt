@@ -2,7 +2,6 @@
 //! object. Each call is one step of the shared cover (HyFD, Papenbrock and Naumann, 2016; DynFD, Schirmer and others, 2019).
 #![tactic(auto)]
 
-mod all_pairs;
 mod answers;
 mod book;
 mod cursor;

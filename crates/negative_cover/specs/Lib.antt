@@ -1,3 +1,6 @@
+pub mod AllPairs
+pub mod CodedRows
 pub mod Concerning
 pub mod EndedRows
+pub mod FoundPairs
 pub mod Witnesses

@@ -1,9 +1,12 @@
 //! The negative cover of HyFD (Papenbrock and Naumann, 2016): pairs of rows, each with the columns on which the two agree.
 #![tactic(auto)]
 
+mod coded_rows;
 mod concerned;
 mod ended_rows;
+mod found_pairs;
 mod negative_cover;
+mod pairing;
 mod rows;
 #[cfg(test)]
 mod tests;
@@ -11,3 +14,4 @@ mod tests;
 pub use concerned::Concerned;
 pub use ended_rows::ended;
 pub use negative_cover::{NegativeCover, Parted, Witness};
+pub use pairing::all_pairs;

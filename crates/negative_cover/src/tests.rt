@@ -1,5 +1,5 @@
-use crate::{Concerned, NegativeCover, Witness, ended};
-use rel_base::{Batch, ColSet, Op, Row, RowNo, Target};
+use crate::{Concerned, NegativeCover, Witness, all_pairs, ended};
+use rel_base::{Batch, Codes, ColSet, Op, Row, RowNo, Snapshot, Target};
 use std::alloc::Global;
 use std::process::Abort;
 use std::test::Fail;
@@ -123,5 +123,29 @@ fn want_of_memory_changes_nothing(rt: HostRuntime) -> Result<(), Fail> {
     };
     assert!(rt; cover.len() == 1);
     assert!(rt; parted.rest.is_empty() && parted.gone.len() == 1);
+    Ok(())
+}
+
+#[test]
+fn late_rows_are_compared_with_all_and_no_agree_set_is_found_twice(
+    rt: HostRuntime,
+) -> Result<(), Fail> {
+    let alloc = rt.alloc();
+    let codes = vec![in alloc;
+        Codes::of(vec![in alloc; 0u32, 0, 1, 0]?),
+        Codes::of(vec![in alloc; 0u32, 0, 0, 0]?),
+    ]?;
+    let live = vec![in alloc; true, false, true, true]?;
+    assert!(rt; codes.len() == 2 && live.len() == 4);
+    assert!(rt; codes[0].len() == 4 && codes[1].len() == 4);
+    let snapshot = Snapshot::of(codes, live, RowNo::of(5));
+    let found = all_pairs(alloc, &snapshot, RowNo::of(3))?;
+    assert!(rt; found.len() == 2);
+    let (first, second) = (found[0], found[1]);
+    assert!(rt; first.i == RowNo::of(1) && first.j == RowNo::of(3));
+    assert!(rt; second.i == RowNo::of(1) && second.j == RowNo::of(4));
+    assert!(rt; first.agree == ColSet::empty().with(1) && second.agree == ColSet::all(2));
+    let none = all_pairs(alloc, &snapshot, RowNo::of(5))?;
+    assert!(rt; none.is_empty());
     Ok(())
 }

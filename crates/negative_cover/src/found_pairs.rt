@@ -1,0 +1,85 @@
+// Pairs of rows, one for each agree set that was found.
+ghost use Rattle.std.specs.Prelude.{◌≡◌, ◌<◌, [], IsTrue, Some, None, OnOk, IfOk, length, slice_index_or};
+ghost use Rattle.negative_cover.specs.FoundPairs.{AreSeen, AreSetsSeen, HasAdded};
+
+use crate::Witness;
+use rel_base::ColSet;
+use std::alloc::{AllocError, Global};
+use std::collections::HashSet;
+use std::hash::{BuildHasher, BuildHasherDefault, DefaultHasher, FoldHasher};
+
+// How many agree sets are remembered as seen lately, a power of two.
+const SLOTS: usize = 512;
+
+// The agree sets that were found. The hash is SipHash with a fixed key.
+type AgreeSets = HashSet<ColSet, BuildHasherDefault<DefaultHasher>>;
+
+// Pairs of rows, no two with the same agree set.
+//
+// Most pairs of rows have an agree set that others had shortly before. So each agree set is first looked up in one slot of a small table,
+// by a hash that is one multiplication. That it is not there only costs a look-up in the set of all that were found, whose hash resists
+// rows that were chosen to collide.
+#[derive(Drop)]
+pub(crate) struct FoundPairs {
+    pub(crate) pairs: Vec<Witness>,
+    seen: AgreeSets,
+    recent: Vec<Option<ColSet>>,
+}
+
+impl FoundPairs {
+    // No pairs.
+    pub(crate) fn none(alloc: Global) -> Result<FoundPairs, AllocError>
+        ensures pairs { IfOk result (λ found. found.pairs.items ≡ []) }
+        ensures seen { IfOk result AreSeen }
+    {
+        Ok(FoundPairs {
+            pairs: Vec::new(alloc),
+            seen: AgreeSets::with_hasher(alloc, BuildHasherDefault::new()),
+            recent: vec![in alloc; None; SLOTS]?,
+        })
+    }
+
+    // Adds a pair where there is none with its agree set.
+    pub(crate) fn add(&mut self, pair: Witness) -> Result<(), AllocError>
+        requires { AreSeen self.old }
+        ensures seen { OnOk result (AreSeen self.new) }
+        ensures added { OnOk result (HasAdded pair self.old.pairs.items self.new.pairs.items) }
+    {
+        let slots = self.recent.len();
+        let slot = slot_of(pair.agree, slots);
+        let known = Some(pair.agree);
+        if self.recent[slot] == known {
+            return Ok(());
+        }
+        add_unseen(&mut self.pairs, &mut self.seen, pair)?;
+        self.recent[slot] = known;
+        Ok(())
+    }
+}
+
+// Adds a pair whose agree set is none of these.
+fn add_unseen(
+    pairs: &mut Vec<Witness>,
+    seen: &mut AgreeSets,
+    pair: Witness,
+) -> Result<(), AllocError>
+    requires { AreSetsSeen seen.old.keys pairs.old.items }
+    ensures seen { OnOk result (AreSetsSeen seen.new.keys pairs.new.items) }
+    ensures added { OnOk result (HasAdded pair pairs.old.items pairs.new.items) }
+{
+    let added = seen.insert(pair.agree)?;
+    if !added {
+        return Ok(());
+    }
+    pairs.push(pair)?;
+    Ok(())
+}
+
+// The slot of an agree set, of so many.
+fn slot_of(agree: ColSet, slots: usize) -> usize
+    requires { 0 < slots }
+    ensures { result < slots }
+{
+    let hash = BuildHasherDefault::<FoldHasher>::new().hash_one(agree);
+    hash as usize & (slots - 1)
+}

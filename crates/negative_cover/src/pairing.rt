@@ -1,0 +1,103 @@
+// All pairs of live rows of which the later one is among few, compared by their codes.
+ghost use Rattle.std.specs.Prelude.{◌≡◌, ◌<◌, ◌≤◌, ◌∷◌, [], OnOk, IfOk, length};
+ghost use Rattle.rel_base.specs.CodeTable.{CodeTable};
+ghost use Rattle.negative_cover.specs.AllPairs.{AreAllPairs};
+ghost use Rattle.negative_cover.specs.CodedRows.{IsCodedRow, AreCodedRows, IsShaped};
+ghost use Rattle.negative_cover.specs.FoundPairs.{AreSeen, HasCompared};
+
+use crate::Witness;
+use crate::coded_rows::{CodedRow, CodedRows};
+use crate::found_pairs::FoundPairs;
+use agree_sets::agree_codes;
+use rel_base::{MOST_COLUMNS, RowNo, Snapshot};
+use std::alloc::{AllocError, Global};
+
+// The codes of so many rows that come earlier are gathered at once, and stay in the processor's nearest memory meanwhile.
+const BLOCK: u32 = 256;
+
+// Adds what two rows agree on, where the first one comes before the second and nothing that was found is of the same agree set.
+fn compare(first: &CodedRow, second: &CodedRow, found: &mut FoundPairs) -> Result<(), AllocError>
+    requires same { length first.now.codes.now ≡ length second.now.codes.now }
+    requires few { length first.now.codes.now ≤ MOST_COLUMNS }
+    requires seen { AreSeen found.old }
+    ensures seen { OnOk result (AreSeen found.new) }
+    ensures compared { OnOk result ((s : CodeTable) → IsCodedRow s first.now.number first.now.codes.now → IsCodedRow s second.now.number second.now.codes.now → HasCompared s (first.now.number ∷ []) (second.now.number ∷ []) found.old.pairs.items found.new.pairs.items) }
+{
+    if second.number <= first.number {
+        return Ok(());
+    }
+    found.add(Witness {
+        agree: agree_codes(first.codes, second.codes),
+        i: first.number,
+        j: second.number,
+    })?;
+    Ok(())
+}
+
+// Adds what a row and each of these after it agree on.
+fn push_pairs_with(
+    first: &CodedRow,
+    late: &CodedRows,
+    found: &mut FoundPairs,
+) -> Result<(), AllocError>
+    requires same { length first.now.codes.now ≡ late.now.width }
+    requires late { IsShaped late.now }
+    requires seen { AreSeen found.old }
+    ensures seen { OnOk result (AreSeen found.new) }
+    ensures compared { OnOk result ((s : CodeTable) → IsCodedRow s first.now.number first.now.codes.now → AreCodedRows s late.now → HasCompared s (first.now.number ∷ []) late.now.numbers.items found.old.pairs.items found.new.pairs.items) }
+{
+    for place in 0..late.len() {
+        compare(first, &late.row(place), found)?;
+    }
+    Ok(())
+}
+
+// Adds what each of the earlier rows and each of the late ones after it agree on.
+fn push_pairs(early: &CodedRows, late: &CodedRows, found: &mut FoundPairs) -> Result<(), AllocError>
+    requires same { early.now.width ≡ late.now.width }
+    requires early { IsShaped early.now }
+    requires late { IsShaped late.now }
+    requires seen { AreSeen found.old }
+    ensures seen { OnOk result (AreSeen found.new) }
+    ensures compared { OnOk result ((s : CodeTable) → AreCodedRows s early.now → AreCodedRows s late.now → HasCompared s early.now.numbers.items late.now.numbers.items found.old.pairs.items found.new.pairs.items) }
+{
+    for place in 0..early.len() {
+        push_pairs_with(&early.row(place), late, found)?;
+    }
+    Ok(())
+}
+
+// The row number behind the block that begins with this one.
+fn block_end(start: RowNo, to: RowNo) -> RowNo
+    requires { start < to }
+    ensures further { start < result }
+    ensures within { result ≤ to }
+{
+    RowNo::of(start.number().saturating_add(BLOCK).min(to.number()))
+}
+
+/// What each live row from a number on and each live row before it agree on, one pair of rows for each agree set, as evidence against
+/// all candidates that only rows from that number on may break.
+///
+/// A step for each row of the snapshot and column gathers codes, and each pair takes a step for sixteen columns. The codes of the rows
+/// from the number on are copied, four bytes each, and those of the rows before them block by block; a set of the agree sets
+/// is kept besides. The only error is want of memory.
+pub fn all_pairs(
+    alloc: Global,
+    snapshot: &Snapshot,
+    from: RowNo,
+) -> Result<Vec<Witness>, AllocError>
+    ensures { IfOk result (λ found. AreAllPairs snapshot.now from found.items) }
+{
+    let to = snapshot.to();
+    let late = CodedRows::between(alloc, snapshot, from, to)?;
+    let mut found = FoundPairs::none(alloc)?;
+    let mut start = RowNo::first();
+    while start < to {
+        let end = block_end(start, to);
+        let early = CodedRows::between(alloc, snapshot, start, end)?;
+        push_pairs(&early, &late, &mut found)?;
+        start = end;
+    }
+    Ok(found.pairs)
+}
