@@ -1,5 +1,6 @@
 pub mod Files
 pub mod Inclusions
+pub mod Including
 pub mod Texts
 pub mod Ends
 pub mod SessionAnswers

@@ -13,5 +13,6 @@ pub mod Reports
 pub mod Session
 pub mod Items
 pub mod Columns
+pub mod Including
 pub mod FilesRead
 pub mod Waiting

@@ -76,7 +76,7 @@ pub static BATCHES: [Case<'static>; 8] = [
     },
 ];
 
-pub static REPORTS: [Case<'static>; 5] = [
+pub static REPORTS: [Case<'static>; 6] = [
     Case {
         words: WORDS,
         files: K,
@@ -143,6 +143,20 @@ pub static REPORTS: [Case<'static>; 5] = [
             "key,1\nkey,2\nfd,2,1\nfd,1,2\nind,1.1,1.2\nind,1.2,1.1\napplied,3,1,1,2\nrelation,k.csv,2,2\n",
             K_HEAD,
             "key,1\nkey,2\nfd,2,1\nfd,1,2\n",
+        ],
+        tables: &[],
+        status: 0,
+    },
+    // Each of three columns holds the next, and the last column equals the first.
+    Case {
+        words: WORDS,
+        files: &[("k.csv", "k,v,w,x\n1,1,1,3\n2,2,1,2\n3,1,1,1\n")],
+        input: "?\n",
+        text: &[
+            "relation,k.csv,4,3\n",
+            K_HEAD,
+            "column,3,w\ncolumn,4,x\nkey,1\nkey,4\nfd,4,1\nfd,1,2\nfd,4,2\nfd,,3\nfd,1,4\n",
+            "ind,1.1,1.4\nind,1.2,1.1\nind,1.2,1.4\nind,1.3,1.1\nind,1.3,1.2\nind,1.3,1.4\nind,1.4,1.1\n",
         ],
         tables: &[],
         status: 0,
