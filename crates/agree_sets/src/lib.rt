@@ -15,10 +15,14 @@ mod tests;
 /// How many codes are compared at once.
 const LANES: usize = 16;
 
+/// How many of the codes that are left over are compared at once.
+const FEW_LANES: usize = 4;
+
 /// The places at which two rows of codes are equal, as a set of columns: the columns in which the rows agree where each
 /// column's codes are equal exactly where its cells agree.
 ///
-/// It takes no memory. Sixteen codes are compared at once, and those after the last whole sixteen one by one.
+/// It takes no memory. Sixteen codes are compared at once, those after the last whole sixteen four at once, and the last three at most
+/// one by one.
 pub fn agree_codes(a: &[u32], b: &[u32]) -> ColSet
     requires same { length a.now ≡ length b.now }
     requires few { length a.now ≤ MOST_COLUMNS }
@@ -35,11 +39,15 @@ fn agreement(a: &[u32], b: &[u32]) -> u128
     ensures { result ≡ agreement_bits a.now b.now }
 {
     let blocks = a.len() / LANES;
+    let fours = a.len() / FEW_LANES;
     let mut bits = 0;
     'whole: for k in 0..blocks {
         bits = joined(bits, LANES * k, block(a, b, LANES * k), LANES);
     }
-    'rest: for k in LANES * blocks..a.len() {
+    'fours: for k in LANES / FEW_LANES * blocks..fours {
+        bits = joined(bits, FEW_LANES * k, four(a, b, FEW_LANES * k), FEW_LANES);
+    }
+    'rest: for k in FEW_LANES * fours..a.len() {
         bits = joined(bits, k, (a[k] == b[k]) as u64, 1);
     }
     bits
@@ -54,6 +62,18 @@ fn block(a: &[u32], b: &[u32], at: usize) -> u64
 {
     u32x16::from_slice(&a[at..])
         .simd_eq(u32x16::from_slice(&b[at..]))
+        .to_bitmask()
+}
+
+// A bit for each of the 4 places from `at` on where the codes are equal.
+fn four(a: &[u32], b: &[u32], at: usize) -> u64
+    requires first { at + 4 ≤ length a.now }
+    requires second { at + 4 ≤ length b.now }
+    ensures value { result ≡ agreement_bits (chunk at 4 a.now) (chunk at 4 b.now) }
+    ensures bound { result < 2 ^ 4 }
+{
+    u32x4::from_slice(&a[at..])
+        .simd_eq(u32x4::from_slice(&b[at..]))
         .to_bitmask()
 }
 

@@ -2,7 +2,7 @@
 use Rattle.std.proofs.Common.{inl, inr, ◌≡◌, ◌⊎◌, ℕ, ◌+◌, ◌<◌, ◌≤◌, Bool, true, false, not, ◌&&◌, ◌||◌, eqb, refl, sym, ap, ap₂, ◌∙◌, subst, List, [], ◌∷◌, ◌++◌, if◌then◌else◌, cond, length, map, get_or, take, drop, arith}
 use Rattle.std.specs.List.{filter, list_any}
 use Rattle.std.proofs.lemmas.Bool.{true≢false, false≢true, and_parts, and_from, or_cases, or_left, or_right, not-true, not_from_false, false_from_ne_true, true_from_ne_false, eqb-true, eq-eqb, ne_eqb, cases_Bool}
-use Rattle.std.proofs.lemmas.List.{append-nil, append_assoc, length-take-le}
+use Rattle.std.proofs.lemmas.List.{append-nil, append_assoc, length-take-le, take-append-drop}
 use Rattle.std.proofs.lemmas.List.Elements.{filter-append}
 use Rattle.std.proofs.lemmas.Grind.{flat_map-append}
 use Rattle.std.proofs.lemmas.List.Folds.{list_any-append}
@@ -457,6 +457,14 @@ kept_cover free ws kept real all x i = same_test (covered kept x) (covered ws x)
         let w = covered_which ws x h in
         let v = list_any_which (λ v. subset (inter w.set free) v) kept (all w.set w.listed) in
         covered_at kept x v.0 v.1 (record { each = λ k g. (subset-true v.2).each k (has-inter w.set free k ∙ and_from _ _ (w.inside.each k g) (i.each k g)) })
+
+-- what is found in the front of a list is found in the list
+pub found_in_part : (p : ℕ → Bool) (n : ℕ) (xs ys : List ℕ) → xs ≡ ys → list_any p (take n xs) ≡ true → list_any p ys ≡ true
+found_in_part p n xs ys e h =
+    ap (list_any p) (sym e ∙ sym (take-append-drop n xs)) ∙ list_any-append p (take n xs) (drop n xs) ∙ or_left _ _ h
+
+pub outermost_cover : (ws : List ℕ) (free : ℕ) (rest kept : List ℕ) → rest ≡ [] → OutermostSoFar ws free rest kept → (x : ℕ) → IsSubset x free → covered kept x ≡ covered ws x
+outermost_cover ws free rest kept e o = kept_cover free ws kept o.real (outermost_all ws free rest kept e o)
 
 pub outermost_tell : (free : ℕ) (ws : List ℕ) (t : Target) (lacking kept : List ℕ) → lacking ≡ filter (λ w. not (has_target w t)) ws → ((w : ℕ) → Listed w kept → Listed w lacking) → ((w : ℕ) → Listed w lacking → list_any (λ v. subset (inter w free) v) kept ≡ true) → (x : ℕ) → IsSubset x free → covered kept x ≡ refuted ws t x
 outermost_tell free ws t lacking kept e real all x i = kept_cover free lacking kept real all x i ∙ ap (λ us. covered us x) e ∙ covered_refuted ws t x

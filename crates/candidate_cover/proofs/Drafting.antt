@@ -48,14 +48,12 @@ module _ (n z : ℕ) (ws : List ℕ) (i w : ℕ) (l : i < length ws) (is : w ≡
       same : (t : Target) → refuted (take i ws) t z ≡ refuted (take (i + 1) ws) t z
       same t = sym (refuted_more ws t z i w l is ∙ ap (λ b. refuted (take i ws) t z || (b && not (has_target w t))) e ∙ sym (or_false (refuted (take i ws) t z)))
 
--- whichever of both it was
-pub known_next : (n z : ℕ) (ws : List ℕ) (i w : ℕ) → i < length ws → w ≡ get_or ws i w → (old new : Known) → new ≡ cond (subset z w) (record { rows = true; columns = union old.columns (minus (all n) w) }) old → KnownSoFar n (take i ws) z old.rows old.columns
-    → KnownSoFar n (take (i + 1) ws) z new.rows new.columns
-known_next n z ws i w l is old new e k = by (subset z w) refl e
-  where
-    by : (b : Bool) → subset z w ≡ b → new ≡ cond b (record { rows = true; columns = union old.columns (minus (all n) w) }) old → KnownSoFar n (take (i + 1) ws) z new.rows new.columns
-    by true s f = subst (λ (m : Known). KnownSoFar n (take (i + 1) ws) z m.rows m.columns) (sym f) (known_more n z ws i w l is old.rows old.columns k s (union old.columns (minus (all n) w)) refl)
-    by false s f = subst (λ (m : Known). KnownSoFar n (take (i + 1) ws) z m.rows m.columns) (sym f) (known_same n z ws i w l is old.rows old.columns k s)
+-- what is told of an agree set that contains z
+pub known_told : (n z : ℕ) (ws : List ℕ) (i w : ℕ) → i < length ws → w ≡ get_or ws i w → (old new : Known) (every : ℕ) → every ≡ all n → new ≡ record { rows = true; columns = union old.columns (minus every w) } → subset z w ≡ true
+    → KnownSoFar n (take i ws) z old.rows old.columns → KnownSoFar n (take (i + 1) ws) z new.rows new.columns
+known_told n z ws i w l is old new every f e s k =
+    subst (λ (m : Known). KnownSoFar n (take (i + 1) ws) z m.rows m.columns) (sym e)
+    (known_more n z ws i w l is old.rows old.columns k s (union old.columns (minus every w)) (ap (λ (v : ℕ). union old.columns (minus v w)) f))
 
 -- an agree set of some is one of all
 refuted_front : (ws vs : List ℕ) (t : Target) (z : ℕ) → refuted ws t z ≡ true → refuted (ws ++ vs) t z ≡ true

@@ -409,20 +409,9 @@ fn outermost(
     Ok(kept)
 }
 
-// Whether none of the sets has more columns than the one before it.
-fn are_falling(sets: &[ColSet]) -> bool {
-    let mut most = u32::MAX;
-    for w in sets {
-        let count = w.len();
-        if count > most {
-            return false;
-        }
-        most = count;
-    }
-    true
-}
-
-// Of agree sets of which none lies inside an earlier one those that lie inside no other: all, where the large ones come first.
+// Of agree sets of which none lies inside an earlier one those that lie, as far as the columns go, inside no other.
+//
+// They came in runs, the large ones of each first, so one lies inside another of a later run at most: of one run all stay.
 pub(crate) fn outermost_of_filed(
     alloc: Global,
     columns: ColSet,
@@ -430,10 +419,19 @@ pub(crate) fn outermost_of_filed(
 ) -> Result<Vec<ColSet>, AllocError>
     ensures { IfOk result (λ kept. (x : ℕ) → IsSubset x columns → covered kept.items x ≡ covered agree_sets.items x) }
 {
-    if are_falling(agree_sets.as_slice()) {
-        return Ok(agree_sets);
+    let mut rest = agree_sets;
+    let mut kept = Vec::new(alloc);
+    let mut later = 0;
+    let mut before = 0;
+    while let Some(w) = rest.pop() {
+        if w.len() < before {
+            later = kept.len();
+        }
+        before = w.len();
+        if !is_inside(&kept[..later], columns, w) {
+            kept.push(w)?;
+        }
     }
-    let kept = outermost(alloc, columns, agree_sets)?;
     Ok(kept)
 }
 

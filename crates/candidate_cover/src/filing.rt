@@ -215,17 +215,13 @@ impl Known {
         }
     }
 
-    // After one more agree set.
-    fn told(self, all: ColSet, z: ColSet, w: ColSet) -> Known
-        ensures { result ≡ (if subset z w then record { rows = true; columns = union self.columns (minus all w) } else self) }
+    // After one more agree set that contains the set.
+    fn told(self, all: ColSet, w: ColSet) -> Known
+        ensures { result ≡ record { rows = true; columns = union self.columns (minus all w) } }
     {
-        if z.subset_of(w) {
-            Known {
-                rows: true,
-                columns: self.columns.union(all.minus(w)),
-            }
-        } else {
-            self
+        Known {
+            rows: true,
+            columns: self.columns.union(all.minus(w)),
         }
     }
 
@@ -251,7 +247,10 @@ fn known_by(agree_sets: &[ColSet], columns: u8, z: ColSet) -> Known
         columns: ColSet::empty(),
     };
     for w in agree_sets {
-        known = known.told(all, z, *w);
+        if !z.subset_of(*w) {
+            continue;
+        }
+        known = known.told(all, *w);
         if known.has_all(open) {
             return Known {
                 rows: true,

@@ -5,5 +5,8 @@ use Rattle.agree_sets.proofs.agreement.Given as goal
 abbrev pub invariant-whole : goal.invariant-whole
 invariant-whole l = l.bits ≡ agreement_bits (take (16 * l.k) l.a) (take (16 * l.k) l.b)
 
+abbrev pub invariant-fours : goal.invariant-fours
+invariant-fours l = l.bits ≡ agreement_bits (take (4 * l.k) l.a) (take (4 * l.k) l.b)
+
 abbrev pub invariant-rest : goal.invariant-rest
 invariant-rest l = l.bits ≡ agreement_bits (take l.k l.a) (take l.k l.b)
