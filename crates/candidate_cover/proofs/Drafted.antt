@@ -69,8 +69,8 @@ column_lefts c a = lefts (cands_of c (Col a))
 pub lefts_more : (c : CandLists) (k : ℕ) (old : List (List ℕ)) (new : List ℕ) → old ≡ map (column_lefts c) (upto k) → new ≡ column_lefts c k → old ++ new ∷ [] ≡ map (column_lefts c) (upto (k + 1))
 lefts_more c k old new e f = ap₂ (λ (ls : List (List ℕ)) (xs : List ℕ). ls ++ xs ∷ []) e f ∙ sym (ap (map (column_lefts c)) (upto_more k 0 ∙ ap (λ (i : ℕ). upto k ++ i ∷ []) (let e : 0 + k ≡ k = omega arith in e)) ∙ map-append (column_lefts c) (upto k) (k ∷ []))
 
-pub drafted_cover : (n : ℕ) (ws : List ℕ) (c : CandLists) (rows : List ℕ) (columns : List (List ℕ)) → AreLeast n ws c → rows ≡ lefts (cands_of c RowId) → columns ≡ map (column_lefts c) (upto n) → AreDrafted n ws rows columns
-drafted_cover n ws c rows columns l e f = record {
+pub drafted_cover : (n : ℕ) (ws : List ℕ) (c : CandLists) (row_id : List ℕ) (columns : List (List ℕ)) → AreLeast n ws c → row_id ≡ lefts (cands_of c RowId) → columns ≡ map (column_lefts c) (upto n) → AreDrafted n ws row_id columns
+drafted_cover n ws c row_id columns l e f = record {
   rows_least = subst (ListsLeast (choices n RowId) ws RowId) (sym (e ∙ l.each RowId tt)) (lists_least n ws RowId);
   count = ap length f ∙ length-map-range_with_len (column_lefts c) 0 n;
   each = λ a b. subst (ListsLeast (choices n (Col a)) ws (Col a))
@@ -85,8 +85,8 @@ module _ (n k : ℕ) (ws : List ℕ) (c : CandLists) (lists : List (Vec ℕ Glob
   pub lists_count : length lists ≡ n
   lists_count = sym (length-map lists (λ v. v.items)) ∙ ap length e ∙ length-map-range_with_len (column_lefts c) 0 k ∙ all_of
 
-  pub lists_drafted : AreLeast n ws c → (rows : List ℕ) → rows ≡ lefts (cands_of c RowId) → AreDrafted (length lists) ws rows (lists_behind lists)
-  lists_drafted l rows f = subst (λ (m : ℕ). AreDrafted m ws rows (lists_behind lists)) (sym lists_count) (drafted_cover n ws c rows (lists_behind lists) l f (e ∙ ap (λ (m : ℕ). map (column_lefts c) (upto m)) all_of))
+  pub lists_drafted : AreLeast n ws c → (row_id : List ℕ) → row_id ≡ lefts (cands_of c RowId) → AreDrafted (length lists) ws row_id (lists_behind lists)
+  lists_drafted l row_id f = subst (λ (m : ℕ). AreDrafted m ws row_id (lists_behind lists)) (sym lists_count) (drafted_cover n ws c row_id (lists_behind lists) l f (e ∙ ap (λ (m : ℕ). map (column_lefts c) (upto m)) all_of))
 
 pub lists_more : (c : CandLists) (k : ℕ) (lists new : List (Vec ℕ Global)) (v : Vec ℕ Global) → lists_behind lists ≡ map (column_lefts c) (upto k) → new ≡ lists ++ v ∷ [] → v.items ≡ column_lefts c k → lists_behind new ≡ map (column_lefts c) (upto (k + 1))
 lists_more c k lists new v e f g = ap lists_behind f ∙ map-append (λ v. v.items) lists (v ∷ []) ∙ lefts_more c k (lists_behind lists) v.items e g

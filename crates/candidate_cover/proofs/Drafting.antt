@@ -1,5 +1,5 @@
 -- Agree sets that come into a draft.
-use Rattle.std.proofs.Common.{◌≡◌, ℕ, ◌+◌, ◌^◌, ◌<◌, ◌≤◌, Bool, true, false, cond, not, ◌&&◌, ◌||◌, refl, sym, ap, ◌∙◌, subst, List, [], ◌∷◌, ◌++◌, length, get_or, take, drop}
+use Rattle.std.proofs.Common.{◌≡◌, ℕ, ◌+◌, ◌^◌, ◌<◌, ◌≤◌, Bool, true, false, not, ◌&&◌, ◌||◌, refl, sym, ap, ◌∙◌, subst, List, [], ◌∷◌, ◌++◌, length, get_or, take, drop}
 use Rattle.std.specs.List.{list_any}
 use Rattle.std.proofs.lemmas.Bool.{true≢false, and_parts, and_from, or_right, not_from_false, not-true, lt-ltb, ltb-true, false_from_ne_true, true_from_ne_false}
 use Rattle.std.proofs.lemmas.List.{take_all, take-append-drop}
@@ -20,26 +20,26 @@ use Rattle.candidate_cover.proofs.Growing.{outside_of, not_inside}
 use Rattle.candidate_cover.proofs.Exploring.{refuted_more, nothing_refuted}
 
 -- ---- for which targets a set is known
-pub record KnownSoFar (n : ℕ) (ws : List ℕ) (z : ℕ) (rows : Bool) (lacking : ℕ) : Type 0 where
-  pub of_rows : rows ≡ refuted ws RowId z
+pub record KnownSoFar (n : ℕ) (ws : List ℕ) (z : ℕ) (row_id : Bool) (lacking : ℕ) : Type 0 where
+  pub of_row_id : row_id ≡ refuted ws RowId z
   pub of_columns : (a : ℕ) → a < n → has lacking a ≡ refuted ws (Col a) z
 
 pub known_none : (n z lacking : ℕ) → lacking ≡ 0 → KnownSoFar n [] z false lacking
-known_none n z lacking e = record { of_rows = sym (nothing_refuted RowId z); of_columns = λ a l. ap (λ (v : ℕ). has v a) e ∙ has-empty a ∙ sym (nothing_refuted (Col a) z) }
+known_none n z lacking e = record { of_row_id = sym (nothing_refuted RowId z); of_columns = λ a l. ap (λ (v : ℕ). has v a) e ∙ has-empty a ∙ sym (nothing_refuted (Col a) z) }
 
-module _ (n z : ℕ) (ws : List ℕ) (i w : ℕ) (l : i < length ws) (is : w ≡ get_or ws i w) (rows : Bool) (lacking : ℕ) (k : KnownSoFar n (take i ws) z rows lacking) where
+module _ (n z : ℕ) (ws : List ℕ) (i w : ℕ) (l : i < length ws) (is : w ≡ get_or ws i w) (row_id : Bool) (lacking : ℕ) (k : KnownSoFar n (take i ws) z row_id lacking) where
   pub known_more : subset z w ≡ true → (new : ℕ) → new ≡ union lacking (minus (all n) w) → KnownSoFar n (take (i + 1) ws) z true new
   unfolding has_target
   known_more e new made = record {
-    of_rows = sym (refuted_more ws RowId z i w l is ∙ or_right (refuted (take i ws) RowId z) _ (ap (λ b. b && not false) e));
+    of_row_id = sym (refuted_more ws RowId z i w l is ∙ or_right (refuted (take i ws) RowId z) _ (ap (λ b. b && not false) e));
     of_columns = λ a b.
         ap (λ (v : ℕ). has v a) made ∙ has-union lacking (minus (all n) w) a ∙ ap (λ c. c || has (minus (all n) w) a) (k.of_columns a b)
         ∙ ap (λ c. refuted (take i ws) (Col a) z || c) (has-minus (all n) w a ∙ ap (λ c. c && not (has w a)) (has-all n a ∙ lt-ltb a n b ∙ sym e))
         ∙ sym (refuted_more ws (Col a) z i w l is);
   }
 
-  pub known_same : subset z w ≡ false → KnownSoFar n (take (i + 1) ws) z rows lacking
-  known_same e = record { of_rows = k.of_rows ∙ same RowId; of_columns = λ a b. k.of_columns a b ∙ same (Col a) }
+  pub known_same : subset z w ≡ false → KnownSoFar n (take (i + 1) ws) z row_id lacking
+  known_same e = record { of_row_id = k.of_row_id ∙ same RowId; of_columns = λ a b. k.of_columns a b ∙ same (Col a) }
     where
       or_false : (b : Bool) → b ≡ (b || false)
       or_false true = refl
@@ -49,11 +49,11 @@ module _ (n z : ℕ) (ws : List ℕ) (i w : ℕ) (l : i < length ws) (is : w ≡
       same t = sym (refuted_more ws t z i w l is ∙ ap (λ b. refuted (take i ws) t z || (b && not (has_target w t))) e ∙ sym (or_false (refuted (take i ws) t z)))
 
 -- what is told of an agree set that contains z
-pub known_told : (n z : ℕ) (ws : List ℕ) (i w : ℕ) → i < length ws → w ≡ get_or ws i w → (old new : Known) (every : ℕ) → every ≡ all n → new ≡ record { rows = true; columns = union old.columns (minus every w) } → subset z w ≡ true
-    → KnownSoFar n (take i ws) z old.rows old.columns → KnownSoFar n (take (i + 1) ws) z new.rows new.columns
+pub known_told : (n z : ℕ) (ws : List ℕ) (i w : ℕ) → i < length ws → w ≡ get_or ws i w → (old new : Known) (every : ℕ) → every ≡ all n → new ≡ record { row_id = true; columns = union old.columns (minus every w) } → subset z w ≡ true
+    → KnownSoFar n (take i ws) z old.row_id old.columns → KnownSoFar n (take (i + 1) ws) z new.row_id new.columns
 known_told n z ws i w l is old new every f e s k =
-    subst (λ (m : Known). KnownSoFar n (take (i + 1) ws) z m.rows m.columns) (sym e)
-    (known_more n z ws i w l is old.rows old.columns k s (union old.columns (minus every w)) (ap (λ (v : ℕ). union old.columns (minus v w)) f))
+    subst (λ (m : Known). KnownSoFar n (take (i + 1) ws) z m.row_id m.columns) (sym e)
+    (known_more n z ws i w l is old.row_id old.columns k s (union old.columns (minus every w)) (ap (λ (v : ℕ). union old.columns (minus v w)) f))
 
 -- an agree set of some is one of all
 refuted_front : (ws vs : List ℕ) (t : Target) (z : ℕ) → refuted ws t z ≡ true → refuted (ws ++ vs) t z ≡ true
@@ -69,14 +69,14 @@ refuted_own ws z a h = false_from_ne_true _ (λ e.
     true≢false (sym ((subset-true p.0).each a h) ∙ not-true _ p.1))
 
 -- what is known for all that z lacks stays so
-pub known_enough : (n z : ℕ) (ws : List ℕ) (i : ℕ) (rows : Bool) (lacking : ℕ) → (rows && subset (minus (all n) z) lacking) ≡ true → KnownSoFar n (take i ws) z rows lacking → KnownSoFar n ws z rows lacking
-known_enough n z ws i rows lacking e k = record {
-  of_rows = p.0 ∙ sym (whole RowId (sym k.of_rows ∙ p.0));
+pub known_enough : (n z : ℕ) (ws : List ℕ) (i : ℕ) (row_id : Bool) (lacking : ℕ) → (row_id && subset (minus (all n) z) lacking) ≡ true → KnownSoFar n (take i ws) z row_id lacking → KnownSoFar n ws z row_id lacking
+known_enough n z ws i row_id lacking e k = record {
+  of_row_id = p.0 ∙ sym (whole RowId (sym k.of_row_id ∙ p.0));
   of_columns = λ a l. by a l (has lacking a) refl;
 }
   where
-    p : (rows ≡ true) × (subset (minus (all n) z) lacking ≡ true)
-    p = and_parts rows _ e
+    p : (row_id ≡ true) × (subset (minus (all n) z) lacking ≡ true)
+    p = and_parts row_id _ e
 
     whole : (t : Target) → refuted (take i ws) t z ≡ true → refuted ws t z ≡ true
     whole t f = subst (λ (vs : List ℕ). refuted vs t z ≡ true) (take-append-drop i ws) (refuted_front (take i ws) (drop i ws) t z f)
@@ -86,14 +86,14 @@ known_enough n z ws i rows lacking e k = record {
     by a l false h = h ∙ sym (refuted_own ws z a (true_from_ne_false (has z a) (λ f.
         true≢false (sym ((subset-true p.1).each a (has-minus (all n) z a ∙ and_from _ _ (has-all n a ∙ lt-ltb a n l) (not_from_false _ f))) ∙ h))))
 
-pub known_all : (n z : ℕ) (ws : List ℕ) (i : ℕ) (rows : Bool) (lacking : ℕ) → length ws ≤ i → KnownSoFar n (take i ws) z rows lacking → KnownSoFar n ws z rows lacking
-known_all n z ws i rows lacking l k = subst (λ vs. KnownSoFar n vs z rows lacking) (take_all i ws l) k
+pub known_all : (n z : ℕ) (ws : List ℕ) (i : ℕ) (row_id : Bool) (lacking : ℕ) → length ws ≤ i → KnownSoFar n (take i ws) z row_id lacking → KnownSoFar n ws z row_id lacking
+known_all n z ws i row_id lacking l k = subst (λ vs. KnownSoFar n vs z row_id lacking) (take_all i ws l) k
 
 -- ---- news
 all_below : (n : ℕ) → all n < 2 ^ n
 all_below n = (choice_parts n RowId (all n) (IsSubset-refl (all n))).0
 
-module _ (n z : ℕ) (ws : List ℕ) (rows : Bool) (lacking : ℕ) (k : KnownSoFar n ws z rows lacking) where
+module _ (n z : ℕ) (ws : List ℕ) (row_id : Bool) (lacking : ℕ) (k : KnownSoFar n ws z row_id lacking) where
   abbrev unseen : ℕ → Bool
   unseen a = not (has z a) && not (refuted ws (Col a) z)
 
@@ -114,18 +114,18 @@ module _ (n z : ℕ) (ws : List ℕ) (rows : Bool) (lacking : ℕ) (k : KnownSoF
       let l : w.0 < n = Listed-upto_within n w.0 w.1 in
       not_from_false _ (not_inside (minus (all n) z) lacking w.0 (has-minus (all n) z w.0 ∙ and_from _ _ (has-all n w.0 ∙ lt-ltb w.0 n l) p.0) (k.of_columns w.0 l ∙ not-true _ p.1))
 
-  pub news_told : (not rows || not (subset (minus (all n) z) lacking)) ≡ is_news n ws z
+  pub news_told : (not row_id || not (subset (minus (all n) z) lacking)) ≡ is_news n ws z
   unfolding is_news
-  news_told = ap (λ b. not b || not (subset (minus (all n) z) lacking)) k.of_rows ∙ ap (λ b. not (refuted ws RowId z) || b) (same_test _ _ some_open open_some)
+  news_told = ap (λ b. not b || not (subset (minus (all n) z) lacking)) k.of_row_id ∙ ap (λ b. not (refuted ws RowId z) || b) (same_test _ _ some_open open_some)
 
-module _ (n z : ℕ) (ws : List ℕ) (rows : Bool) (lacking : ℕ) (k : KnownSoFar n ws z rows lacking) (d : Drafted) (e : n ≡ d.width) (f : ws ≡ d.agree_sets) where
-  told : (not rows || not (subset (minus (all n) z) lacking)) ≡ is_news d.width d.agree_sets z
-  told = news_told n z ws rows lacking k ∙ ap (λ (m : ℕ). is_news m ws z) e ∙ ap (λ vs. is_news d.width vs z) f
+module _ (n z : ℕ) (ws : List ℕ) (row_id : Bool) (lacking : ℕ) (k : KnownSoFar n ws z row_id lacking) (d : Drafted) (e : n ≡ d.width) (f : ws ≡ d.agree_sets) where
+  told : (not row_id || not (subset (minus (all n) z) lacking)) ≡ is_news d.width d.agree_sets z
+  told = news_told n z ws row_id lacking k ∙ ap (λ (m : ℕ). is_news m ws z) e ∙ ap (λ vs. is_news d.width vs z) f
 
-  pub news_then : not rows ≡ true → not rows ≡ is_news d.width d.agree_sets z
+  pub news_then : not row_id ≡ true → not row_id ≡ is_news d.width d.agree_sets z
   news_then h = h ∙ sym (ap (λ b. b || not (subset (minus (all n) z) lacking)) h) ∙ told
 
-  pub news_else : not rows ≡ false → (u x : ℕ) (s : Bool) → u ≡ all n → x ≡ minus u z → s ≡ subset x lacking → not s ≡ is_news d.width d.agree_sets z
+  pub news_else : not row_id ≡ false → (u x : ℕ) (s : Bool) → u ≡ all n → x ≡ minus u z → s ≡ subset x lacking → not s ≡ is_news d.width d.agree_sets z
   news_else h u x s i j m = ap not (m ∙ ap (λ (y : ℕ). subset y lacking) (j ∙ ap (λ (v : ℕ). minus v z) i)) ∙ sym (ap (λ b. b || not (subset (minus (all n) z) lacking)) h) ∙ told
 
 -- ---- one more agree set

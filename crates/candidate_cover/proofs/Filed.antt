@@ -32,10 +32,10 @@ filing_nothing n by_column by_target b e f = record {
   };
 }
 
-pub filing_opening : (n : ℕ) (by_column by_target : List (Vec ℕ Global)) (ws rows : List ℕ) → n ≤ 128 → lists_behind by_column ≡ replicate n [] → lists_behind by_target ≡ replicate n [] → ws ≡ [] → rows ≡ [] → IsFiling (length by_column) ws (lists_behind by_column) rows (lists_behind by_target)
-filing_opening n by_column by_target ws rows b e f g h =
-    subst (λ (m : ℕ). IsFiling m ws (lists_behind by_column) rows (lists_behind by_target)) (sym (sym (length-map by_column (λ v. v.items)) ∙ ap length e ∙ length-replicate n []))
-    (subst (λ (vs : List ℕ). IsFiling n vs (lists_behind by_column) rows (lists_behind by_target)) (sym g)
+pub filing_opening : (n : ℕ) (by_column by_target : List (Vec ℕ Global)) (ws row_id : List ℕ) → n ≤ 128 → lists_behind by_column ≡ replicate n [] → lists_behind by_target ≡ replicate n [] → ws ≡ [] → row_id ≡ [] → IsFiling (length by_column) ws (lists_behind by_column) row_id (lists_behind by_target)
+filing_opening n by_column by_target ws row_id b e f g h =
+    subst (λ (m : ℕ). IsFiling m ws (lists_behind by_column) row_id (lists_behind by_target)) (sym (sym (length-map by_column (λ v. v.items)) ∙ ap length e ∙ length-replicate n []))
+    (subst (λ (vs : List ℕ). IsFiling n vs (lists_behind by_column) row_id (lists_behind by_target)) (sym g)
     (subst (λ (vs : List ℕ). IsFiling n [] (lists_behind by_column) vs (lists_behind by_target)) (sym h) (filing_nothing n (lists_behind by_column) (lists_behind by_target) b e f)))
 
 pub empty_more : (lists new : List (Vec ℕ Global)) (v : Vec ℕ Global) (k : ℕ) → lists_behind lists ≡ replicate k [] → new ≡ lists ++ v ∷ [] → v.items ≡ [] → lists_behind new ≡ replicate (k + 1) []
@@ -135,13 +135,13 @@ module _ (n : ℕ) (ws : List ℕ) (z : ℕ) (known : Bool) (lacking : ℕ) (row
       same true = refl
       same false = refl
 
-  rows_after : (rows new : List ℕ) → Tells rows ws RowId → new ≡ rows ++ cond known [] (z ∷ []) → Tells new (ws ++ z ∷ []) RowId
+  rows_after : (row_id new : List ℕ) → Tells row_id ws RowId → new ≡ row_id ++ cond known [] (z ∷ []) → Tells new (ws ++ z ∷ []) RowId
   unfolding has_target
-  rows_after rows new o e x = ap (list_any (λ w. subset x w)) e ∙ by known refl
+  rows_after row_id new o e x = ap (list_any (λ w. subset x w)) e ∙ by known refl
     where
-      by : (b : Bool) → known ≡ b → list_any (λ w. subset x w) (rows ++ cond b [] (z ∷ [])) ≡ refuted (ws ++ z ∷ []) RowId x
-      by true h = ap (list_any (λ w. subset x w)) (append-nil rows) ∙ o x ∙ sym (refuted-push_inside ws RowId z (rows_known h) x)
-      by false h = grows rows RowId refl o x
+      by : (b : Bool) → known ≡ b → list_any (λ w. subset x w) (row_id ++ cond b [] (z ∷ [])) ≡ refuted (ws ++ z ∷ []) RowId x
+      by true h = ap (list_any (λ w. subset x w)) (append-nil row_id) ∙ o x ∙ sym (refuted-push_inside ws RowId z (rows_known h) x)
+      by false h = grows row_id RowId refl o x
 
   column_after : (a : ℕ) → a < n → (list new : List ℕ) → Tells list ws (Col a) → new ≡ list ++ cond (has open_for a) (z ∷ []) [] → Tells new (ws ++ z ∷ []) (Col a)
   unfolding has_target
@@ -155,16 +155,16 @@ module _ (n : ℕ) (ws : List ℕ) (z : ℕ) (known : Bool) (lacking : ℕ) (row
       by false h true g = stays (has_open a l ∙ ap₂ (λ b c. not b && not c) h g) ∙ sym (refuted-push_inside ws (Col a) z (columns_known a l g) x)
       by false h false g = ap (λ b. list_any (λ w. subset x w) (list ++ cond b (z ∷ []) [])) (has_open a l ∙ ap₂ (λ b c. not b && not c) h g) ∙ grows list (Col a) h o x
 
-  pub filing_after : (places : ℕ) (by_column by_column' : List (List ℕ)) (rows rows' : List ℕ) (by_target by_target' : List (List ℕ)) → places ≡ open_for → IsFiling n ws by_column rows by_target → rows' ≡ rows ++ cond known [] (z ∷ []) → AreAdded n z places by_target by_target'
-      → AreAdded n z z by_column by_column' → IsFiling n (ws ++ z ∷ []) by_column' rows' by_target'
-  filing_after places by_column by_column' rows rows' by_target by_target' p f r t c = record {
+  pub filing_after : (places : ℕ) (by_column by_column' : List (List ℕ)) (row_id row_id' : List ℕ) (by_target by_target' : List (List ℕ)) → places ≡ open_for → IsFiling n ws by_column row_id by_target → row_id' ≡ row_id ++ cond known [] (z ∷ []) → AreAdded n z places by_target by_target'
+      → AreAdded n z z by_column by_column' → IsFiling n (ws ++ z ∷ []) by_column' row_id' by_target'
+  filing_after places by_column by_column' row_id row_id' by_target by_target' p f r t c = record {
     bound = f.bound;
     filed = record {
       count = c.count ∙ f.filed.count;
       each = λ a l. c.each a l ∙ ap (λ (xs : List ℕ). xs ++ having a (z ∷ [])) (f.filed.each a l) ∙ sym (filter-append (λ w. has w a) ws (z ∷ []));
     };
     outer = record {
-      rows_tell = rows_after rows rows' f.outer.rows_tell r;
+      rows_tell = rows_after row_id row_id' f.outer.rows_tell r;
       count = t.count ∙ f.outer.count;
       each = λ a l. column_after a l (get_or by_target a []) (get_or by_target' a []) (f.outer.each a l) (t.each a l ∙ ap (λ (v : ℕ). get_or by_target a [] ++ cond (has v a) (z ∷ []) []) p);
     };

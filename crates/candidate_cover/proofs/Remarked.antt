@@ -140,7 +140,7 @@ length-cands (t ∷ ts) = ap suc (length-cands ts)
 
 -- what a cover of these trees is seen as
 abbrev pub view_of : List (ℕ × Mark) → List (List (ℕ × Mark)) → CandLists
-view_of r ts = record { rows = cands r; columns = map cands ts }
+view_of r ts = record { row_id = cands r; columns = map cands ts }
 
 module _ (r : List (ℕ × Mark)) (ts : List (List (ℕ × Mark))) (now : CandLists) (view : view_of r ts ≡ now) (t : Target) (a : ℕ) (is : t ≡ Col a) where
   at_col : IsColumnTarget (width now) t → a < length ts
@@ -156,5 +156,5 @@ module _ (r : List (ℕ × Mark)) (ts : List (List (ℕ × Mark))) (now : CandLi
   -- another list for the column
   pub col_written : (new : List (ℕ × Mark)) (cs : List Cand) → cands new ≡ cs → view_of r (set ts a new) ≡ with_list now t cs
   col_written new cs e =
-      ap (λ (us : List (List Cand)). record { rows = cands r; columns = us }) (map-set cands ts a new ∙ ap (set (map cands ts) a) e)
+      ap (λ (us : List (List Cand)). record { row_id = cands r; columns = us }) (map-set cands ts a new ∙ ap (set (map cands ts) a) e)
       ∙ ap (λ (c : CandLists). with_list c (Col a) cs) view ∙ ap (λ (u : Target). with_list now u cs) (sym is)

@@ -22,7 +22,7 @@ width-with_list c RowId cs = refl
 
 -- the lists of a new cover
 abbrev pub opening : ℕ → CandLists
-opening n = record { rows = fresh 0 ∷ []; columns = replicate n (fresh 0 ∷ []) }
+opening n = record { row_id = fresh 0 ∷ []; columns = replicate n (fresh 0 ∷ []) }
 
 pub width-opening : (n : ℕ) → width (opening n) ≡ n
 width-opening n = length-replicate n (fresh 0 ∷ [])

@@ -10,7 +10,7 @@ all_marked to cands = map (λ c. record { left = c.left; upto = max c.upto to; h
 
 -- each candidate of all targets
 abbrev pub marked_throughout : ℕ → CandLists → CandLists
-marked_throughout to c = record { rows = all_marked to c.rows; columns = map (all_marked to) c.columns }
+marked_throughout to c = record { row_id = all_marked to c.row_id; columns = map (all_marked to) c.columns }
 
 -- of each candidate of the list nothing is known, and none is held
 abbrev pub refreshed : List Cand → List Cand
@@ -18,4 +18,4 @@ refreshed cands = map fresh (lefts cands)
 
 -- of each candidate of all targets
 abbrev pub refreshed_throughout : CandLists → CandLists
-refreshed_throughout c = record { rows = refreshed c.rows; columns = map refreshed c.columns }
+refreshed_throughout c = record { row_id = refreshed c.row_id; columns = map refreshed c.columns }

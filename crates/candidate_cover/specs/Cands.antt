@@ -17,12 +17,12 @@ width c = length c.columns
 -- the candidates of a target
 abbrev pub cands_of : CandLists → Target → List Cand
 cands_of c (Col a) = slice_index_or c.columns a []
-cands_of c RowId = c.rows
+cands_of c RowId = c.row_id
 
 -- the lists, with these candidates for the target
 abbrev pub with_list : CandLists → Target → List Cand → CandLists
-with_list c (Col a) cands = record { rows = c.rows; columns = slice_set c.columns a cands }
-with_list c RowId cands = record { rows = cands; columns = c.columns }
+with_list c (Col a) cands = record { row_id = c.row_id; columns = slice_set c.columns a cands }
+with_list c RowId cands = record { row_id = cands; columns = c.columns }
 
 abbrev pub lefts : List Cand → List Columns
 lefts cands = map (λ c. c.left) cands
@@ -73,4 +73,4 @@ all_free cands = map (λ c. record { left = c.left; upto = c.upto; held = false 
 
 -- no candidate of any target is held any more
 abbrev pub freed : CandLists → CandLists
-freed c = record { rows = all_free c.rows; columns = map all_free c.columns }
+freed c = record { row_id = all_free c.row_id; columns = map all_free c.columns }

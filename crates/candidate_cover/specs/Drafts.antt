@@ -27,8 +27,8 @@ pub record AreLeast (n : ℕ) (ws : List Columns) (c : CandLists) : Type 0 where
   pub each : (t : Target) → IsColumnTarget n t → lefts (cands_of c t) ≡ least n ws t
 
 -- the lists have what these agree sets leave for each target, in no order
-pub record AreDrafted (n : ℕ) (ws : List Columns) (rows : List Columns) (columns : List (List Columns)) : Type 0 where
-  pub rows_least : ListsLeast (choices n RowId) ws RowId rows
+pub record AreDrafted (n : ℕ) (ws : List Columns) (row_id : List Columns) (columns : List (List Columns)) : Type 0 where
+  pub rows_least : ListsLeast (choices n RowId) ws RowId row_id
   pub count : length columns ≡ n
   pub each : (a : ℕ) → a < n → ListsLeast (choices n (Col a)) ws (Col a) (slice_index_or columns a [])
 
@@ -43,16 +43,16 @@ pub record AreAdded (n : ℕ) (z places : Columns) (old new : List (List Columns
   pub each : (a : ℕ) → a < n → slice_index_or new a [] ≡ slice_index_or old a [] ++ (if has places a then z ∷ [] else [])
 
 -- for each target of n columns the list contains just what those of the agree sets contain that lack the target
-pub record AreOuter (n : ℕ) (ws : List Columns) (rows : List Columns) (lists : List (List Columns)) : Type 0 where
-  pub rows_tell : (x : Columns) → list_any (λ w. subset x w) rows ≡ refuted ws RowId x
+pub record AreOuter (n : ℕ) (ws : List Columns) (row_id : List Columns) (lists : List (List Columns)) : Type 0 where
+  pub rows_tell : (x : Columns) → list_any (λ w. subset x w) row_id ≡ refuted ws RowId x
   pub count : length lists ≡ n
   pub each : (a : ℕ) → a < n → (x : Columns) → list_any (λ w. subset x w) (slice_index_or lists a []) ≡ refuted ws (Col a) x
 
 -- the agree sets are filed by the columns that they have, and by the targets that they lack
-pub record IsFiling (n : ℕ) (ws : List Columns) (by_column : List (List Columns)) (rows : List Columns) (by_target : List (List Columns)) : Type 0 where
+pub record IsFiling (n : ℕ) (ws : List Columns) (by_column : List (List Columns)) (row_id : List Columns) (by_target : List (List Columns)) : Type 0 where
   pub bound : n ≤ 128
   pub filed : AreFiled n ws by_column
-  pub outer : AreOuter n ws rows by_target
+  pub outer : AreOuter n ws row_id by_target
 
 -- the lists that vectors hold
 abbrev pub lists_behind : List (Vec Columns Global) → List (List Columns)

@@ -46,7 +46,7 @@ fn lacking_count(pending: &[ColSet], column: u8) -> usize
     count
 }
 
-// The free columns that all of the agree sets lack.
+// The free columns that all of the agree sets lack. Where no more are left, it looks no further.
 fn lacked_by_all(free: ColSet, pending: &[ColSet]) -> ColSet
     ensures low { IsSubset result free }
     ensures none { (k : ℕ) → has result k ≡ true → having k pending.now ≡ [] }
@@ -54,6 +54,9 @@ fn lacked_by_all(free: ColSet, pending: &[ColSet]) -> ColSet
     let mut lacked = free;
     for w in pending {
         lacked = lacked.minus(*w);
+        if lacked == ColSet::empty() {
+            return lacked;
+        }
     }
     lacked
 }

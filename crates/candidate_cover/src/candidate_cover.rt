@@ -34,7 +34,7 @@ use std::sync::ledger::Ledger;
 /// Contracts see the lists. A candidate takes 21 bytes: its left side stands apart from its marks. A call touches the list of its target alone.
 #[derive(Drop)]
 pub struct CandidateCover {
-    rows: CandList,
+    row_id: CandList,
     columns: Vec<CandList>,
 }
 
@@ -47,7 +47,7 @@ impl Model for CandidateCover {
 
     ghost use Rattle.candidate_cover.specs.Marks.{cands};
 
-    ghost view = { λ c. record { rows = cands c.rows; columns = map cands c.columns.items } };
+    ghost view = { λ c. record { row_id = cands c.row_id; columns = map cands c.columns.items } };
 
     ghost invariant = { λ c. length c.columns.items ≤ MOST_COLUMNS };
 }
@@ -56,15 +56,15 @@ impl CandidateCover {
     /// For each target the empty set alone, of which nothing is known.
     pub fn new(alloc: Global, columns: u8) -> Result<CandidateCover, AllocError>
         requires { columns ≤ MOST_COLUMNS }
-        ensures { IfOk result (λ cover. cover ≡ record { rows = words.fresh empty ∷ []; columns = replicate columns (words.fresh empty ∷ []) }) }
+        ensures { IfOk result (λ cover. cover ≡ record { row_id = words.fresh empty ∷ []; columns = replicate columns (words.fresh empty ∷ []) }) }
     {
-        let rows = CandList::opening(alloc)?;
+        let row_id = CandList::opening(alloc)?;
         let mut lists = Vec::with_capacity(alloc, columns as usize)?;
         for column in 0..columns {
             lists.push(CandList::opening(alloc)?)?;
         }
         Ok(CandidateCover {
-            rows,
+            row_id,
             columns: lists,
         })
     }
@@ -131,13 +131,13 @@ impl CandidateCover {
         ensures { IfOk result (λ draft. draft ≡ record { width = width self.now; agree_sets = agree_sets.items }) }
     {
         let count = self.columns();
-        let rows = self.copied_lefts(alloc, Target::RowId)?;
+        let row_id = self.copied_lefts(alloc, Target::RowId)?;
         let mut columns = Vec::with_capacity(alloc, count as usize)?;
         for column in 0..count {
             columns.push(self.copied_lefts(alloc, Target::Col(column))?)?;
         }
         let filing = Filing::of(alloc, count, agree_sets.as_slice())?;
-        Ok(Draft::of(rows, columns, filing))
+        Ok(Draft::of(row_id, columns, filing))
     }
 
     /// The candidates of a target in report order that a draft leaves, or none where these are the ones that there are. Those
@@ -177,7 +177,7 @@ impl CandidateCover {
             Target::Col(column) => {
                 OldList::of(mem::replace(&mut self.columns[column as usize], list))
             }
-            Target::RowId => OldList::of(mem::replace(&mut self.rows, list)),
+            Target::RowId => OldList::of(mem::replace(&mut self.row_id, list)),
         }
     }
 
@@ -189,7 +189,7 @@ impl CandidateCover {
     {
         match target {
             Target::Col(column) => mark_in(&mut self.columns[column as usize], x, to),
-            Target::RowId => mark_in(&mut self.rows, x, to),
+            Target::RowId => mark_in(&mut self.row_id, x, to),
         }
     }
 
@@ -201,7 +201,7 @@ impl CandidateCover {
     {
         match target {
             Target::Col(column) => hold_in(&mut self.columns[column as usize], x, held),
-            Target::RowId => hold_in(&mut self.rows, x, held),
+            Target::RowId => hold_in(&mut self.row_id, x, held),
         }
     }
 
@@ -209,7 +209,7 @@ impl CandidateCover {
     pub fn free(&mut self)
         ensures { self.new ≡ freed self.old }
     {
-        self.rows.free();
+        self.row_id.free();
         for column in 0..self.columns.len() {
             self.columns[column].free();
         }
@@ -219,7 +219,7 @@ impl CandidateCover {
     pub fn mark_all(&mut self, to: RowNo)
         ensures { self.new ≡ marked_throughout to self.old }
     {
-        self.rows.mark_all(to);
+        self.row_id.mark_all(to);
         for place in 0..self.columns.len() {
             self.columns[place].mark_all(to);
         }
@@ -229,12 +229,12 @@ impl CandidateCover {
     pub fn refreshed(&self, alloc: Global) -> Result<CandidateCover, AllocError>
         ensures { IfOk result (λ made. made ≡ refreshed_throughout self.now) }
     {
-        let rows = self.rows.refreshed(alloc)?;
+        let row_id = self.row_id.refreshed(alloc)?;
         let mut columns = Vec::with_capacity(alloc, self.columns.len())?;
         for list in self.columns.as_slice() {
             columns.push(list.refreshed(alloc)?)?;
         }
-        Ok(CandidateCover { rows, columns })
+        Ok(CandidateCover { row_id, columns })
     }
 
     /// The row below which a candidate is known to hold, where it is listed. It looks the candidate up.
@@ -342,7 +342,7 @@ impl CandidateCover {
     {
         match target {
             Target::Col(column) => &self.columns[column as usize],
-            Target::RowId => &self.rows,
+            Target::RowId => &self.row_id,
         }
     }
 }

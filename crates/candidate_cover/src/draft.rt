@@ -29,7 +29,7 @@ const FEW: usize = 350;
 /// agree sets that came in. A set takes 16 bytes, and 16 more for each column that it has and each target for which it is news.
 #[derive(Drop)]
 pub struct Draft {
-    rows: Vec<ColSet>,
+    row_id: Vec<ColSet>,
     columns: Vec<Vec<ColSet>>,
     filing: Filing,
     made: usize,
@@ -43,19 +43,19 @@ impl Model for Draft {
 
     ghost view = { λ d. record { width = length d.columns.items; agree_sets = d.filing.agree_sets } };
 
-    ghost invariant = { λ d. AreDrafted (length d.columns.items) (take d.made d.filing.agree_sets) d.rows.items (lists_behind d.columns.items) × (d.made ≤ length d.filing.agree_sets) × (d.filing.width ≡ length d.columns.items) };
+    ghost invariant = { λ d. AreDrafted (length d.columns.items) (take d.made d.filing.agree_sets) d.row_id.items (lists_behind d.columns.items) × (d.made ≤ length d.filing.agree_sets) × (d.filing.width ≡ length d.columns.items) };
 }
 
 impl Draft {
     // A draft of these lists, which takes no memory.
-    pub(crate) fn of(rows: Vec<ColSet>, columns: Vec<Vec<ColSet>>, filing: Filing) -> Draft
-        requires lists { AreDrafted (length columns.items) filing.agree_sets rows.items (lists_behind columns.items) }
+    pub(crate) fn of(row_id: Vec<ColSet>, columns: Vec<Vec<ColSet>>, filing: Filing) -> Draft
+        requires lists { AreDrafted (length columns.items) filing.agree_sets row_id.items (lists_behind columns.items) }
         requires width { filing.width ≡ length columns.items }
         ensures { result ≡ filing }
     {
         let made = filing.agree_sets().len();
         Draft {
-            rows,
+            row_id,
             columns,
             filing,
             made,
@@ -80,7 +80,7 @@ impl Draft {
             let sets = uncovered(alloc, choices, kept)?;
             return Ok(sets);
         }
-        let own = sides_of(self.rows.as_slice(), self.columns.as_slice(), target);
+        let own = sides_of(self.row_id.as_slice(), self.columns.as_slice(), target);
         let mut sets = Vec::with_capacity(alloc, own.len())?;
         sets.extend_from_slice(own)?;
         grow_past_all(alloc, columns, target, &mut sets, news)?;
@@ -94,7 +94,7 @@ impl Draft {
     {
         let columns = self.filing.columns();
         let known = self.filing.known(z);
-        !known.rows || !ColSet::all(columns).minus(z).subset_of(known.columns)
+        !known.row_id || !ColSet::all(columns).minus(z).subset_of(known.columns)
     }
 
     /// The draft with a further agree set, which is noted in the time that `is_news` takes and two steps a column.
@@ -102,14 +102,14 @@ impl Draft {
         ensures { IfOk result (λ draft. draft ≡ record { width = self.width; agree_sets = self.agree_sets ++ z ∷ [] }) }
     {
         let Draft {
-            rows,
+            row_id,
             columns,
             filing,
             made,
         } = self;
         let filing = filing.noted(z)?;
         Ok(Draft {
-            rows,
+            row_id,
             columns,
             filing,
             made,
@@ -118,13 +118,13 @@ impl Draft {
 }
 
 // The list of a target.
-fn sides_of<'a>(rows: &'a [ColSet], columns: &'a [Vec<ColSet>], target: Target) -> &'a [ColSet]
+fn sides_of<'a>(row_id: &'a [ColSet], columns: &'a [Vec<ColSet>], target: Target) -> &'a [ColSet]
     requires { IsColumnTarget (length columns.now) target }
-    ensures { (ws : List ℕ) → AreDrafted (length columns.now) ws rows.now (lists_behind columns.now) → ListsLeast (words.choices (length columns.now) target) ws target result.now }
+    ensures { (ws : List ℕ) → AreDrafted (length columns.now) ws row_id.now (lists_behind columns.now) → ListsLeast (words.choices (length columns.now) target) ws target result.now }
 {
     match target {
         Target::Col(column) => columns[column as usize].as_slice(),
-        Target::RowId => rows,
+        Target::RowId => row_id,
     }
 }
 

@@ -21,7 +21,7 @@ use std::marker::Model;
 pub(crate) struct Filing {
     agree_sets: Vec<ColSet>,
     having: Vec<Vec<ColSet>>,
-    rows: Vec<ColSet>,
+    row_id: Vec<ColSet>,
     lacking: Vec<Vec<ColSet>>,
 }
 
@@ -33,7 +33,7 @@ impl Model for Filing {
 
     ghost view = { λ f. record { width = length f.having.items; agree_sets = f.agree_sets.items } };
 
-    ghost invariant = { λ f. IsFiling (length f.having.items) f.agree_sets.items (lists_behind f.having.items) f.rows.items (lists_behind f.lacking.items) };
+    ghost invariant = { λ f. IsFiling (length f.having.items) f.agree_sets.items (lists_behind f.having.items) f.row_id.items (lists_behind f.lacking.items) };
 }
 
 impl Filing {
@@ -47,7 +47,7 @@ impl Filing {
         Ok(Filing {
             agree_sets: Vec::new(alloc),
             having,
-            rows: Vec::new(alloc),
+            row_id: Vec::new(alloc),
             lacking,
         })
     }
@@ -90,14 +90,14 @@ impl Filing {
     {
         match target {
             Target::Col(column) => self.lacking[column as usize].as_slice(),
-            Target::RowId => self.rows.as_slice(),
+            Target::RowId => self.row_id.as_slice(),
         }
     }
 
     // For which targets an agree set that lacks them contains z. It takes a step for each agree set that has the rarest of the columns
     // of z.
     pub(crate) fn known(&self, z: ColSet) -> Known
-        ensures rows { result.rows ≡ refuted self.now.agree_sets RowId z }
+        ensures row_id { result.row_id ≡ refuted self.now.agree_sets RowId z }
         ensures columns { (a : ℕ) → a < self.now.width → has result.columns a ≡ refuted self.now.agree_sets (Col a) z }
     {
         let columns = self.columns();
@@ -121,13 +121,13 @@ impl Filing {
 
     // With one more agree set, filed for the targets that it lacks and that are not known.
     fn filed(mut self, known: Known, z: ColSet) -> Result<Filing, AllocError>
-        requires rows { known.rows ≡ true → refuted self.agree_sets RowId z ≡ true }
+        requires row_id { known.row_id ≡ true → refuted self.agree_sets RowId z ≡ true }
         requires columns { (a : ℕ) → a < self.width → has known.columns a ≡ true → refuted self.agree_sets (Col a) z ≡ true }
         ensures { IfOk result (λ filing. filing ≡ record { width = self.width; agree_sets = self.agree_sets ++ z ∷ [] }) }
     {
         let columns = self.columns();
         let open = ColSet::all(columns).minus(z).minus(known.columns);
-        push_unless(&mut self.rows, known.rows, z)?;
+        push_unless(&mut self.row_id, known.row_id, z)?;
         file(&mut self.lacking, columns, open, z)?;
         file(&mut self.having, columns, z, z)?;
         self.agree_sets.push(z)?;
@@ -201,35 +201,35 @@ fn fewest_containing<'a>(
 // For which targets an agree set that lacks them contains a set.
 #[derive(Clone, Copy)]
 pub(crate) struct Known {
-    pub(crate) rows: bool,
+    pub(crate) row_id: bool,
     pub(crate) columns: ColSet,
 }
 
 impl Known {
     fn nothing() -> Known
-        ensures { result ≡ record { rows = false; columns = empty } }
+        ensures { result ≡ record { row_id = false; columns = empty } }
     {
         Known {
-            rows: false,
+            row_id: false,
             columns: ColSet::empty(),
         }
     }
 
     // After one more agree set that contains the set.
     fn told(self, all: ColSet, w: ColSet) -> Known
-        ensures { result ≡ record { rows = true; columns = union self.columns (minus all w) } }
+        ensures { result ≡ record { row_id = true; columns = union self.columns (minus all w) } }
     {
         Known {
-            rows: true,
+            row_id: true,
             columns: self.columns.union(all.minus(w)),
         }
     }
 
     // Whether which row it is and these columns are among the targets.
     fn has_all(&self, columns: ColSet) -> bool
-        ensures { result ≡ (self.now.rows && subset columns self.now.columns) }
+        ensures { result ≡ (self.now.row_id && subset columns self.now.columns) }
     {
-        self.rows && columns.subset_of(self.columns)
+        self.row_id && columns.subset_of(self.columns)
     }
 }
 
@@ -237,13 +237,13 @@ impl Known {
 // that z lacks.
 fn known_by(agree_sets: &[ColSet], columns: u8, z: ColSet) -> Known
     requires { columns ≤ MOST_COLUMNS }
-    ensures rows { result.rows ≡ refuted agree_sets.now RowId z }
+    ensures row_id { result.row_id ≡ refuted agree_sets.now RowId z }
     ensures columns { (a : ℕ) → a < columns → has result.columns a ≡ refuted agree_sets.now (Col a) z }
 {
     let all = ColSet::all(columns);
     let open = all.minus(z);
     let mut known = Known {
-        rows: false,
+        row_id: false,
         columns: ColSet::empty(),
     };
     for w in agree_sets {
@@ -253,7 +253,7 @@ fn known_by(agree_sets: &[ColSet], columns: u8, z: ColSet) -> Known
         known = known.told(all, *w);
         if known.has_all(open) {
             return Known {
-                rows: true,
+                row_id: true,
                 columns: known.columns,
             };
         }

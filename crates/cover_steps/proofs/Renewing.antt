@@ -72,4 +72,4 @@ renewed_list-unconcerned n ws c t z e f = renewed_list-same n (ws ++ z ∷ []) c
 
 -- ---- equal lists for each target
 pub same_lists : (c d : CandLists) → length c.columns ≡ length d.columns → ((t : Target) → IsColumnTarget (length c.columns) t → cands_of c t ≡ cands_of d t) → c ≡ d
-same_lists c d e f = λ i. record { rows = f RowId tt i; columns = ext_get_or [] c.columns d.columns e (λ k l. f (Col k) l) i }
+same_lists c d e f = λ i. record { row_id = f RowId tt i; columns = ext_get_or [] c.columns d.columns e (λ k l. f (Col k) l) i }

@@ -24,7 +24,7 @@ pub record Core : Type 0 where
 
 -- the empty set for each target of n columns, of which nothing is known
 abbrev pub one_each : ℕ → CandLists
-one_each n = record { rows = fresh 0 ∷ []; columns = replicate n (fresh 0 ∷ []) }
+one_each n = record { row_id = fresh 0 ∷ []; columns = replicate n (fresh 0 ∷ []) }
 
 -- no witness, and for each target the empty set
 abbrev pub opened_core : RowState → Core
@@ -73,7 +73,7 @@ abbrev pub renewed_list : ℕ → List Columns → CandLists → Target → List
 renewed_list n ws c t = map (kept_or_fresh (cands_of c t)) (least n ws t)
 
 unfoldable pub renewed : ℕ → List Columns → CandLists → CandLists
-renewed n ws c = record { rows = renewed_list n ws c RowId; columns = map (λ a. renewed_list n ws c (Col a)) (upto n) }
+renewed n ws c = record { row_id = renewed_list n ws c RowId; columns = map (λ a. renewed_list n ws c (Col a)) (upto n) }
 
 -- two rows as a witness
 abbrev pub witness_of : RowState → ℕ → ℕ → Witness

@@ -1,6 +1,9 @@
-use Rattle.std.proofs.Common.{subst}
+use Rattle.std.proofs.Common.{◌≡◌, ◌∙◌, ℕ, false, sym, ap, subst}
+use Rattle.std.proofs.lemmas.Bool.{eqb-true, false≢true}
 use Rattle.std.proofs.lemmas.List.{take_all}
 use Rattle.candidate_cover.proofs.Branches.{LackedSoFar, lacked_first, lacked_more}
+use Rattle.col_set.specs.ColSet.{has}
+use Rattle.col_set.specs.Members.{has-empty}
 use Rattle.candidate_cover.proofs.branching.lacked_by_all.Goals as goal
 
 pub loop-w-init : goal.loop-w-init
@@ -8,6 +11,15 @@ loop-w-init c = lacked_first c.args.free
 
 pub loop-w-preserved : goal.loop-w-preserved
 loop-w-preserved c = lacked_more c.args.pending.now c.args.free c.loop-w.lacked c.loop-w.w-index c.w-item.result c.minus-lacked.result c.loop-w-test.true c.w-item.is c.loop-w.invariant c.minus-lacked.ensures
+
+none : (c : goal.Then-eq) → (k : ℕ) → has c.minus-lacked.result k ≡ false
+none c k = ap (λ (v : ℕ). has v k) (eqb-true _ _ (sym c.eq.ensures ∙ c.if-eq.true) ∙ c.empty.ensures) ∙ has-empty k
+
+pub returns-then-eq-clause-low : goal.returns-then-eq-clause-low
+returns-then-eq-clause-low c = record { each = λ k h. absurd (false≢true (sym (none c k) ∙ h)) }
+
+pub returns-then-eq-clause-none : goal.returns-then-eq-clause-none
+returns-then-eq-clause-none c = λ k h. absurd (false≢true (sym (none c k) ∙ h))
 
 pub returns-clause-low : goal.returns-clause-low
 returns-clause-low c = c.loop-w.invariant.low

@@ -1,7 +1,7 @@
 use Rattle.std.proofs.Common.{◌≡◌, ◌∙◌, ◌++◌, ◌≤◌, ◌∷◌, [], ℕ, List, length, arith, sym, ap}
 use Rattle.std.proofs.lemmas.List.{length-append}
 use Rattle.col_set.specs.ColSet.{inter, subset}
-use Rattle.candidate_cover.proofs.Branches.{no_length, outermost_none, outermost_kept, outermost_left, outermost_all, outermost_cover, found_in_part}
+use Rattle.candidate_cover.proofs.Branches.{no_length, outermost_none, outermost_kept, outermost_left, outermost_cover, found_in_part}
 use Rattle.candidate_cover.proofs.branching.outermost_of_filed.Goals as goal
 use Rattle.candidate_cover.proofs.branching.outermost_of_filed.Goals.{then-len-before, else-len-before}
 
@@ -23,7 +23,7 @@ loop-w-preserved-in-Continue-1 c = (
 pub loop-w-preserved : goal.loop-w-preserved
 loop-w-preserved c = (
   outermost_left c.args.agree_sets.items c.args.columns c.loop-w.rest.items c.pop.new.self.items c.loop-w.kept.items c.in-Some.w c.in-Some.ensures.items
-  (found_in_part (λ v. subset (inter c.in-Some.w c.args.columns) v) c.if-len-before.later c.deref.result.now c.loop-w.kept.items c.deref.ensures.value (sym c.if-not-is_inside.ensures)) c.loop-w.invariant.0,
+      (found_in_part (λ v. subset (inter c.in-Some.w c.args.columns) v) c.if-len-before.later c.deref.result.now c.loop-w.kept.items c.deref.ensures.value (sym c.if-not-is_inside.ensures)) c.loop-w.invariant.0,
   elim c.if-len-before.branch as (λ _. c.if-len-before.later ≤ length c.loop-w.kept.items) [
     | then-len-before w ↦ omega (arith, w.later-is, w.len-later.ensures, c.loop-w.kept.ok.0)
     | else-len-before w ↦ omega (arith, w.later-is, c.loop-w.invariant.1)

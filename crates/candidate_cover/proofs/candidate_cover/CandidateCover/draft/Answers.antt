@@ -14,9 +14,9 @@ filed c = c.in_ok-filing.ensures ∙ ap (λ (ws : List ℕ). record { width = c.
 
 pub of-requires-2-clause-lists : goal.of-requires-2-clause-lists
 of-requires-2-clause-lists c =
-    subst (λ (ws : List ℕ). AreDrafted (length c.loop-column.columns.items) ws c.in_ok-rows.rows.items (lists_behind c.loop-column.columns.items)) (sym (ap (λ (d : Drafted). d.agree_sets) (filed c)))
+    subst (λ (ws : List ℕ). AreDrafted (length c.loop-column.columns.items) ws c.in_ok-row_id.row_id.items (lists_behind c.loop-column.columns.items)) (sym (ap (λ (d : Drafted). d.agree_sets) (filed c)))
     (lists_drafted c.columns-count.result c.loop-column.column c.args.agree_sets.items c.args.self.now c.loop-column.columns.items c.loop-column.auto.column-end c.loop-column-test.false c.loop-column.invariant
-    (subst (λ (n : ℕ). AreLeast n c.args.agree_sets.items c.args.self.now) (sym c.columns-count.ensures.width) c.requires) c.in_ok-rows.rows.items c.in_ok-rows.ensures)
+    (subst (λ (n : ℕ). AreLeast n c.args.agree_sets.items c.args.self.now) (sym c.columns-count.ensures.width) c.requires) c.in_ok-row_id.row_id.items c.in_ok-row_id.ensures)
 
 pub of-requires-2-clause-width : goal.of-requires-2-clause-width
 of-requires-2-clause-width c = ap (λ (d : Drafted). d.width) (filed c) ∙ sym (count c)

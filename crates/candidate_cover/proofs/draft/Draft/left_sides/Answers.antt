@@ -30,7 +30,7 @@ returns c =
     let own : ListsLeast (choices n c.args.target) front c.args.target c.sides_of-own.result.now
     = subst (λ (m : ℕ). ListsLeast (choices m c.args.target) front c.args.target c.sides_of-own.result.now) (ap length c.as_slice-2.ensures.value)
     (c.sides_of-own.ensures front (subst (λ (xs : List ℕ). AreDrafted (length c.as_slice-2.result.now) front xs (lists_behind c.as_slice-2.result.now)) (sym c.as_slice.ensures.value)
-    (subst (λ (ls : List (Vec ℕ Global)). AreDrafted (length ls) front d.rows.items (lists_behind ls)) (sym c.as_slice-2.ensures.value) c.self.invariant.0))) in
+    (subst (λ (ls : List (Vec ℕ Global)). AreDrafted (length ls) front d.row_id.items (lists_behind ls)) (sym c.as_slice-2.ensures.value) c.self.invariant.0))) in
     let old : ListsLeast (choices n c.args.target) front c.args.target c.extend_from_slice.new.self.items
     = subst (ListsLeast (choices n c.args.target) front c.args.target) (sym (c.in_ok-extend_from_slice.ensures.items ∙ ap (λ (xs : List ℕ). xs ++ c.sides_of-own.result.now) c.in_ok-sets-2.ensures.items)) own in
     let made = c.in_ok-grow_past_all.ensures front (subst (λ (m : ℕ). ListsLeast (choices m c.args.target) front c.args.target c.extend_from_slice.new.self.items) (sym wide) old) in

@@ -26,6 +26,6 @@ invariant_of-self c =
     let many : n ≡ length c.file-2.new.lists.items = sym (length-map c.self.inside.having.items (λ v. v.items)) ∙ sym h.count ∙ length-map c.file-2.new.lists.items (λ v. v.items) in
     subst (λ (m : ℕ). IsFiling m c.push.new.self.items (lists_behind c.file-2.new.lists.items) c.push_unless.new.sets.items (lists_behind c.file.new.lists.items)) many
     (subst (λ (vs : List ℕ). IsFiling n vs (lists_behind c.file-2.new.lists.items) c.push_unless.new.sets.items (lists_behind c.file.new.lists.items)) (sym c.in_ok-push.ensures.items)
-    (filing_after n ws c.args.z c.args.known.rows c.args.known.columns (λ h. told RowId (c.requires.rows h))
-    (λ a l h. told (Col a) (c.requires.columns a (subst (λ (m : ℕ). a < m) (ap (λ (d : Drafted). d.width) c.self.view_is) l) h)) c.minus-open.result (lists_behind c.self.inside.having.items) (lists_behind c.file-2.new.lists.items) c.self.inside.rows.items c.push_unless.new.sets.items
+    (filing_after n ws c.args.z c.args.known.row_id c.args.known.columns (λ h. told RowId (c.requires.row_id h))
+    (λ a l h. told (Col a) (c.requires.columns a (subst (λ (m : ℕ). a < m) (ap (λ (d : Drafted). d.width) c.self.view_is) l) h)) c.minus-open.result (lists_behind c.self.inside.having.items) (lists_behind c.file-2.new.lists.items) c.self.inside.row_id.items c.push_unless.new.sets.items
     (lists_behind c.self.inside.lacking.items) (lists_behind c.file.new.lists.items) p c.self.invariant c.in_ok-push_unless.ensures t h))
