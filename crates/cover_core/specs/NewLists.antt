@@ -5,8 +5,9 @@ use Rattle.col_set.specs.declared.target.Target.TheVariants.{Col, RowId}
 use Rattle.col_set.specs.ColSet.{Columns}
 use Rattle.candidate_cover.specs.declared.cand.Cand.{Cand}
 use Rattle.candidate_cover.specs.Lists.{CandLists}
-use Rattle.candidate_cover.specs.Cands.{cands_of}
+use Rattle.candidate_cover.specs.Cands.{cands_of, width}
 use Rattle.cover_steps.specs.Core.{renewed_list}
+use Rattle.cover_core.specs.declared.parts.Parts.{Parts}
 
 -- the list that these agree sets leave for a target, or none where that is the list that there is
 abbrev pub IsPart : ℕ → List Columns → CandLists → Target → Option (List Cand) → Type 0
@@ -18,3 +19,7 @@ pub record AreParts (n : ℕ) (ws : List Columns) (c : CandLists) (first : Optio
   pub rows : IsPart n ws c RowId first
   pub count : length others ≡ n
   pub columns : (a : ℕ) → a < n → IsPart n ws c (Col a) (slice_index_or others a None)
+
+-- the parts are what these agree sets leave of the candidates
+abbrev pub IsLeftBy : CandLists → List Columns → Parts → Type 0
+IsLeftBy c ws parts = AreParts (width c) ws c parts.rows parts.columns.items

@@ -362,7 +362,7 @@ impl Book {
         ensures sound { Sound self.new }
     {
         self.free();
-        self.search(&Alone { gate: &OpenGate })?;
+        self.search(&Alone, &OpenGate)?;
         while self.advance()? {}
         self.free();
         self.covers()
@@ -413,14 +413,9 @@ impl Book {
         self.free();
         self.searcher.stores.others.clear();
         if workers < 2 {
-            self.search(&Alone { gate })?;
+            self.search(&Alone, gate)?;
         } else {
-            self.search(&Beside {
-                rt,
-                gate,
-                workers,
-                least,
-            })?;
+            self.search(&Beside { rt, workers, least }, gate)?;
         }
         self.forget()
     }
@@ -485,7 +480,7 @@ impl Book {
 
     // Validates the unfinished candidates, those with fewer columns first, behind what comparing rows tells. What evidence leaves of those that fail has one column
     // more, so that it comes with the next pass. Once few fail, a pass is of all that are left, as far as these are not too many.
-    fn search<J: Judges>(&mut self, judges: &J) -> Result<(), AllocError>
+    fn search<J: Judges, G: Gate>(&mut self, judges: &J, gate: &G) -> Result<(), AllocError>
         requires { J.ready }
         ensures rows { self.new.rows ≡ self.old.rows }
         ensures witnesses { Extends self.old.witnesses self.new.witnesses }
@@ -495,7 +490,8 @@ impl Book {
             if self.rows.live_len() <= FEW_ROWS {
                 return self.compare_all(judges);
             }
-            self.sample(judges)?;
+            let found = sampled(self.alloc, &self.rows, &self.snapshot)?;
+            self.book_all(judges, found)?;
         } else {
             self.compare_new(judges)?;
         }
@@ -507,7 +503,7 @@ impl Book {
             let least = size as u32;
             let whole = calm && count(&self.candidates) <= MOST_WAITING;
             let most = if whole { u32::MAX } else { least };
-            calm = self.pass(judges, Sizes { least, most })?;
+            calm = self.pass(judges, gate, Sizes { least, most })?;
         }
         Ok(())
     }
@@ -585,20 +581,14 @@ impl Book {
         self.first = first_unfinished(&self.candidates, &mut self.cursors.unfinished, next);
     }
 
-    // Books what pairs of rows near each other agree on.
-    fn sample<J: Judges>(&mut self, judges: &J) -> Result<(), AllocError>
-        requires { J.ready }
-        ensures rows { self.new.rows ≡ self.old.rows }
-        ensures witnesses { Extends self.old.witnesses self.new.witnesses }
-        ensures sound { Sound self.new }
-    {
-        let found = sampled(self.alloc, &self.rows, &self.snapshot)?;
-        self.book_all(judges, found)
-    }
-
     // Validates the unfinished candidates with so many columns that no evidence just found refutes, books the evidence, and tells
     // whether few of them failed: whether it is less evidence than these are.
-    fn pass<J: Judges>(&mut self, judges: &J, sizes: Sizes) -> Result<bool, AllocError>
+    fn pass<J: Judges, G: Gate>(
+        &mut self,
+        judges: &J,
+        gate: &G,
+        sizes: Sizes,
+    ) -> Result<bool, AllocError>
         requires { J.ready }
         ensures rows { self.new.rows ≡ self.old.rows }
         ensures witnesses { Extends self.old.witnesses self.new.witnesses }
@@ -609,7 +599,15 @@ impl Book {
         let list = of_sizes(alloc, &self.candidates, &self.searcher.order, sizes, next)?;
         let snapshot = self.snapshot.clone()?;
         let (rows, stores) = (&self.rows, &mut self.searcher.stores);
-        let judged = judged_by_parts(judges, alloc, rows, &snapshot, list.as_slice(), stores)?;
+        let judged = judged_by_parts(
+            judges,
+            gate,
+            alloc,
+            rows,
+            &snapshot,
+            list.as_slice(),
+            stores,
+        )?;
         let few = judged.found.len() < list.len();
         self.mark_held(&snapshot, judged.held.as_slice())?;
         self.book_all(judges, judged.found)?;

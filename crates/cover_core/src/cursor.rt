@@ -4,7 +4,7 @@ ghost use Rattle.col_set.specs.ColSet.{empty};
 ghost use Rattle.col_set.specs.declared.target.Target.TheVariants.{RowId};
 ghost use Rattle.cover_core.specs.Past as past;
 
-use candidate_cover::{Cand, Marking};
+use candidate_cover::Marking;
 use rel_base::{ColSet, MOST_COLUMNS, RowNo, Target};
 use std::cmp::Ordering;
 
@@ -14,18 +14,6 @@ pub(crate) struct Unfinished {
     pub(crate) target: Target,
     pub(crate) left: ColSet,
     pub(crate) upto: RowNo,
-}
-
-impl Unfinished {
-    pub(crate) fn of(entry: (Target, Cand)) -> Unfinished
-        ensures { result ≡ past.place entry }
-    {
-        Unfinished {
-            target: entry.0,
-            left: entry.1.left,
-            upto: entry.1.upto,
-        }
-    }
 }
 
 // A place among the candidates of all targets: that of a left side among the candidates of a target.

@@ -46,21 +46,16 @@ pub(crate) fn push_evidence(
     Ok(())
 }
 
-// Whether some of the evidence refutes this dependency.
-pub(crate) fn is_told(found: &[Evidence], target: Target, left: ColSet) -> bool
-    requires { IsColumnTarget MOST_COLUMNS target }
-{
-    found
-        .iter()
-        .any(|evidence| evidence.agree.refutes(left, target))
-}
-
 // How much of the evidence that was found last is looked at before a verdict.
 const RECENT: usize = 512;
 
-// The evidence that was found last.
-pub(crate) fn recent(found: &[Evidence]) -> &[Evidence] {
-    &found[found.len().saturating_sub(RECENT)..]
+// Whether some of the evidence that was found last refutes this dependency.
+pub(crate) fn is_told(found: &[Evidence], target: Target, left: ColSet) -> bool
+    requires { IsColumnTarget MOST_COLUMNS target }
+{
+    found[found.len().saturating_sub(RECENT)..]
+        .iter()
+        .any(|evidence| evidence.agree.refutes(left, target))
 }
 
 // The evidence that no witness had told, as witnesses, and what these leave.

@@ -2,13 +2,13 @@
 ghost use Rattle.std.specs.Prelude.{◌≡◌, ◌<◌, ◌≤◌, ◌++◌, length, IfOk, OnOk};
 ghost use Rattle.std.specs.List.{All};
 ghost use Rattle.cover_core.specs.Evidences.{IsEvidence};
-ghost use Rattle.cover_core.specs.Judged.{IsAsked, IsHeld};
+ghost use Rattle.cover_core.specs.Judged.{IsAsked, IsHeld, AreVerdicts};
 ghost use Rattle.candidate_cover.specs.Cands.{width};
-ghost use Rattle.cover_core.specs.NewLists.{AreParts};
+ghost use Rattle.cover_core.specs.NewLists.{IsLeftBy};
 ghost use Rattle.validator.specs.Stores.{AreOf};
 ghost use denote.Param.Send.{IsSync};
 
-use crate::evidence::{Evidence, is_told, push_evidence, recent};
+use crate::evidence::{Evidence, is_told, push_evidence};
 use crate::parts::{Parts, drafted, drafted_by};
 use crate::waiting::Waiting;
 use candidate_cover::{CandidateCover, Draft};
@@ -59,8 +59,7 @@ pub(crate) trait Judges {
         requires ready { ready }
         requires same { AreOf snapshot.now.value stores.old }
         requires asked { All (IsAsked rows.now snapshot.now.value) list.now }
-        ensures held { IfOk result (λ judged. All (IsHeld rows.now snapshot.now.value) judged.held.items) }
-        ensures found { IfOk result (λ judged. All (IsEvidence rows.now) judged.found.items) }
+        ensures verdicts { IfOk result (AreVerdicts rows.now snapshot.now.value) }
         ensures same { AreOf snapshot.now.value stores.new };
 
     // What a draft with so many new agree sets leaves of the candidates.
@@ -73,19 +72,14 @@ pub(crate) trait Judges {
     ) -> Result<Parts, AllocError>
         requires ready { ready }
         requires width { draft.now.width ≡ width candidates.now }
-        ensures { IfOk result (λ parts. AreParts (width candidates.now) draft.now.agree_sets candidates.now parts.rows parts.columns.items) };
-
-    // Passes the gate.
-    fn sought(&self);
+        ensures { IfOk result (IsLeftBy candidates.now draft.now.agree_sets) };
 }
 
 // The thread of the caller and no other.
 #[derive(Drop)]
-pub(crate) struct Alone<'a, G> {
-    pub(crate) gate: &'a G,
-}
+pub(crate) struct Alone;
 
-impl<'a, G: Gate> Judges for Alone<'a, G> {
+impl Judges for Alone {
     ghost ready = { Unit {0} };
 
     fn judged(
@@ -108,22 +102,17 @@ impl<'a, G: Gate> Judges for Alone<'a, G> {
     ) -> Result<Parts, AllocError> {
         drafted(alloc, candidates, draft)
     }
-
-    fn sought(&self) {
-        self.gate.at(SEEKER, Point::Sought);
-    }
 }
 
 // So many threads at most beside each other, where there are so many candidates at least.
 #[derive(Drop)]
-pub(crate) struct Beside<'a, R, G> {
+pub(crate) struct Beside<'a, R> {
     pub(crate) rt: &'a R,
-    pub(crate) gate: &'a G,
     pub(crate) workers: u8,
     pub(crate) least: usize,
 }
 
-impl<'a, R: Threads + Sync, G: Gate> Judges for Beside<'a, R, G> {
+impl<'a, R: Threads + Sync> Judges for Beside<'a, R> {
     ghost ready = { IsSync R.row };
 
     fn judged(
@@ -162,15 +151,12 @@ impl<'a, R: Threads + Sync, G: Gate> Judges for Beside<'a, R, G> {
         }
         drafted_by(self.rt, alloc, candidates, draft, self.workers)
     }
-
-    fn sought(&self) {
-        self.gate.at(SEEKER, Point::Sought);
-    }
 }
 
 // Validates candidates part by part, and passes the gate after each.
-pub(crate) fn judged_by_parts<J: Judges>(
+pub(crate) fn judged_by_parts<J: Judges, G: Gate>(
     judges: &J,
+    gate: &G,
     alloc: Global,
     rows: &RowLog,
     snapshot: &Arc<Snapshot>,
@@ -180,8 +166,7 @@ pub(crate) fn judged_by_parts<J: Judges>(
     requires ready { J.ready }
     requires same { AreOf snapshot.now.value stores.old }
     requires asked { All (IsAsked rows.now snapshot.now.value) list.now }
-    ensures held { IfOk result (λ judged. All (IsHeld rows.now snapshot.now.value) judged.held.items) }
-    ensures found { IfOk result (λ judged. All (IsEvidence rows.now) judged.found.items) }
+    ensures verdicts { IfOk result (AreVerdicts rows.now snapshot.now.value) }
     ensures same { AreOf snapshot.now.value stores.new }
 {
     let mut all = Verdicts {
@@ -193,7 +178,7 @@ pub(crate) fn judged_by_parts<J: Judges>(
         let (part, later) = rest.split_at(rest.len().min(PART));
         let judged = judges.judged(alloc, rows, snapshot, part, stores)?;
         all = together(all, judged)?;
-        judges.sought();
+        gate.at(SEEKER, Point::Sought);
         rest = later;
     }
     Ok(all)
@@ -209,14 +194,13 @@ fn judged(
 ) -> Result<Verdicts, AllocError>
     requires same { store.old ≡ snapshot.now.value }
     requires asked { All (IsAsked rows.now snapshot.now.value) list.now }
-    ensures held { IfOk result (λ judged. All (IsHeld rows.now snapshot.now.value) judged.held.items) }
-    ensures found { IfOk result (λ judged. All (IsEvidence rows.now) judged.found.items) }
+    ensures verdicts { IfOk result (AreVerdicts rows.now snapshot.now.value) }
     ensures store { store.new ≡ store.old }
 {
     let mut held = Vec::new(alloc);
     let mut found = Vec::new(alloc);
     for waiting in list {
-        if !is_told(recent(found.as_slice()), waiting.target, waiting.cand.left) {
+        if !is_told(found.as_slice(), waiting.target, waiting.cand.left) {
             judge(
                 alloc, rows, snapshot, *waiting, store, &mut held, &mut found,
             )?;
@@ -274,8 +258,7 @@ fn judged_by<R: Threads + Sync>(
     requires some { 0 < length stores.old }
     requires same { All (λ store. store ≡ snapshot.now.value) stores.old }
     requires asked { All (IsAsked rows.now snapshot.now.value) list.now }
-    ensures held { IfOk result (λ judged. All (IsHeld rows.now snapshot.now.value) judged.held.items) }
-    ensures found { IfOk result (λ judged. All (IsEvidence rows.now) judged.found.items) }
+    ensures verdicts { IfOk result (AreVerdicts rows.now snapshot.now.value) }
     ensures same { All (λ store. store ≡ snapshot.now.value) stores.new }
 {
     let count = stores.len();
@@ -315,21 +298,18 @@ fn both_halves<R: Threads + Sync>(
     requires others { All (λ store. store ≡ snapshot.now.value) others.old }
     requires low { All (IsAsked rows.now snapshot.now.value) low.now }
     requires high { All (IsAsked rows.now snapshot.now.value) high.now }
-    ensures held { IfOk result (λ judged. All (IsHeld rows.now snapshot.now.value) judged.held.items) }
-    ensures found { IfOk result (λ judged. All (IsEvidence rows.now) judged.found.items) }
+    ensures verdicts { IfOk result (AreVerdicts rows.now snapshot.now.value) }
     ensures few { All (λ store. store ≡ snapshot.now.value) few.new }
     ensures others { All (λ store. store ≡ snapshot.now.value) others.new }
 {
     let mut first = || -> Result<Verdicts, AllocError>
         requires { IsSync R.row × (0 < length few.now) × All (λ store. store ≡ snapshot.now.value) few.now × All (IsAsked rows.now snapshot.now.value) low.now }
-        ensures held { IfOk result (λ judged. All (IsHeld rows.entry.now snapshot.entry.now.value) judged.held.items) }
-        ensures found { IfOk result (λ judged. All (IsEvidence rows.entry.now) judged.found.items) }
+        ensures verdicts { IfOk result (AreVerdicts rows.entry.now snapshot.entry.now.value) }
         ensures same { All (λ store. store ≡ snapshot.entry.now.value) few.exit.now }
     { judged_by(rt, alloc, rows, snapshot, least, low, few) };
     let mut second = || -> Result<Verdicts, AllocError>
         requires { IsSync R.row × (0 < length others.now) × All (λ store. store ≡ snapshot.now.value) others.now × All (IsAsked rows.now snapshot.now.value) high.now }
-        ensures held { IfOk result (λ judged. All (IsHeld rows.entry.now snapshot.entry.now.value) judged.held.items) }
-        ensures found { IfOk result (λ judged. All (IsEvidence rows.entry.now) judged.found.items) }
+        ensures verdicts { IfOk result (AreVerdicts rows.entry.now snapshot.entry.now.value) }
         ensures same { All (λ store. store ≡ snapshot.entry.now.value) others.exit.now }
     { judged_by(rt, alloc, rows, snapshot, least, high, others) };
     let (first, second) = join_mut(rt, &mut first, &mut second);

@@ -8,7 +8,7 @@ ghost use Rattle.candidate_cover.specs.Cands.{cands_of, lefts, width};
 ghost use Rattle.cover_steps.specs.Core.{renewed, targets};
 ghost use Rattle.candidate_cover.specs.Drafts.{AreLeast};
 ghost use Rattle.negative_cover.specs.Concerning.{concerns, is_open, AreConcerned};
-ghost use Rattle.cover_core.specs.NewLists.{IsPart, AreParts};
+ghost use Rattle.cover_core.specs.NewLists.{IsPart, IsLeftBy};
 
 use candidate_cover::{CandidateCover, Draft, OldList, Part};
 use negative_cover::Concerned;
@@ -52,7 +52,7 @@ pub(crate) fn specialised(
     agree: ColSet,
     concerned: &Concerned,
 ) -> Result<Parts, AllocError>
-    ensures { IfOk result (λ parts. (ws : List Columns) → AreLeast (width candidates.now) ws candidates.now → AreConcerned (width candidates.now) ws agree concerned.now → AreParts (width candidates.now) (ws ++ agree ∷ []) candidates.now parts.rows parts.columns.items) }
+    ensures { IfOk result (λ parts. (ws : List Columns) → AreLeast (width candidates.now) ws candidates.now → AreConcerned (width candidates.now) ws agree concerned.now → IsLeftBy candidates.now (ws ++ agree ∷ []) parts) }
 {
     let rows = specialised_part(alloc, candidates, Target::RowId, agree, concerned)?;
     let mut columns = Vec::with_capacity(alloc, candidates.columns() as usize)?;
@@ -103,7 +103,7 @@ pub(crate) fn generalised<L: Ledger>(
     steps: &mut Steps<L>,
 ) -> Result<Parts, AllocError>
     requires { AreLeast (width candidates.now) (rest.now ++ withdrawn.now) candidates.now }
-    ensures { IfOk result (λ parts. AreParts (width candidates.now) rest.now candidates.now parts.rows parts.columns.items) }
+    ensures { IfOk result (IsLeftBy candidates.now rest.now) }
 {
     let rows = generalised_part(alloc, candidates, Target::RowId, rest, withdrawn, steps)?;
     let mut columns = Vec::with_capacity(alloc, candidates.columns() as usize)?;
@@ -144,7 +144,7 @@ pub(crate) fn drafted(
     draft: &Draft,
 ) -> Result<Parts, AllocError>
     requires { draft.now.width ≡ width candidates.now }
-    ensures { IfOk result (λ parts. AreParts (width candidates.now) draft.now.agree_sets candidates.now parts.rows parts.columns.items) }
+    ensures { IfOk result (IsLeftBy candidates.now draft.now.agree_sets) }
 {
     let rows = drafted_part(alloc, candidates, draft, Target::RowId)?;
     let mut columns = Vec::with_capacity(alloc, candidates.columns() as usize)?;
@@ -205,7 +205,7 @@ pub(crate) fn drafted_by<R: Threads + Sync>(
     workers: u8,
 ) -> Result<Parts, AllocError>
     requires { draft.now.width ≡ width candidates.now }
-    ensures { IfOk result (λ parts. AreParts (width candidates.now) draft.now.agree_sets candidates.now parts.rows parts.columns.items) }
+    ensures { IfOk result (IsLeftBy candidates.now draft.now.agree_sets) }
 {
     let targets = targets_of(alloc, candidates.columns())?;
     let mut columns = drafted_parts(rt, alloc, candidates, draft, &targets, workers)?;
@@ -214,16 +214,10 @@ pub(crate) fn drafted_by<R: Threads + Sync>(
     Ok(Parts { rows, columns, old })
 }
 
-// Keeps a list that is to be let go of.
-fn keep(old: &mut Vec<OldList>, list: OldList) {
-    // There is room, since whoever made the parts made it.
-    let _kept = old.push(list);
-}
-
 // Puts the parts in place, and hands out the lists that stood there. It takes no memory.
 pub(crate) fn put_all(candidates: &mut CandidateCover, parts: Parts) -> Vec<OldList>
     requires { length parts.columns.items ≡ width candidates.old }
-    ensures { (ws : List Columns) → AreParts (width candidates.old) ws candidates.old parts.rows parts.columns.items → candidates.new ≡ renewed (width candidates.old) ws candidates.old }
+    ensures { (ws : List Columns) → IsLeftBy candidates.old ws parts → candidates.new ≡ renewed (width candidates.old) ws candidates.old }
 {
     let Parts {
         rows,
@@ -232,15 +226,13 @@ pub(crate) fn put_all(candidates: &mut CandidateCover, parts: Parts) -> Vec<OldL
     } = parts;
     // `columns` is called for its clause that there are at most `MOST_COLUMNS`.
     let _count = candidates.columns();
+    // There is room for each list, since whoever made the parts made it.
     if let Some(part) = rows {
-        keep(&mut old, candidates.put(Target::RowId, part));
+        drop(old.push(candidates.put(Target::RowId, part)));
     }
     while let Some(part) = columns.pop() {
         if let Some(part) = part {
-            keep(
-                &mut old,
-                candidates.put(Target::Col(columns.len() as u8), part),
-            );
+            drop(old.push(candidates.put(Target::Col(columns.len() as u8), part)));
         }
     }
     old

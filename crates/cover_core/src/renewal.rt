@@ -6,7 +6,7 @@ ghost use Rattle.candidate_cover.specs.Cands.{width};
 ghost use Rattle.negative_cover.specs.Witnesses.{sets_of, live_of};
 ghost use Rattle.negative_cover.specs.EndedRows as rows_of;
 ghost use Rattle.candidate_cover.specs.Drafts.{AreLeast};
-ghost use Rattle.cover_core.specs.NewLists.{AreParts};
+ghost use Rattle.cover_core.specs.NewLists.{IsLeftBy};
 
 use crate::parts::{Parts, generalised};
 use candidate_cover::CandidateCover;
@@ -43,7 +43,7 @@ pub(crate) fn renewed_after<L: Ledger>(
     ensures table { IfOk result (λ made. IsCodeTable made.snapshot.value) }
     ensures shared { IfOk result (λ made. made.shared.value ≡ made.snapshot.value) }
     ensures dead { IfOk result (λ made. IsPermutation (rows_of.ended batch.now) made.dead.items) }
-    ensures parts { IfOk result (λ made. AreParts (width candidates.now) (sets_of (live_of (rows_of.ended batch.now) witnesses.now)) candidates.now made.parts.rows made.parts.columns.items) }
+    ensures parts { IfOk result (λ made. IsLeftBy candidates.now (sets_of (live_of (rows_of.ended batch.now) witnesses.now)) made.parts) }
 {
     let snapshot = rows.snapshot(alloc)?;
     // `columns` is called for its clause on the snapshot's lists.

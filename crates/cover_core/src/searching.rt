@@ -69,7 +69,11 @@ pub(crate) fn first_unfinished(
         { cand.upto < next },
     );
     match found {
-        Some(entry) => Some(Unfinished::of(entry)),
+        Some((target, cand)) => Some(Unfinished {
+            target,
+            left: cand.left,
+            upto: cand.upto,
+        }),
         None => None,
     }
 }

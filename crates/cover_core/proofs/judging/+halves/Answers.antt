@@ -7,12 +7,10 @@ use Rattle.negative_cover.specs.declared.negative_cover.Witness.{Witness as Evid
 use Rattle.cover_core.specs.declared.waiting.Waiting.{Waiting}
 use Rattle.cover_core.proofs.judging.+halves.Goals as goal
 
-pub both_halves-returns-clause-held : goal.both_halves-returns-clause-held
-both_halves-returns-clause-held g t c =
-    subst (λ (ws : List Waiting). All (IsHeld c.args.rows.now c.args.snapshot.now.value) ws) (sym c.in_ok-all.ensures.held)
-    (All-append (IsHeld c.args.rows.now c.args.snapshot.now.value) c.in_ok-first.field-0.held.items c.in_ok-second.field-0.held.items (search rules) (search rules))
-
-pub both_halves-returns-clause-found : goal.both_halves-returns-clause-found
-both_halves-returns-clause-found g t c =
-    subst (λ (es : List Evidence). All (IsEvidence c.args.rows.now) es) (sym c.in_ok-all.ensures.found)
-    (All-append (IsEvidence c.args.rows.now) c.in_ok-first.field-0.found.items c.in_ok-second.field-0.found.items (search rules) (search rules))
+pub both_halves-returns-clause-verdicts : goal.both_halves-returns-clause-verdicts
+both_halves-returns-clause-verdicts g t c = (
+  subst (λ (ws : List Waiting). All (IsHeld c.args.rows.now c.args.snapshot.now.value) ws) (sym c.in_ok-all.ensures.held)
+      (All-append (IsHeld c.args.rows.now c.args.snapshot.now.value) c.in_ok-first.field-0.held.items c.in_ok-second.field-0.held.items (search rules) (search rules)),
+  subst (λ (es : List Evidence). All (IsEvidence c.args.rows.now) es) (sym c.in_ok-all.ensures.found)
+      (All-append (IsEvidence c.args.rows.now) c.in_ok-first.field-0.found.items c.in_ok-second.field-0.found.items (search rules) (search rules)),
+)

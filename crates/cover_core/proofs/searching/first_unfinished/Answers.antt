@@ -1,12 +1,11 @@
-use Rattle.std.proofs.Common.{sym, ap, ◌∙◌, Option, Some}
+use Rattle.std.proofs.Common.{sym, ap, ◌∙◌}
 use Rattle.std.specs.Option.{option_map}
 use Rattle.cover_steps.specs.Core.{is_unfinished}
-use Rattle.cover_core.specs.declared.cursor.Unfinished.{Unfinished}
 use Rattle.cover_core.specs.Past.{place}
 use Rattle.cover_core.proofs.searching.first_unfinished.Goals as goal
 
 pub returns-in-Some-clause-found : goal.returns-in-Some-clause-found
-returns-in-Some-clause-found c = ap (λ (u : Unfinished). let some : Unfinished → Option Unfinished = λ u. Some u in some u) c.of.ensures ∙ sym (ap (option_map place) (sym (c.first_where-found.ensures.found (is_unfinished c.args.next) (λ k b h. h.1) c.requires) ∙ c.in-Some.is))
+returns-in-Some-clause-found c = sym (ap (option_map place) (sym (c.first_where-found.ensures.found (is_unfinished c.args.next) (λ k b h. h.1) c.requires) ∙ c.in-Some.is))
 
 pub returns-in-Some-clause-past : goal.returns-in-Some-clause-past
 returns-in-Some-clause-past c = c.first_where-found.ensures.past (is_unfinished c.args.next) (λ k b h. h.1) c.requires
