@@ -50,7 +50,7 @@ with_lists s c = record { rows = s.rows; witnesses = s.witnesses; candidates = c
 -- ---- lists that stay
 pub with_list-itself : (c : CandLists) (t : Target) → with_list c t (cands_of c t) ≡ c
 with_list-itself c RowId = refl
-with_list-itself c (Col a) = λ i. record { rows = c.rows; columns = set-get_or c.columns a [] i }
+with_list-itself c (Col a) = λ i. record { row_id = c.row_id; columns = set-get_or c.columns a [] i }
 
 pub unlisted-marked : (cs : List Cand) (x to : ℕ) → is_listed cs x ≡ false → marked cs x to ≡ cs
 unlisted-marked [] x to e = refl

@@ -68,7 +68,7 @@ module _ (n : ℕ) (ws : List ℕ) (c : CandLists) where
   are_parts parts first others h e =
       let all : AllZip (IsPart n ws c) (targets n) (first ∷ others) = subst (AllZip (IsPart n ws c) (targets n)) e h in
       record {
-        rows = all.0;
+        row_id = all.0;
         count = long (map (λ a. Col a) (upto n)) others all.1 ∙ length-map (upto n) (λ a. Col a) ∙ length-range_with_len 0 n;
         columns = λ a l. let z : 0 + a ≡ a = omega arith in subst (λ (i : ℕ). IsPart n ws c (Col i) (get_or others a None)) z (at_columns n 0 others all.1 a l);
       }

@@ -81,7 +81,7 @@ put-more n ws old first others cols part now parts so = by part refl
       width = so.width;
       few = let w = within in omega arith;
       left = kept;
-      rows = so.rows;
+      row_id = so.row_id;
       done = λ a l m. elim (cases_eq a (length cols)) as (λ _. cands_of now (Col a) ≡ renewed_list n ws old (Col a)) [
         | inl i ↦ subst (λ (k : ℕ). cands_of now (Col k) ≡ renewed_list n ws old (Col k)) (sym i) (before ∙ sym (subst (IsPart n ws old (Col (length cols))) e at))
         | inr ne ↦ so.done a (let k = longer in omega arith) m
@@ -92,7 +92,7 @@ put-more n ws old first others cols part now parts so = by part refl
       width = length-set now.columns (length cols) p ∙ so.width;
       few = let w = within in omega arith;
       left = kept;
-      rows = so.rows;
+      row_id = so.row_id;
       done = λ a l m. elim (cases_eq a (length cols)) as (λ _. cands_of (with_list now (Col (length cols)) p) (Col a) ≡ renewed_list n ws old (Col a)) [
         | inl i ↦ subst (λ (k : ℕ). cands_of (with_list now (Col (length cols)) p) (Col k) ≡ renewed_list n ws old (Col k)) (sym i)
             (get_or-set_same now.columns (length cols) p [] (let w = so.width in let v = within in omega arith) ∙ subst (IsPart n ws old (Col (length cols))) e at)
@@ -107,7 +107,7 @@ unfolding renewed
 put-whole n ws old others now so = same_lists now (renewed n ws old) (so.width ∙ sym (length-map-range_with_len (λ (a : ℕ). renewed_list n ws old (Col a)) 0 n)) each
   where
     each : (t : Target) → IsColumnTarget (length now.columns) t → cands_of now t ≡ cands_of (renewed n ws old) t
-    each RowId l = so.rows
+    each RowId l = so.row_id
     each (Col a) l = let m : a < n = subst (λ (k : ℕ). a < k) so.width l in so.done a (omega arith) m ∙ sym (cands_of-renewed n ws old (Col a) m)
 
 -- what is so while the parts of columns are put, whatever agree sets they are of
@@ -147,16 +147,16 @@ IsPutSoFar-whole old now first others cols e so ws parts = put-whole (length old
 -- ---- parts made one after another
 -- the parts of the row's identity and of the first columns
 pub record ArePartsSoFar (n : ℕ) (ws : List ℕ) (c : CandLists) (first : Option (List Cand)) (others : List (Option (List Cand))) (k : ℕ) : Type 0 where
-  pub rows : IsPart n ws c RowId first
+  pub row_id : IsPart n ws c RowId first
   pub count : length others ≡ k
   pub columns : (a : ℕ) → a < k → IsPart n ws c (Col a) (get_or others a None)
 
 pub ArePartsSoFar-first : (n : ℕ) (ws : List ℕ) (c : CandLists) (first : Option (List Cand)) (others : List (Option (List Cand))) → IsPart n ws c RowId first → others ≡ [] → ArePartsSoFar n ws c first others 0
-ArePartsSoFar-first n ws c first others part e = record { rows = part; count = ap length e; columns = λ a l. absurd (omega arith) }
+ArePartsSoFar-first n ws c first others part e = record { row_id = part; count = ap length e; columns = λ a l. absurd (omega arith) }
 
 pub ArePartsSoFar-more : (n : ℕ) (ws : List ℕ) (c : CandLists) (first : Option (List Cand)) (others new : List (Option (List Cand))) (part : Option (List Cand)) (k : ℕ) → ArePartsSoFar n ws c first others k → IsPart n ws c (Col k) part → new ≡ others ++ part ∷ [] → ArePartsSoFar n ws c first new (k + 1)
 ArePartsSoFar-more n ws c first others new part k so is e = subst (λ (os : List (Option (List Cand))). ArePartsSoFar n ws c first os (k + 1)) (sym e) (record {
-  rows = so.rows;
+  row_id = so.row_id;
   count = let l = length-append others (part ∷ []) in let m = so.count in omega arith;
   columns = λ a l. elim (cases_eq a k) as (λ _. IsPart n ws c (Col a) (get_or (others ++ part ∷ []) a None)) [
     | inl i ↦ subst (λ (j : ℕ). IsPart n ws c (Col j) (get_or (others ++ part ∷ []) j None)) (sym i) (subst (IsPart n ws c (Col k)) (sym (ap (λ (j : ℕ). get_or (others ++ part ∷ []) j None) (sym so.count) ∙ get_or-last others part None)) is)
@@ -166,7 +166,7 @@ ArePartsSoFar-more n ws c first others new part k so is e = subst (λ (os : List
 })
 
 pub ArePartsSoFar-whole : (n : ℕ) (ws : List ℕ) (c : CandLists) (first : Option (List Cand)) (others : List (Option (List Cand))) (k : ℕ) → ArePartsSoFar n ws c first others k → k ≡ n → AreParts n ws c first others
-ArePartsSoFar-whole n ws c first others k so e = record { rows = so.rows; count = so.count ∙ e; columns = λ a l. so.columns a (let m = e in omega arith) }
+ArePartsSoFar-whole n ws c first others k so e = record { row_id = so.row_id; count = so.count ∙ e; columns = λ a l. so.columns a (let m = e in omega arith) }
 
 pub none_left : {X : Type 0} (xs : List X) → length xs ≡ 0 → xs ≡ []
 none_left [] e = refl

@@ -16,10 +16,10 @@ IsPart n ws c t (Some part) = part ≡ renewed_list n ws c t
 
 -- the parts of the row's identity and of the columns
 pub record AreParts (n : ℕ) (ws : List Columns) (c : CandLists) (first : Option (List Cand)) (others : List (Option (List Cand))) : Type 0 where
-  pub rows : IsPart n ws c RowId first
+  pub row_id : IsPart n ws c RowId first
   pub count : length others ≡ n
   pub columns : (a : ℕ) → a < n → IsPart n ws c (Col a) (slice_index_or others a None)
 
 -- the parts are what these agree sets leave of the candidates
 abbrev pub IsLeftBy : CandLists → List Columns → Parts → Type 0
-IsLeftBy c ws parts = AreParts (width c) ws c parts.rows parts.columns.items
+IsLeftBy c ws parts = AreParts (width c) ws c parts.row_id parts.columns.items

@@ -21,7 +21,7 @@ use std::thread::Threads;
 // A new list for each target that has one, and room for the lists that they take the place of.
 #[derive(Drop)]
 pub(crate) struct Parts {
-    pub(crate) rows: Option<Part>,
+    pub(crate) row_id: Option<Part>,
     pub(crate) columns: Vec<Option<Part>>,
     pub(crate) old: Vec<OldList>,
 }
@@ -54,7 +54,7 @@ pub(crate) fn specialised(
 ) -> Result<Parts, AllocError>
     ensures { IfOk result (λ parts. (ws : List Columns) → AreLeast (width candidates.now) ws candidates.now → AreConcerned (width candidates.now) ws agree concerned.now → IsLeftBy candidates.now (ws ++ agree ∷ []) parts) }
 {
-    let rows = specialised_part(alloc, candidates, Target::RowId, agree, concerned)?;
+    let row_id = specialised_part(alloc, candidates, Target::RowId, agree, concerned)?;
     let mut columns = Vec::with_capacity(alloc, candidates.columns() as usize)?;
     for column in 0..candidates.columns() {
         let target = Target::Col(column);
@@ -62,7 +62,7 @@ pub(crate) fn specialised(
         columns.push(part)?;
     }
     let old = Vec::with_capacity(alloc, columns.len().saturating_add(1))?;
-    Ok(Parts { rows, columns, old })
+    Ok(Parts { row_id, columns, old })
 }
 
 // Whether one of these agree sets lacks the target.
@@ -105,7 +105,7 @@ pub(crate) fn generalised<L: Ledger>(
     requires { AreLeast (width candidates.now) (rest.now ++ withdrawn.now) candidates.now }
     ensures { IfOk result (IsLeftBy candidates.now rest.now) }
 {
-    let rows = generalised_part(alloc, candidates, Target::RowId, rest, withdrawn, steps)?;
+    let row_id = generalised_part(alloc, candidates, Target::RowId, rest, withdrawn, steps)?;
     let mut columns = Vec::with_capacity(alloc, candidates.columns() as usize)?;
     for column in 0..candidates.columns() {
         let part = generalised_part(
@@ -119,7 +119,7 @@ pub(crate) fn generalised<L: Ledger>(
         columns.push(part)?;
     }
     let old = Vec::with_capacity(alloc, columns.len().saturating_add(1))?;
-    Ok(Parts { rows, columns, old })
+    Ok(Parts { row_id, columns, old })
 }
 
 // What a draft leaves of a target's candidates, where it has changed them.
@@ -146,14 +146,14 @@ pub(crate) fn drafted(
     requires { draft.now.width ≡ width candidates.now }
     ensures { IfOk result (IsLeftBy candidates.now draft.now.agree_sets) }
 {
-    let rows = drafted_part(alloc, candidates, draft, Target::RowId)?;
+    let row_id = drafted_part(alloc, candidates, draft, Target::RowId)?;
     let mut columns = Vec::with_capacity(alloc, candidates.columns() as usize)?;
     for column in 0..candidates.columns() {
         let part = drafted_part(alloc, candidates, draft, Target::Col(column))?;
         columns.push(part)?;
     }
     let old = Vec::with_capacity(alloc, columns.len().saturating_add(1))?;
-    Ok(Parts { rows, columns, old })
+    Ok(Parts { row_id, columns, old })
 }
 
 // The row's identity and so many columns.
@@ -209,9 +209,9 @@ pub(crate) fn drafted_by<R: Threads + Sync>(
 {
     let targets = targets_of(alloc, candidates.columns())?;
     let mut columns = drafted_parts(rt, alloc, candidates, draft, &targets, workers)?;
-    let rows = columns.remove(0);
+    let row_id = columns.remove(0);
     let old = Vec::with_capacity(alloc, columns.len().saturating_add(1))?;
-    Ok(Parts { rows, columns, old })
+    Ok(Parts { row_id, columns, old })
 }
 
 // Puts the parts in place, and hands out the lists that stood there. It takes no memory.
@@ -220,14 +220,14 @@ pub(crate) fn put_all(candidates: &mut CandidateCover, parts: Parts) -> Vec<OldL
     ensures { (ws : List Columns) → IsLeftBy candidates.old ws parts → candidates.new ≡ renewed (width candidates.old) ws candidates.old }
 {
     let Parts {
-        rows,
+        row_id,
         mut columns,
         mut old,
     } = parts;
     // `columns` is called for its clause that there are at most `MOST_COLUMNS`.
     let _count = candidates.columns();
     // There is room for each list, since whoever made the parts made it.
-    if let Some(part) = rows {
+    if let Some(part) = row_id {
         drop(old.push(candidates.put(Target::RowId, part)));
     }
     while let Some(part) = columns.pop() {

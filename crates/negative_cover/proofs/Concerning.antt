@@ -43,7 +43,7 @@ unfolding refuted
 none_refutes t z = refl
 
 -- the targets that z lacks
-pub lacking-none : (n z : ℕ) → AreConcerned n [] z (record { rows = true; columns = minus (all n) z })
+pub lacking-none : (n z : ℕ) → AreConcerned n [] z (record { row_id = true; columns = minus (all n) z })
 lacking-none n z = record { each = each; within = λ a h. ltb-true a n (sym (has-all n a) ∙ (and_parts _ _ (sym (has-minus (all n) z a) ∙ h)).0) }
   where
     opened : (h r : Bool) → r ≡ false → not h ≡ (not h && not r)
@@ -52,7 +52,7 @@ lacking-none n z = record { each = each; within = λ a h. ltb-true a n (sym (has
     opened false true e = absurd (true≢false e)
     opened false false e = refl
 
-    each : (t : Target) → IsColumnTarget n t → concerns (record { rows = true; columns = minus (all n) z }) t ≡ is_open [] z t
+    each : (t : Target) → IsColumnTarget n t → concerns (record { row_id = true; columns = minus (all n) z }) t ≡ is_open [] z t
     each RowId l = ap not (sym (lacks_row z)) ∙ opened (has_target z RowId) (refuted [] RowId z) (none_refutes RowId z)
     each (Col a) l =
         has-minus (all n) z a ∙ ap (λ b. b && not (has z a)) (has-all n a ∙ lt-ltb a n l) ∙ ap not (target_column z a)
@@ -84,16 +84,16 @@ module _ (n : ℕ) (ws : List ℕ) (z w : ℕ) (c : Concerned) (are : AreConcern
   more : (t : Target) → (not (has_target z t) && not (refuted ws t z || (subset z w && not (has_target w t)))) ≡ is_open (ws ++ w ∷ []) z t
   more t = ap (λ b. not (has_target z t) && not b) (sym (refuted-more ws w t z))
 
-  pub told-more : AreConcerned n (ws ++ w ∷ []) z (if subset z w then record { rows = false; columns = inter c.columns w } else c)
+  pub told-more : AreConcerned n (ws ++ w ∷ []) z (if subset z w then record { row_id = false; columns = inter c.columns w } else c)
   told-more = by (subset z w) refl
     where
-      each : subset z w ≡ true → (t : Target) → IsColumnTarget n t → concerns (record { rows = false; columns = inter c.columns w }) t ≡ is_open (ws ++ w ∷ []) z t
+      each : subset z w ≡ true → (t : Target) → IsColumnTarget n t → concerns (record { row_id = false; columns = inter c.columns w }) t ≡ is_open (ws ++ w ∷ []) z t
       each e RowId l = shut (not (has_target z RowId)) (refuted ws RowId z) (subset z w) (has_target w RowId) e (lacks_row w) ∙ more RowId
       each e (Col a) l =
           has-inter c.columns w a ∙ ap (λ b. b && has w a) (are.each (Col a) l) ∙ ap (λ b. is_open ws z (Col a) && b) (target_column w a)
           ∙ inside (has_target z (Col a)) (refuted ws (Col a) z) (subset z w) (has_target w (Col a)) e ∙ more (Col a)
 
-      by : (b : Bool) → subset z w ≡ b → AreConcerned n (ws ++ w ∷ []) z (if b then record { rows = false; columns = inter c.columns w } else c)
+      by : (b : Bool) → subset z w ≡ b → AreConcerned n (ws ++ w ∷ []) z (if b then record { row_id = false; columns = inter c.columns w } else c)
       by true e = record { each = each e; within = λ a h. are.within a (and_parts _ _ (sym (has-inter c.columns w a) ∙ h)).0 }
       by false e = record { each = λ t l. are.each t l ∙ outside (has_target z t) (refuted ws t z) (subset z w) (has_target w t) e ∙ more t; within = are.within }
 
@@ -102,7 +102,7 @@ sets_of-one_more [] w = refl
 sets_of-one_more (v ∷ ws) w = ap (λ (zs : List ℕ). v.agree ∷ zs) (sets_of-one_more ws w)
 
 -- ---- whether there are any
-pub none-concerned : (c : Concerned) → c.rows ≡ false → c.columns ≡ 0 → ConcernsNone c
+pub none-concerned : (c : Concerned) → c.row_id ≡ false → c.columns ≡ 0 → ConcernsNone c
 none-concerned c e f RowId = e
 none-concerned c e f (Col a) = ap (λ (x : ℕ). has x a) f ∙ has-empty a
 

@@ -9,7 +9,7 @@ use Rattle.negative_cover.specs.declared.concerned.Concerned.{Concerned}
 
 -- whether the target is one of these
 abbrev pub concerns : Concerned → Target → Bool
-concerns c RowId = c.rows
+concerns c RowId = c.row_id
 concerns c (Col a) = has c.columns a
 
 -- whether z lacks the target, and none of these agree sets that lacks it contains z

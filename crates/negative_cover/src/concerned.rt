@@ -12,7 +12,7 @@ use rel_base::{ColSet, MOST_COLUMNS, Target};
 /// refutes: whether the row's identity is one of them, and which columns are.
 #[derive(Clone, Copy)]
 pub struct Concerned {
-    pub rows: bool,
+    pub row_id: bool,
     pub columns: ColSet,
 }
 
@@ -36,18 +36,18 @@ impl Concerned {
         ensures { AreConcerned columns [] agree result }
     {
         Concerned {
-            rows: true,
+            row_id: true,
             columns: ColSet::all(columns).minus(agree),
         }
     }
 
     // Less those that a witness lacks, where it contains the agree set.
     fn told(self, agree: ColSet, witness: ColSet) -> Concerned
-        ensures { result ≡ (if subset agree witness then record { rows = false; columns = inter self.columns witness } else self) }
+        ensures { result ≡ (if subset agree witness then record { row_id = false; columns = inter self.columns witness } else self) }
     {
         if agree.subset_of(witness) {
             Concerned {
-                rows: false,
+                row_id: false,
                 columns: self.columns.inter(witness),
             }
         } else {
@@ -59,7 +59,7 @@ impl Concerned {
     pub fn is_none(&self) -> bool
         ensures { IsTrue result ↔ ConcernsNone self.now }
     {
-        !self.rows && self.columns == ColSet::empty()
+        !self.row_id && self.columns == ColSet::empty()
     }
 
     /// Whether the target is one of them.
@@ -68,7 +68,7 @@ impl Concerned {
         ensures { result ≡ concerns self.now target }
     {
         match target {
-            Target::RowId => self.rows,
+            Target::RowId => self.row_id,
             Target::Col(column) => self.columns.has(column),
         }
     }

@@ -15,6 +15,6 @@ drafted_parts-requires-clause-targets g c κs o k d l =
 
 pub returns : goal.returns
 returns g c =
-    parts_are (width c.args.candidates.now) c.args.draft.now.agree_sets c.args.candidates.now c.in_ok-columns.columns.items c.remove-rows.result c.remove-rows.new.self.items
+    parts_are (width c.args.candidates.now) c.args.draft.now.agree_sets c.args.candidates.now c.in_ok-columns.columns.items c.remove-row_id.result c.remove-row_id.new.self.items
     (subst (λ (ts : List Target). AllZip (IsPart (width c.args.candidates.now) c.args.draft.now.agree_sets c.args.candidates.now) ts c.in_ok-columns.columns.items) (c.deref.ensures.value ∙ c.in_ok-targets.ensures ∙ ap targets c.columns.ensures.width) c.in_ok-columns.ensures)
-    c.remove-rows.ensures.value c.remove-rows.ensures.items
+    c.remove-row_id.ensures.value c.remove-row_id.ensures.items

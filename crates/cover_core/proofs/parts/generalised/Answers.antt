@@ -3,7 +3,7 @@ use Rattle.cover_core.proofs.Putting.{ArePartsSoFar-first, ArePartsSoFar-more, A
 use Rattle.cover_core.proofs.parts.generalised.Goals as goal
 
 pub loop-column-init : goal.loop-column-init
-loop-column-init g c = ArePartsSoFar-first _ _ _ _ _ c.in_ok-rows.ensures c.in_ok-columns.ensures.items
+loop-column-init g c = ArePartsSoFar-first _ _ _ _ _ c.in_ok-row_id.ensures c.in_ok-columns.ensures.items
 
 pub loop-column-preserved : goal.loop-column-preserved
 loop-column-preserved g c = ArePartsSoFar-more _ _ _ _ _ _ _ _ c.loop-column.invariant c.in_ok-part.ensures c.in_ok-push.ensures.items

@@ -6,9 +6,9 @@ use Rattle.cover_core.proofs.parts.put_all.Goals as goal
 use Rattle.cover_core.proofs.parts.put_all.Goals.{in-Some, in_default, After-len}
 
 pub loop-part-init : goal.loop-part-init
-loop-part-init c = elim c.match-rows.branch [
-  | in-Some w ↦ IsPutSoFar-first c.args.candidates.now c.match-rows.candidates c.args.parts.rows c.args.parts.columns.items c.requires (w.candidates-is ∙ w.put.ensures ∙ sym (ap (put c.args.candidates.now RowId) w.in-Some.is))
-  | in_default w ↦ IsPutSoFar-first c.args.candidates.now c.match-rows.candidates c.args.parts.rows c.args.parts.columns.items c.requires (w.candidates-is ∙ sym (ap (put c.args.candidates.now RowId) w.in_default.is))
+loop-part-init c = elim c.match-row_id.branch [
+  | in-Some w ↦ IsPutSoFar-first c.args.candidates.now c.match-row_id.candidates c.args.parts.row_id c.args.parts.columns.items c.requires (w.candidates-is ∙ w.put.ensures ∙ sym (ap (put c.args.candidates.now RowId) w.in-Some.is))
+  | in_default w ↦ IsPutSoFar-first c.args.candidates.now c.match-row_id.candidates c.args.parts.row_id c.args.parts.columns.items c.requires (w.candidates-is ∙ sym (ap (put c.args.candidates.now RowId) w.in_default.is))
 ]
 
 -- the column of the part that was popped
@@ -25,12 +25,12 @@ pub put-requires-in-Some-part : goal.put-requires-in-Some-part
 put-requires-in-Some-part c = let l = within c in omega (arith, c.loop-part.invariant.width)
 
 pub loop-part-preserved-in-Some-part : goal.loop-part-preserved-in-Some-part
-loop-part-preserved-in-Some-part c = IsPutSoFar-more c.args.candidates.now c.loop-part.candidates c.put-in-Some-part.new.self c.args.parts.rows c.args.parts.columns.items c.loop-part.columns.items c.pop.new.self.items c.in-Some-pop.part c.len.result
+loop-part-preserved-in-Some-part c = IsPutSoFar-more c.args.candidates.now c.loop-part.candidates c.put-in-Some-part.new.self c.args.parts.row_id c.args.parts.columns.items c.loop-part.columns.items c.pop.new.self.items c.in-Some-pop.part c.len.result
     c.in-Some-pop.ensures.items (c.len.ensures ∙ c.pop.new.self.ok.0) c.loop-part.invariant (c.put-in-Some-part.ensures ∙ sym (ap (put c.loop-part.candidates (Col c.len.result)) c.in-Some-part.is))
 
 pub loop-part-preserved : goal.loop-part-preserved
-loop-part-preserved c = IsPutSoFar-more c.args.candidates.now c.loop-part.candidates c.loop-part.candidates c.args.parts.rows c.args.parts.columns.items c.loop-part.columns.items c.pop.new.self.items c.in-Some-pop.part _
+loop-part-preserved c = IsPutSoFar-more c.args.candidates.now c.loop-part.candidates c.loop-part.candidates c.args.parts.row_id c.args.parts.columns.items c.loop-part.columns.items c.pop.new.self.items c.in-Some-pop.part _
     c.in-Some-pop.ensures.items refl c.loop-part.invariant (sym (ap (put c.loop-part.candidates (Col _)) c.in_default-part.is))
 
 pub returns : goal.returns
-returns c = IsPutSoFar-whole c.args.candidates.now c.loop-part.candidates c.args.parts.rows c.args.parts.columns.items c.loop-part.columns.items (none_left c.loop-part.columns.items (sym c.loop-part.columns.ok.0 ∙ c.in_default-pop.ensures.cases.0)) c.loop-part.invariant
+returns c = IsPutSoFar-whole c.args.candidates.now c.loop-part.candidates c.args.parts.row_id c.args.parts.columns.items c.loop-part.columns.items (none_left c.loop-part.columns.items (sym c.loop-part.columns.ok.0 ∙ c.in_default-pop.ensures.cases.0)) c.loop-part.invariant

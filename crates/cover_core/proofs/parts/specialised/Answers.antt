@@ -5,7 +5,7 @@ use Rattle.cover_core.proofs.Putting.{ArePartsSoFar-first, ArePartsSoFar-more, A
 use Rattle.cover_core.proofs.parts.specialised.Goals as goal
 
 pub loop-column-init : goal.loop-column-init
-loop-column-init c ws least are = ArePartsSoFar-first _ _ _ _ _ (c.in_ok-rows.ensures ws (least.each RowId tt) (are.each RowId tt)) c.in_ok-columns.ensures.items
+loop-column-init c ws least are = ArePartsSoFar-first _ _ _ _ _ (c.in_ok-row_id.ensures ws (least.each RowId tt) (are.each RowId tt)) c.in_ok-columns.ensures.items
 
 pub loop-column-preserved : goal.loop-column-preserved
 loop-column-preserved c ws least are =

@@ -6,4 +6,4 @@ use Rattle.cover_core.proofs.Putting.{ArePartsSoFar}
 use Rattle.cover_core.proofs.parts.specialised.Given as goal
 
 abbrev pub invariant-loop-column : goal.invariant-loop-column
-invariant-loop-column l = (ws : List ℕ) → AreLeast (width l.candidates) ws l.candidates → AreConcerned (width l.candidates) ws l.agree l.concerned → ArePartsSoFar (width l.candidates) (ws ++ l.agree ∷ []) l.candidates l.rows l.columns.items l.column
+invariant-loop-column l = (ws : List ℕ) → AreLeast (width l.candidates) ws l.candidates → AreConcerned (width l.candidates) ws l.agree l.concerned → ArePartsSoFar (width l.candidates) (ws ++ l.agree ∷ []) l.candidates l.row_id l.columns.items l.column

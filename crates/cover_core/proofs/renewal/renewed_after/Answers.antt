@@ -12,6 +12,6 @@ generalised-requires g c = AreLeast-parted (width c.args.candidates.now) c.args.
     (c.as_slice-2.ensures.value ∙ c.in_ok-parted.ensures.rest) (c.as_slice-3.ensures.value ∙ c.in_ok-parted.ensures.gone)
 
 pub returns-clause-parts : goal.returns-clause-parts
-returns-clause-parts g c = subst (λ (sets : List ℕ). AreParts (width c.args.candidates.now) sets c.args.candidates.now c.in_ok-parts.parts.rows c.in_ok-parts.parts.columns.items)
+returns-clause-parts g c = subst (λ (sets : List ℕ). AreParts (width c.args.candidates.now) sets c.args.candidates.now c.in_ok-parts.parts.row_id c.in_ok-parts.parts.columns.items)
     (c.as_slice-2.ensures.value ∙ c.in_ok-parted.ensures.rest ∙ ap sets_of (ap (λ (dead : List ℕ). live_of dead c.args.witnesses.now) c.as_slice.ensures.value ∙ live_of-permuted (ended c.args.batch.now) c.in_ok-dead.dead.items c.args.witnesses.now c.in_ok-dead.ensures))
     c.in_ok-parts.ensures
