@@ -9,3 +9,4 @@ pub mod PlainTests
 pub mod Likeness
 pub mod Chained
 pub mod NewRows
+pub mod WithFirst
