@@ -1,8 +1,7 @@
 // Groups of rows by code, by counting.
 ghost use Rattle.std.specs.Prelude.{◌≡◌, ◌<◌, ◌≤◌, ◌+◌, ◌-◌, ◌^◌, ◌==◌, ◌++◌, [], ℕ, length, slice_index, replicate, count_by, zip, flat_map, vec_len, List, OnOk, IfOk};
-ghost use Rattle.std.specs.List.{concat};
-ghost use Rattle.stripped_partition.specs.Groups.{cut, start_at, ends_of, IsCut, IsFlat};
-ghost use Rattle.stripped_partition.specs.Splits.{parts, Places};
+ghost use Rattle.stripped_partition.specs.Groups.{cut, start_at, IsCut, IsFlat};
+ghost use Rattle.stripped_partition.specs.Splits.{parts, AddsParts, IsReady, Places};
 
 use rel_base::{MOST_ROWS, RowNo};
 use std::alloc::{AllocError, Global};
@@ -108,11 +107,8 @@ fn split_group(
     rows: &[RowNo],
     codes: &[u32],
 ) -> Result<(), AllocError>
-    requires short { vec_len groups.old.rows + length rows.now ≤ MOST_ROWS }
-    requires coded { length codes.now ≡ length rows.now }
-    requires clear { slots.old ≡ replicate (length slots.old) 0 }
-    ensures rows { OnOk result (groups.new.rows.items ≡ groups.old.rows.items ++ concat (parts (length slots.old) (zip rows.now codes.now))) }
-    ensures ends { OnOk result (groups.new.ends.items ≡ groups.old.ends.items ++ ends_of (vec_len groups.old.rows) (parts (length slots.old) (zip rows.now codes.now))) }
+    requires { IsReady groups.old slots.old rows.now codes.now }
+    ensures parts { OnOk result (AddsParts (length slots.old) rows.now codes.now groups.old groups.new) }
     ensures slots { OnOk result ((c : ℕ) → c < length slots.new → count_by (λ d. d == c) codes.now ≡ 0 → slice_index slots.new c ≡ 0) }
 {
     count(slots, codes);
@@ -134,8 +130,7 @@ fn split_pair(
     requires pair { length rows.now ≡ 2 }
     requires coded { length codes.now ≡ length rows.now }
     requires short { vec_len groups.old.rows + length rows.now ≤ MOST_ROWS }
-    ensures rows { OnOk result (groups.new.rows.items ≡ groups.old.rows.items ++ concat (parts slots (zip rows.now codes.now))) }
-    ensures ends { OnOk result (groups.new.ends.items ≡ groups.old.ends.items ++ ends_of (vec_len groups.old.rows) (parts slots (zip rows.now codes.now))) }
+    ensures { OnOk result (AddsParts slots rows.now codes.now groups.old groups.new) }
 {
     let code = codes[0];
     if codes[1] != code || code as usize >= slots {
@@ -154,11 +149,8 @@ fn split_clear(
     rows: &[RowNo],
     codes: &[u32],
 ) -> Result<(), AllocError>
-    requires short { vec_len groups.old.rows + length rows.now ≤ MOST_ROWS }
-    requires coded { length codes.now ≡ length rows.now }
-    requires clear { slots.old ≡ replicate (length slots.old) 0 }
-    ensures rows { OnOk result (groups.new.rows.items ≡ groups.old.rows.items ++ concat (parts (length slots.old) (zip rows.now codes.now))) }
-    ensures ends { OnOk result (groups.new.ends.items ≡ groups.old.ends.items ++ ends_of (vec_len groups.old.rows) (parts (length slots.old) (zip rows.now codes.now))) }
+    requires { IsReady groups.old slots.old rows.now codes.now }
+    ensures parts { OnOk result (AddsParts (length slots.old) rows.now codes.now groups.old groups.new) }
     ensures clear { OnOk result (slots.new ≡ replicate (length slots.old) 0) }
 {
     if rows.len() == 2 {
