@@ -10,3 +10,4 @@ pub mod Likeness
 pub mod Chained
 pub mod NewRows
 pub mod WithFirst
+pub mod Answered

@@ -6,7 +6,7 @@ ghost use Rattle.col_set.specs.Lists.{Listed};
 ghost use Rattle.rel_base.specs.CodeTable.{IsCodeTable};
 ghost use Rattle.rel_base.specs.Shows.{live_numbers};
 ghost use Rattle.stripped_partition.specs.Stripped.{agree_on};
-ghost use Rattle.validator.specs.Asking.{IsAsked};
+ghost use Rattle.validator.specs.Asking.{IsAsked, IsAnswer};
 ghost use Rattle.validator.specs.Chains.{IsChain, IsTold};
 ghost use Rattle.validator.specs.Lists.{AreTargets};
 ghost use Rattle.validator.specs.Verdicts.{AreFound, IsViolation, new_rows};
@@ -100,8 +100,7 @@ pub(crate) fn pairs_of_new<L: Ledger>(
     requires column { has asked.now.left column ≡ true }
     requires chain { IsChain (slice_index_or snapshot.now.codes column []) chain.now }
     requires whole { length chain.now.before.items + 1 ≡ snapshot.now.to }
-    ensures pairs { IfOk result (λ pairs. AreFound snapshot.now asked.now.left asked.now.target pairs.items) }
-    ensures few { IfOk result (λ pairs. vec_len pairs ≤ asked.now.most) }
+    ensures answer { IfOk result (IsAnswer snapshot.now asked.now) }
     ensures steps { steps.new ≤ steps.old + new_rows snapshot.now asked.now.from }
 {
     let rows = rows_from(alloc, snapshot, asked.from)?;
