@@ -1,8 +1,8 @@
 -- The parts of a group of rows by a code of each row.
-use Rattle.std.specs.Prelude.{◌≡◌, ◌==◌, ◌+◌, ◌-◌, ◌^◌, ◌<◌, ◌≤◌, ℕ, nat_lt, nat_le, not, ◌&&◌, List, [], ◌∷◌, ◌++◌, length, map, replicate, slice_index, slice_set, zip, vec_len}
+use Rattle.std.specs.Prelude.{◌≡◌, ◌==◌, ◌+◌, ◌-◌, ◌^◌, ◌<◌, ◌≤◌, ℕ, nat_lt, nat_le, not, ◌&&◌, List, [], ◌∷◌, ◌++◌, length, map, replicate, slice_index, slice_set, zip, flat_map, vec_len}
 use Rattle.std.specs.List.{filter, concat}
 use Rattle.rel_base.specs.declared.limits.TheConstants.{MOST_ROWS}
-use Rattle.stripped_partition.specs.Groups.{ends_of}
+use Rattle.stripped_partition.specs.Groups.{cut, ends_of, IsFlat}
 use Rattle.stripped_partition.specs.declared.groups.Groups.{Groups}
 
 -- each number once, first seen first
@@ -42,3 +42,7 @@ pub record IsReady (groups : Groups) (slots rows codes : List ℕ) : Type 0 wher
   pub short : vec_len groups.rows + length rows ≤ MOST_ROWS
   pub coded : length codes ≡ length rows
   pub clear : slots ≡ replicate (length slots) 0
+
+-- these groups are the parts of each of the groups into which these rows are cut
+abbrev pub AreSplit : ℕ → List ℕ → List ℕ → List ℕ → Groups → Type 0
+AreSplit bound rows ends codes groups = IsFlat groups.rows.items groups.ends.items (flat_map (parts bound) (cut 0 (zip rows codes) ends))

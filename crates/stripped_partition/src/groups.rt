@@ -1,7 +1,7 @@
 // Groups of rows by code, by counting.
-ghost use Rattle.std.specs.Prelude.{◌≡◌, ◌<◌, ◌≤◌, ◌+◌, ◌-◌, ◌^◌, ◌==◌, ◌++◌, [], ℕ, length, slice_index, replicate, count_by, zip, flat_map, vec_len, List, OnOk, IfOk};
-ghost use Rattle.stripped_partition.specs.Groups.{cut, start_at, IsCut, IsFlat};
-ghost use Rattle.stripped_partition.specs.Splits.{parts, AddsParts, IsReady, Places};
+ghost use Rattle.std.specs.Prelude.{◌≡◌, ◌<◌, ◌≤◌, ◌+◌, ◌-◌, ◌^◌, ◌==◌, [], ℕ, length, slice_index, replicate, count_by, vec_len, List, OnOk, IfOk};
+ghost use Rattle.stripped_partition.specs.Groups.{start_at, IsCut, IsFlat};
+ghost use Rattle.stripped_partition.specs.Splits.{AddsParts, AreSplit, IsReady, Places};
 
 use rel_base::{MOST_ROWS, RowNo};
 use std::alloc::{AllocError, Global};
@@ -173,7 +173,7 @@ fn split_groups(
     requires coded { length codes.now ≡ length rows.now }
     requires none { (groups.old.rows.items ≡ []) × (groups.old.ends.items ≡ []) }
     requires clear { slots.old ≡ replicate (length slots.old) 0 }
-    ensures flat { OnOk result (IsFlat groups.new.rows.items groups.new.ends.items (flat_map (parts (length slots.old)) (cut 0 (zip rows.now codes.now) ends.now))) }
+    ensures flat { OnOk result (AreSplit (length slots.old) rows.now ends.now codes.now groups.new) }
     ensures clear { OnOk result (slots.new ≡ replicate (length slots.old) 0) }
 {
     let mut start = 0;
@@ -196,7 +196,7 @@ fn split_over(
     requires cut { IsCut rows.now ends.now }
     requires coded { length codes.now ≡ length rows.now }
     requires clear { slots.old ≡ replicate (length slots.old) 0 }
-    ensures flat { OnOk result (IsFlat groups.new.rows.items groups.new.ends.items (flat_map (parts (length slots.old)) (cut 0 (zip rows.now codes.now) ends.now))) }
+    ensures flat { OnOk result (AreSplit (length slots.old) rows.now ends.now codes.now groups.new) }
     ensures clear { OnOk result (slots.new ≡ replicate (length slots.old) 0) }
 {
     groups.rows.clear();
@@ -216,7 +216,7 @@ pub(crate) fn split_in(
     requires cut { IsCut rows.now ends.now }
     requires coded { length codes.now ≡ length rows.now }
     requires clear { slots.old ≡ replicate (length slots.old) 0 }
-    ensures flat { IfOk result (λ g. IsFlat g.rows.items g.ends.items (flat_map (parts (length slots.old)) (cut 0 (zip rows.now codes.now) ends.now))) }
+    ensures flat { IfOk result (AreSplit (length slots.old) rows.now ends.now codes.now) }
     ensures clear { OnOk result (slots.new ≡ replicate (length slots.old) 0) }
 {
     split_over(room, slots, rows, ends, codes)?;
@@ -233,7 +233,7 @@ pub(crate) fn split(
 ) -> Result<Groups, AllocError>
     requires cut { IsCut rows.now ends.now }
     requires coded { length codes.now ≡ length rows.now }
-    ensures { IfOk result (λ g. IsFlat g.rows.items g.ends.items (flat_map (parts bound) (cut 0 (zip rows.now codes.now) ends.now))) }
+    ensures { IfOk result (AreSplit bound rows.now ends.now codes.now) }
 {
     let mut slots = vec![in alloc; 0u32; bound]?;
     let mut groups = Groups::empty(alloc);
