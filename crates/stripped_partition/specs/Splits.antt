@@ -1,6 +1,9 @@
 -- The parts of a group of rows by a code of each row.
-use Rattle.std.specs.Prelude.{◌≡◌, ◌==◌, ◌+◌, ◌-◌, ◌^◌, ◌<◌, ◌≤◌, ℕ, nat_lt, nat_le, not, ◌&&◌, List, [], ◌∷◌, ◌++◌, length, map, replicate, slice_index, slice_set}
-use Rattle.std.specs.List.{filter}
+use Rattle.std.specs.Prelude.{◌≡◌, ◌==◌, ◌+◌, ◌-◌, ◌^◌, ◌<◌, ◌≤◌, ℕ, nat_lt, nat_le, not, ◌&&◌, List, [], ◌∷◌, ◌++◌, length, map, replicate, slice_index, slice_set, zip, flat_map, vec_len}
+use Rattle.std.specs.List.{filter, concat}
+use Rattle.rel_base.specs.declared.limits.TheConstants.{MOST_ROWS}
+use Rattle.stripped_partition.specs.Groups.{cut, ends_of, IsFlat}
+use Rattle.stripped_partition.specs.declared.groups.Groups.{Groups}
 
 -- each number once, first seen first
 unfoldable pub firsts : List ℕ → List ℕ
@@ -28,3 +31,18 @@ pub record Places (row code : ℕ) (rows ends slots rows_after ends_after slots_
       → (rows_after ≡ rows ++ replicate (slice_index slots code) row) × (ends_after ≡ ends ++ (length rows + slice_index slots code) ∷ []) × (slots_after ≡ slice_set slots code (2 ^ 31 + length rows + 1))
   pub filled : code < length slots → 2 ^ 31 ≤ slice_index slots code
       → (rows_after ≡ slice_set rows (slice_index slots code - 2 ^ 31) row) × (ends_after ≡ ends) × (slots_after ≡ slice_set slots code (slice_index slots code + 1))
+
+-- the parts of a group of rows are added, where these are the rows' codes and only codes below a bound make parts
+pub record AddsParts (bound : ℕ) (rows codes : List ℕ) (before after : Groups) : Type 0 where
+  pub laid : after.rows.items ≡ before.rows.items ++ concat (parts bound (zip rows codes))
+  pub cuts : after.ends.items ≡ before.ends.items ++ ends_of (vec_len before.rows) (parts bound (zip rows codes))
+
+-- these groups and the rows of one more are no more than a relation may have, each of its rows has a code, and all slots are clear
+pub record IsReady (groups : Groups) (slots rows codes : List ℕ) : Type 0 where
+  pub short : vec_len groups.rows + length rows ≤ MOST_ROWS
+  pub coded : length codes ≡ length rows
+  pub clear : slots ≡ replicate (length slots) 0
+
+-- these groups are the parts of each of the groups into which these rows are cut
+abbrev pub AreSplit : ℕ → List ℕ → List ℕ → List ℕ → Groups → Type 0
+AreSplit bound rows ends codes groups = IsFlat groups.rows.items groups.ends.items (flat_map (parts bound) (cut 0 (zip rows codes) ends))

@@ -1,8 +1,7 @@
 // Groups of rows by code, by counting.
-ghost use Rattle.std.specs.Prelude.{◌≡◌, ◌<◌, ◌≤◌, ◌+◌, ◌-◌, ◌^◌, ◌==◌, ◌++◌, [], ℕ, length, slice_index, replicate, count_by, zip, flat_map, vec_len, List, OnOk, IfOk};
-ghost use Rattle.std.specs.List.{concat};
-ghost use Rattle.stripped_partition.specs.Groups.{cut, start_at, ends_of, IsCut, IsFlat};
-ghost use Rattle.stripped_partition.specs.Splits.{parts, Places};
+ghost use Rattle.std.specs.Prelude.{◌≡◌, ◌<◌, ◌≤◌, ◌+◌, ◌-◌, ◌^◌, ◌==◌, [], ℕ, length, slice_index, replicate, count_by, vec_len, List, OnOk, IfOk};
+ghost use Rattle.stripped_partition.specs.Groups.{start_at, IsCut, IsFlat};
+ghost use Rattle.stripped_partition.specs.Splits.{AddsParts, AreSplit, IsReady, Places};
 
 use rel_base::{MOST_ROWS, RowNo};
 use std::alloc::{AllocError, Global};
@@ -108,11 +107,8 @@ fn split_group(
     rows: &[RowNo],
     codes: &[u32],
 ) -> Result<(), AllocError>
-    requires short { vec_len groups.old.rows + length rows.now ≤ MOST_ROWS }
-    requires coded { length codes.now ≡ length rows.now }
-    requires clear { slots.old ≡ replicate (length slots.old) 0 }
-    ensures rows { OnOk result (groups.new.rows.items ≡ groups.old.rows.items ++ concat (parts (length slots.old) (zip rows.now codes.now))) }
-    ensures ends { OnOk result (groups.new.ends.items ≡ groups.old.ends.items ++ ends_of (vec_len groups.old.rows) (parts (length slots.old) (zip rows.now codes.now))) }
+    requires { IsReady groups.old slots.old rows.now codes.now }
+    ensures parts { OnOk result (AddsParts (length slots.old) rows.now codes.now groups.old groups.new) }
     ensures slots { OnOk result ((c : ℕ) → c < length slots.new → count_by (λ d. d == c) codes.now ≡ 0 → slice_index slots.new c ≡ 0) }
 {
     count(slots, codes);
@@ -134,8 +130,7 @@ fn split_pair(
     requires pair { length rows.now ≡ 2 }
     requires coded { length codes.now ≡ length rows.now }
     requires short { vec_len groups.old.rows + length rows.now ≤ MOST_ROWS }
-    ensures rows { OnOk result (groups.new.rows.items ≡ groups.old.rows.items ++ concat (parts slots (zip rows.now codes.now))) }
-    ensures ends { OnOk result (groups.new.ends.items ≡ groups.old.ends.items ++ ends_of (vec_len groups.old.rows) (parts slots (zip rows.now codes.now))) }
+    ensures { OnOk result (AddsParts slots rows.now codes.now groups.old groups.new) }
 {
     let code = codes[0];
     if codes[1] != code || code as usize >= slots {
@@ -154,11 +149,8 @@ fn split_clear(
     rows: &[RowNo],
     codes: &[u32],
 ) -> Result<(), AllocError>
-    requires short { vec_len groups.old.rows + length rows.now ≤ MOST_ROWS }
-    requires coded { length codes.now ≡ length rows.now }
-    requires clear { slots.old ≡ replicate (length slots.old) 0 }
-    ensures rows { OnOk result (groups.new.rows.items ≡ groups.old.rows.items ++ concat (parts (length slots.old) (zip rows.now codes.now))) }
-    ensures ends { OnOk result (groups.new.ends.items ≡ groups.old.ends.items ++ ends_of (vec_len groups.old.rows) (parts (length slots.old) (zip rows.now codes.now))) }
+    requires { IsReady groups.old slots.old rows.now codes.now }
+    ensures parts { OnOk result (AddsParts (length slots.old) rows.now codes.now groups.old groups.new) }
     ensures clear { OnOk result (slots.new ≡ replicate (length slots.old) 0) }
 {
     if rows.len() == 2 {
@@ -181,7 +173,7 @@ fn split_groups(
     requires coded { length codes.now ≡ length rows.now }
     requires none { (groups.old.rows.items ≡ []) × (groups.old.ends.items ≡ []) }
     requires clear { slots.old ≡ replicate (length slots.old) 0 }
-    ensures flat { OnOk result (IsFlat groups.new.rows.items groups.new.ends.items (flat_map (parts (length slots.old)) (cut 0 (zip rows.now codes.now) ends.now))) }
+    ensures flat { OnOk result (AreSplit (length slots.old) rows.now ends.now codes.now groups.new) }
     ensures clear { OnOk result (slots.new ≡ replicate (length slots.old) 0) }
 {
     let mut start = 0;
@@ -204,7 +196,7 @@ fn split_over(
     requires cut { IsCut rows.now ends.now }
     requires coded { length codes.now ≡ length rows.now }
     requires clear { slots.old ≡ replicate (length slots.old) 0 }
-    ensures flat { OnOk result (IsFlat groups.new.rows.items groups.new.ends.items (flat_map (parts (length slots.old)) (cut 0 (zip rows.now codes.now) ends.now))) }
+    ensures flat { OnOk result (AreSplit (length slots.old) rows.now ends.now codes.now groups.new) }
     ensures clear { OnOk result (slots.new ≡ replicate (length slots.old) 0) }
 {
     groups.rows.clear();
@@ -224,7 +216,7 @@ pub(crate) fn split_in(
     requires cut { IsCut rows.now ends.now }
     requires coded { length codes.now ≡ length rows.now }
     requires clear { slots.old ≡ replicate (length slots.old) 0 }
-    ensures flat { IfOk result (λ g. IsFlat g.rows.items g.ends.items (flat_map (parts (length slots.old)) (cut 0 (zip rows.now codes.now) ends.now))) }
+    ensures flat { IfOk result (AreSplit (length slots.old) rows.now ends.now codes.now) }
     ensures clear { OnOk result (slots.new ≡ replicate (length slots.old) 0) }
 {
     split_over(room, slots, rows, ends, codes)?;
@@ -241,7 +233,7 @@ pub(crate) fn split(
 ) -> Result<Groups, AllocError>
     requires cut { IsCut rows.now ends.now }
     requires coded { length codes.now ≡ length rows.now }
-    ensures { IfOk result (λ g. IsFlat g.rows.items g.ends.items (flat_map (parts bound) (cut 0 (zip rows.now codes.now) ends.now))) }
+    ensures { IfOk result (AreSplit bound rows.now ends.now codes.now) }
 {
     let mut slots = vec![in alloc; 0u32; bound]?;
     let mut groups = Groups::empty(alloc);

@@ -205,11 +205,6 @@ module _ (s : CodeTable) (by : Option ℕ) (t : Target) (from : ℕ) (group : Li
     few = newer_more from group k steps after start l p.few few;
   }
 
-  pub walked_first : 0 < get_or room slot 0 → Listed (get_or room slot 0) group
-  walked_first pos =
-      let w = first_listed s by (take k group) (key s by (get_or group k 0)) (subst (λ (i : ℕ). 0 < i) first_is pos) in
-      Listed-take group k (get_or room slot 0) (subst (λ (i : ℕ). Listed i (take k group)) (sym first_is) w.0)
-
   pub walked_apart : Climbs group → 0 < get_or room slot 0 → has_target (code_agree s (get_or room slot 0) (get_or group k 0)) t ≡ false → IsApart s by t group (get_or room slot 0) (get_or group k 0)
   walked_apart c pos d = apart_here s by t from group k (get_or room slot 0) c l pos first_is d
 

@@ -9,3 +9,5 @@ pub mod PlainTests
 pub mod Likeness
 pub mod Chained
 pub mod NewRows
+pub mod WithFirst
+pub mod Answered

@@ -178,3 +178,8 @@ module _ (s : CodeTable) (x : ℕ) (t : Target) (pairs : List (ℕ × ℕ)) (row
 
   pub pairs_given : All (λ p. IsViolation s x t p.0 p.1) pairs → All (λ p. p.0 < s.to) pairs
   pairs_given h k d l = (live_within s (get_or pairs k d).0 (Listed-contained (get_or pairs k d).0 (live_numbers s) (h k d l).first)).1
+
+-- a pair more, if there is one, where fewer than so many were there
+pub one_more : (pairs after : List (ℕ × ℕ)) (pair : Option (ℕ × ℕ)) (most : ℕ) → after ≡ pairs ++ option_to_list pair → length pairs < most → length after ≤ most
+one_more pairs after None most e l = let n = ap length e in let a = ap length (append-nil pairs) in omega arith
+one_more pairs after (Some q) most e l = let n = ap length e in let a = length-append pairs (q ∷ []) in omega arith

@@ -232,9 +232,6 @@ module _ (s : CodeTable) (by : Option ℕ) (t : Target) (from : ℕ) (groups : L
     pub group_some : 0 < length g
     group_some = let two = (stripped-parts s of.columns g in_stripped).two in omega arith
 
-    pub group_given : All (λ (row : ℕ). row < s.to) g
-    group_given = All-from (λ (row : ℕ). row < s.to) g (λ i h. (live i h).1)
-
     pub group_positive : All (λ (row : ℕ). 0 < row) g
     group_positive = All-from (λ (row : ℕ). 0 < row) g (λ i h. (live i h).0)
 

@@ -5,3 +5,4 @@ pub mod Asking
 pub mod Chains
 pub mod Links
 pub mod Stores
+pub mod Lists

@@ -4,6 +4,7 @@
 mod chain;
 mod judge;
 mod links;
+mod lists;
 mod newer;
 mod old_groups;
 mod order;

@@ -2,7 +2,7 @@
 ghost use Rattle.std.specs.Prelude.{◌≡◌, ◌<◌, ◌≤◌, ◌+◌, true, length, slice_index_or, vec_len, IfOk, IfSome};
 ghost use Rattle.col_set.specs.ColSet.{has};
 ghost use Rattle.rel_base.specs.CodeTable.{CodeTable};
-ghost use Rattle.validator.specs.Asking.{IsAsked};
+ghost use Rattle.validator.specs.Asking.{IsAsked, IsAnswer};
 ghost use Rattle.validator.specs.Links.{IsLink, AreLinks, linked_of};
 ghost use Rattle.validator.specs.Verdicts.{AreFound, new_rows};
 ghost use Rattle.validator.specs.declared.links.Link.{Link};
@@ -146,8 +146,7 @@ pub(crate) fn look_up<L: Ledger>(
     requires asked { IsAsked snapshot.now asked.now }
     requires column { has asked.now.left column ≡ true }
     ensures links { AreLinks snapshot.now links.new.items }
-    ensures pairs { IfOk result (λ pairs. AreFound snapshot.now asked.now.left asked.now.target pairs.items) }
-    ensures few { IfOk result (λ pairs. vec_len pairs ≤ asked.now.most) }
+    ensures answer { IfOk result (IsAnswer snapshot.now asked.now) }
     ensures steps { steps.new ≤ steps.old + new_rows snapshot.now asked.now.from }
 {
     let k = place_of(alloc, snapshot, links, column)?;

@@ -6,11 +6,13 @@ ghost use Rattle.col_set.specs.Lists.{Listed};
 ghost use Rattle.rel_base.specs.CodeTable.{IsCodeTable};
 ghost use Rattle.rel_base.specs.Shows.{live_numbers};
 ghost use Rattle.stripped_partition.specs.Stripped.{agree_on};
-ghost use Rattle.validator.specs.Asking.{IsAsked};
+ghost use Rattle.validator.specs.Asking.{IsAsked, IsAnswer};
 ghost use Rattle.validator.specs.Chains.{IsChain, IsTold};
+ghost use Rattle.validator.specs.Lists.{AreTargets};
 ghost use Rattle.validator.specs.Verdicts.{AreFound, IsViolation, new_rows};
 
 use crate::chain::{Chain, agrees, partner};
+use crate::lists::{self, CodeList};
 use crate::shelf::Asked;
 use crate::walk::{add, differ};
 use col_set::ColSet;
@@ -55,6 +57,7 @@ fn pair_with<L: Ledger>(
     chain: &Chain,
     column: u8,
     asked: &Asked,
+    targets: &CodeList,
     row: RowNo,
     pairs: &[(RowNo, RowNo)],
     steps: &mut Steps<L>,
@@ -63,6 +66,7 @@ fn pair_with<L: Ledger>(
     requires column { has asked.now.left column ≡ true }
     requires chain { IsChain (slice_index_or snapshot.now.codes column []) chain.now }
     requires whole { length chain.now.before.items + 1 ≡ snapshot.now.to }
+    requires targets { AreTargets snapshot.now asked.now.target targets.now }
     requires live { Listed row (live_numbers snapshot.now) }
     requires pairs { All (λ pair. IsViolation snapshot.now asked.now.left asked.now.target pair.0 pair.1) pairs.now }
     ensures told { IsTold snapshot.now asked.now.left asked.now.target pairs.now row result }
@@ -72,7 +76,7 @@ fn pair_with<L: Ledger>(
     if is_told(snapshot, asked.left, pairs, other) {
         return None;
     }
-    if differ(snapshot, asked.target, other, row, steps) {
+    if differ(targets, asked.target, other, row, steps) {
         Some((other, row))
     } else {
         None
@@ -96,14 +100,16 @@ pub(crate) fn pairs_of_new<L: Ledger>(
     requires column { has asked.now.left column ≡ true }
     requires chain { IsChain (slice_index_or snapshot.now.codes column []) chain.now }
     requires whole { length chain.now.before.items + 1 ≡ snapshot.now.to }
-    ensures pairs { IfOk result (λ pairs. AreFound snapshot.now asked.now.left asked.now.target pairs.items) }
-    ensures few { IfOk result (λ pairs. vec_len pairs ≤ asked.now.most) }
+    ensures answer { IfOk result (IsAnswer snapshot.now asked.now) }
     ensures steps { steps.new ≤ steps.old + new_rows snapshot.now asked.now.from }
 {
     let rows = rows_from(alloc, snapshot, asked.from)?;
+    let targets = lists::targets(snapshot, asked.target);
     let mut pairs = Vec::new(alloc);
     for row in rows.as_slice() {
-        let pair = pair_with(snapshot, chain, column, asked, *row, &pairs, steps);
+        let pair = pair_with(
+            snapshot, chain, column, asked, &targets, *row, &pairs, steps,
+        );
         add(&mut pairs, pair)?;
         if pairs.len() >= asked.most {
             return Ok(pairs);

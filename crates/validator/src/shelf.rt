@@ -5,7 +5,7 @@ ghost use Rattle.col_set.specs.ColSet.{has, subset, union, with, empty};
 ghost use Rattle.rel_base.specs.CodeTable.{CodeTable};
 ghost use Rattle.stripped_partition.specs.AnyOrder.{AreGroupsBy};
 ghost use Rattle.validator.specs.Kept.{IsKept, AreKept, AreWeights, AreKnown, weight_of};
-ghost use Rattle.validator.specs.Asking.{IsAsked};
+ghost use Rattle.validator.specs.Asking.{IsAsked, IsAnswer};
 ghost use Rattle.validator.specs.Verdicts.{AreFound, new_rows};
 ghost use Rattle.validator.specs.Walk.{IsClear, plus};
 ghost use Rattle.validator.specs.declared.shelf.Kept.{Kept};
@@ -380,8 +380,7 @@ impl Shelf {
         ensures kept { AreKept snapshot.now self.new.kept.items }
         ensures weights { AreWeights snapshot.now self.new.weights }
         ensures clear { OnOk result (IsClear slots.new.items) }
-        ensures pairs { IfOk result (λ pairs. AreFound snapshot.now asked.now.left asked.now.target pairs.items) }
-        ensures few { IfOk result (λ pairs. vec_len pairs ≤ asked.now.most) }
+        ensures answer { IfOk result (IsAnswer snapshot.now asked.now) }
         ensures steps { steps.new ≤ steps.old + new_rows snapshot.now asked.now.from }
     {
         if self.lacks_order(asked.left) {
@@ -504,8 +503,7 @@ impl Shelf {
         ensures kept { AreKept snapshot.now self.new.kept.items }
         ensures weights { self.new.weights ≡ self.old.weights }
         ensures clear { OnOk result (IsClear slots.new.items) }
-        ensures pairs { IfOk result (λ pairs. AreFound snapshot.now asked.now.left asked.now.target pairs.items) }
-        ensures few { IfOk result (λ pairs. vec_len pairs ≤ asked.now.most) }
+        ensures answer { IfOk result (IsAnswer snapshot.now asked.now) }
         ensures steps { steps.new ≤ steps.old + new_rows snapshot.now asked.now.from }
     {
         let by_all = asked.left == self.last;

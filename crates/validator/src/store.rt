@@ -5,7 +5,7 @@ ghost use Rattle.col_set.specs.ColSet.{has, with, empty};
 ghost use Rattle.rel_base.specs.Alike.{Alike};
 ghost use Rattle.rel_base.specs.Shows.{holds_in};
 ghost use Rattle.stripped_partition.specs.Stripped.{stripped, error_of};
-ghost use Rattle.validator.specs.Asking.{IsAsked};
+ghost use Rattle.validator.specs.Asking.{IsAsked, IsAnswer};
 ghost use Rattle.validator.specs.Verdicts.{AreApart, AreFound, IsFitting, IsVerdict, new_rows};
 ghost use Rattle.validator.specs.declared.verdict.Verdict.TheVariants.{Holds, Broken};
 
@@ -150,7 +150,7 @@ impl Store {
         ensures steps { steps.new ≤ steps.old + new_rows job.now.snapshot job.now.from }
         ensures store { self.new ≡ self.old }
     {
-        let pairs = self.search(alloc, job, 1, steps)?;
+        let pairs = self.violations(alloc, job, 1, steps)?;
         Ok(judge::verdict_of(job, &pairs))
     }
 
@@ -179,7 +179,16 @@ impl Store {
         ensures steps { steps.new ≤ steps.old + new_rows job.now.snapshot job.now.from }
         ensures store { self.new ≡ self.old }
     {
-        self.search(alloc, job, most, steps)
+        let asked = Asked {
+            left: job.left(),
+            target: job.target(),
+            from: job.from(),
+            most,
+        };
+        match self.column_for(&asked) {
+            Some(column) => self.look_up(alloc, &asked, column, steps),
+            None => self.search_groups(alloc, &asked, steps),
+        }
     }
 
     /// The weight of each column of the store's snapshot, at the column's place: how many live rows it does not tell from an
@@ -196,34 +205,6 @@ impl Store {
         ensures store { self.new ≡ self.old }
     {
         self.shelf.weights(alloc, &self.snapshot)
-    }
-
-    // Searches for pairs that break a job's dependency.
-    fn search<L: Ledger>(
-        &mut self,
-        alloc: Global,
-        job: &Job,
-        most: usize,
-        steps: &mut Steps<L>,
-    ) -> Result<Vec<(RowNo, RowNo)>, AllocError>
-        requires some { 0 < most }
-        requires alike { Alike self.old job.now.snapshot }
-        requires fitting { IsFitting job.now }
-        ensures pairs { IfOk result (λ pairs. AreFound job.now.snapshot job.now.left job.now.target pairs.items) }
-        ensures few { IfOk result (λ pairs. vec_len pairs ≤ most) }
-        ensures steps { steps.new ≤ steps.old + new_rows job.now.snapshot job.now.from }
-        ensures store { self.new ≡ self.old }
-    {
-        let asked = Asked {
-            left: job.left(),
-            target: job.target(),
-            from: job.from(),
-            most,
-        };
-        match self.column_for(&asked) {
-            Some(column) => self.look_up(alloc, &asked, column, steps),
-            None => self.search_groups(alloc, &asked, steps),
-        }
     }
 
     // The column of the left side by which new rows are looked up, where they are few: the one that tells the most rows apart, as far
@@ -258,8 +239,7 @@ impl Store {
     ) -> Result<Vec<(RowNo, RowNo)>, AllocError>
         requires asked { IsAsked self.old asked.now }
         requires column { has asked.now.left column ≡ true }
-        ensures pairs { IfOk result (λ pairs. AreFound self.old asked.now.left asked.now.target pairs.items) }
-        ensures few { IfOk result (λ pairs. vec_len pairs ≤ asked.now.most) }
+        ensures answer { IfOk result (IsAnswer self.old asked.now) }
         ensures steps { steps.new ≤ steps.old + new_rows self.old asked.now.from }
         ensures store { self.new ≡ self.old }
     {
@@ -278,8 +258,7 @@ impl Store {
         steps: &mut Steps<L>,
     ) -> Result<Vec<(RowNo, RowNo)>, AllocError>
         requires { IsAsked self.old asked.now }
-        ensures pairs { IfOk result (λ pairs. AreFound self.old asked.now.left asked.now.target pairs.items) }
-        ensures few { IfOk result (λ pairs. vec_len pairs ≤ asked.now.most) }
+        ensures answer { IfOk result (IsAnswer self.old asked.now) }
         ensures steps { steps.new ≤ steps.old + new_rows self.old asked.now.from }
         ensures store { self.new ≡ self.old }
     {

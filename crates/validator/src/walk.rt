@@ -1,16 +1,18 @@
 // Comparisons of rows on a target, group by group.
-ghost use Rattle.std.specs.Prelude.{◌≡◌, ◌<◌, ◌≤◌, ◌+◌, ◌^◌, ◌++◌, ◌∷◌, [], ℕ, length, nat_le, not, vec_len, slice_index, true, false, IsTrue, IfOk, OnOk, cond};
+ghost use Rattle.std.specs.Prelude.{◌≡◌, ◌<◌, ◌≤◌, ◌+◌, ◌^◌, ◌++◌, ◌∷◌, [], None, ℕ, length, nat_le, not, vec_len, slice_index, true, false, IsTrue, IfOk, OnOk, cond};
 ghost use Rattle.std.specs.List.{All, count_by};
 ghost use Rattle.std.specs.Option.{ForSome, option_to_list};
 ghost use Rattle.std.specs.List.Sorted.{IsStrictlyIncreasing};
 ghost use Rattle.col_set.specs.ColSet.{Columns};
 ghost use Rattle.col_set.specs.Target.{has_target, IsColumnTarget};
+ghost use Rattle.rel_base.specs.CodeTable.{CodeTable};
 ghost use Rattle.rel_base.specs.Shows.{code_agree, holds_in_below};
 ghost use Rattle.stripped_partition.specs.AnyOrder.{AreGroupsBy, AreGroupsOf};
+ghost use Rattle.validator.specs.Lists.{keys_of, AreLists, AreTargets};
 ghost use Rattle.validator.specs.Verdicts.{AreFound, new_rows};
-ghost use Rattle.validator.specs.Walk as walks;
 ghost use Rattle.validator.specs.Walk.{plus, IsCompared, IsClear, IsClearBut};
 
+use crate::lists::{CodeList, Lists};
 use col_set::Target;
 use rel_base::{RowNo, Snapshot, Steps};
 use std::alloc::{AllocError, Global};
@@ -27,61 +29,42 @@ pub(crate) struct Question {
     pub(crate) most: usize,
 }
 
-// A row's code in the further column, or 0.
-fn key(snapshot: &Snapshot, by: Option<u8>, row: RowNo) -> usize
-    requires given { row < snapshot.now.to }
-    requires column { ForSome by (λ column. column < length snapshot.now.codes) }
-    ensures value { result ≡ walks.key snapshot.now by row }
-    ensures small { result < 2 ^ 32 }
-{
-    match by {
-        Some(column) => snapshot.code(row, column) as usize,
-        None => 0,
-    }
-}
-
 // Whether two rows differ on the target. Two rows always differ on which row it is. This alone compares rows on the target, and
 // each such comparison is a step.
 pub(crate) fn differ<L: Ledger>(
-    snapshot: &Snapshot,
+    codes: &CodeList,
     target: Target,
     i: RowNo,
     j: RowNo,
     steps: &mut Steps<L>,
 ) -> bool
-    requires first { i < snapshot.now.to }
-    requires second { j < snapshot.now.to }
-    requires target { IsColumnTarget (length snapshot.now.codes) target }
-    ensures value { result ≡ not (has_target (code_agree snapshot.now i j) target) }
+    ensures value { (s : CodeTable) → IsColumnTarget (length s.codes) target → AreTargets s target codes.now → result ≡ not (has_target (code_agree s i j) target) }
     ensures step { steps.new ≡ steps.old + 1 }
 {
     steps.tick();
     match target {
-        Target::Col(column) => snapshot.code(i, column) != snapshot.code(j, column),
+        Target::Col(_) => codes.code(i) != codes.code(j),
         Target::RowId => true,
     }
 }
 
 // Compares a row with the first of its key, unless it is an older row.
 fn are_apart<L: Ledger>(
-    snapshot: &Snapshot,
+    codes: &CodeList,
     target: Target,
     from: RowNo,
     first: RowNo,
     row: RowNo,
     steps: &mut Steps<L>,
 ) -> bool
-    requires first { first < snapshot.now.to }
-    requires second { row < snapshot.now.to }
-    requires target { IsColumnTarget (length snapshot.now.codes) target }
-    ensures apart { IsTrue result → has_target (code_agree snapshot.now first row) target ≡ false }
-    ensures alike { result ≡ false → from ≤ row → has_target (code_agree snapshot.now first row) target ≡ true }
+    ensures apart { (s : CodeTable) → IsColumnTarget (length s.codes) target → AreTargets s target codes.now → IsTrue result → has_target (code_agree s first row) target ≡ false }
+    ensures alike { (s : CodeTable) → IsColumnTarget (length s.codes) target → AreTargets s target codes.now → result ≡ false → from ≤ row → has_target (code_agree s first row) target ≡ true }
     ensures steps { steps.new ≤ steps.old + cond (nat_le from row) 1 0 }
 {
     if row.number() < from.number() {
         return false;
     }
-    differ(snapshot, target, first, row, steps)
+    differ(codes, target, first, row, steps)
 }
 
 // Makes room for a slot, and for those before it.
@@ -97,36 +80,33 @@ pub(crate) fn reach(slots: &mut Vec<u32>, slot: usize) -> Result<(), AllocError>
 }
 
 // Compares each row of a group that is not below the number with the first of its key, up to the first difference.
+//
+// Here and below the snapshot is what the contracts speak of: the codes are looked up in the lists.
 fn pair_in<L: Ledger>(
     group: &[RowNo],
     snapshot: &Snapshot,
     question: &Question,
+    lists: &Lists,
     slots: &mut Vec<u32>,
     steps: &mut Steps<L>,
 ) -> Result<Option<(RowNo, RowNo)>, AllocError>
-    requires given { All (λ row. row < snapshot.now.to) group.now }
     requires positive { All (λ row. 0 < row) group.now }
     requires rising { IsStrictlyIncreasing group.now }
     requires target { IsColumnTarget (length snapshot.now.codes) question.now.target }
-    requires column { ForSome question.now.by (λ column. column < length snapshot.now.codes) }
+    requires lists { AreLists snapshot.now question.now.by question.now.target lists.now }
     requires clear { IsClear slots.old.items }
     ensures pair { IfOk result (IsCompared snapshot.now question.now.by question.now.target question.now.from group.now) }
     ensures clear { OnOk result (IsClearBut snapshot.now question.now.by group.now slots.new.items) }
     ensures steps { steps.new ≤ steps.old + count_by (λ i. nat_le question.now.from i) group.now }
 {
-    let Question {
-        target,
-        by,
-        from,
-        ..
-    } = *question;
+    let Question { target, from, .. } = *question;
     for row in group {
-        let slot = key(snapshot, by, *row);
+        let slot = lists.keys.code(*row) as usize;
         reach(slots, slot)?;
         let first = slots[slot];
         if first == 0 {
             slots[slot] = row.number();
-        } else if are_apart(snapshot, target, from, RowNo::of(first), *row, steps) {
+        } else if are_apart(&lists.targets, target, from, RowNo::of(first), *row, steps) {
             return Ok(Some((RowNo::of(first), *row)));
         }
     }
@@ -134,18 +114,45 @@ fn pair_in<L: Ledger>(
 }
 
 // Clears the slots of a group's keys.
-fn clear(slots: &mut [u32], group: &[RowNo], snapshot: &Snapshot, by: Option<u8>)
-    requires given { All (λ row. row < snapshot.now.to) group.now }
-    requires column { ForSome by (λ column. column < length snapshot.now.codes) }
+fn clear(slots: &mut [u32], group: &[RowNo], snapshot: &Snapshot, by: Option<u8>, keys: &CodeList)
+    requires keys { keys.now ≡ keys_of snapshot.now by }
     requires others { IsClearBut snapshot.now by group.now slots.old }
     ensures { IsClear slots.new }
 {
     for row in group {
-        let slot = key(snapshot, by, *row);
+        let slot = keys.code(*row) as usize;
         if slot < slots.len() {
             slots[slot] = 0;
         }
     }
+}
+
+// The first row of a group and the first one behind it, from the number on, that differs from it on the target. There is no further
+// column, so that all rows of the group are to agree on the target, and it takes no slot.
+fn pair_with_first<L: Ledger>(
+    group: &[RowNo],
+    snapshot: &Snapshot,
+    question: &Question,
+    codes: &CodeList,
+    steps: &mut Steps<L>,
+) -> Option<(RowNo, RowNo)>
+    requires some { 0 < length group.now }
+    requires rising { IsStrictlyIncreasing group.now }
+    requires none { question.now.by ≡ None }
+    requires target { IsColumnTarget (length snapshot.now.codes) question.now.target }
+    requires codes { AreTargets snapshot.now question.now.target codes.now }
+    ensures pair { IsCompared snapshot.now question.now.by question.now.target question.now.from group.now result }
+    ensures steps { steps.new ≤ steps.old + count_by (λ i. nat_le question.now.from i) group.now }
+{
+    let Question { target, from, .. } = *question;
+    let first = group[0];
+    for k in 1..group.len() {
+        let row = group[k];
+        if are_apart(codes, target, from, first, row, steps) {
+            return Some((first, row));
+        }
+    }
+    None
 }
 
 // Whether a group has a row that is not below the number.
@@ -161,23 +168,21 @@ fn has_new(group: &[RowNo], from: RowNo) -> bool
 fn pair_of_two<L: Ledger>(
     snapshot: &Snapshot,
     question: &Question,
+    lists: &Lists,
     i: RowNo,
     j: RowNo,
     steps: &mut Steps<L>,
 ) -> Option<(RowNo, RowNo)>
-    requires first { i < snapshot.now.to }
-    requires second { j < snapshot.now.to }
     requires rising { i < j }
     requires target { IsColumnTarget (length snapshot.now.codes) question.now.target }
-    requires column { ForSome question.now.by (λ column. column < length snapshot.now.codes) }
+    requires lists { AreLists snapshot.now question.now.by question.now.target lists.now }
     ensures pair { IsCompared snapshot.now question.now.by question.now.target question.now.from (i ∷ j ∷ []) result }
     ensures steps { steps.new ≤ steps.old + cond (nat_le question.now.from j) 1 0 }
 {
-    let by = question.by;
-    if key(snapshot, by, i) != key(snapshot, by, j) {
+    if lists.keys.code(i) != lists.keys.code(j) {
         return None;
     }
-    if are_apart(snapshot, question.target, question.from, i, j, steps) {
+    if are_apart(&lists.targets, question.target, question.from, i, j, steps) {
         return Some((i, j));
     }
     None
@@ -188,15 +193,15 @@ fn pair_of_group<L: Ledger>(
     group: &[RowNo],
     snapshot: &Snapshot,
     question: &Question,
+    lists: &Lists,
     slots: &mut Vec<u32>,
     steps: &mut Steps<L>,
 ) -> Result<Option<(RowNo, RowNo)>, AllocError>
     requires some { 0 < length group.now }
-    requires given { All (λ row. row < snapshot.now.to) group.now }
     requires positive { All (λ row. 0 < row) group.now }
     requires rising { IsStrictlyIncreasing group.now }
     requires target { IsColumnTarget (length snapshot.now.codes) question.now.target }
-    requires column { ForSome question.now.by (λ column. column < length snapshot.now.codes) }
+    requires lists { AreLists snapshot.now question.now.by question.now.target lists.now }
     requires clear { IsClear slots.old.items }
     ensures pair { IfOk result (IsCompared snapshot.now question.now.by question.now.target question.now.from group.now) }
     ensures clear { OnOk result (IsClear slots.new.items) }
@@ -205,11 +210,14 @@ fn pair_of_group<L: Ledger>(
     if !has_new(group, question.from) {
         return Ok(None);
     }
-    if group.len() == 2 {
-        return Ok(pair_of_two(snapshot, question, group[0], group[1], steps));
+    if question.by.is_none() {
+        return Ok(pair_with_first(group, snapshot, question, &lists.targets, steps));
     }
-    let pair = pair_in(group, snapshot, question, slots, steps)?;
-    clear(slots, group, snapshot, question.by);
+    if group.len() == 2 {
+        return Ok(pair_of_two(snapshot, question, lists, group[0], group[1], steps));
+    }
+    let pair = pair_in(group, snapshot, question, lists, slots, steps)?;
+    clear(slots, group, snapshot, question.by, &lists.keys);
     Ok(pair)
 }
 
@@ -246,9 +254,10 @@ pub(crate) fn pairs_in_groups<L: Ledger>(
     ensures clear { OnOk result (IsClear slots.new.items) }
     ensures steps { steps.new ≤ steps.old + new_rows snapshot.now question.now.from }
 {
+    let lists = Lists::of(snapshot, question.by, question.target);
     let mut pairs = Vec::new(alloc);
     for k in 0..partition.group_count() {
-        let pair = pair_of_group(partition.group(k), snapshot, question, slots, steps)?;
+        let pair = pair_of_group(partition.group(k), snapshot, question, &lists, slots, steps)?;
         add(&mut pairs, pair)?;
         if pairs.len() >= question.most {
             return Ok(pairs);

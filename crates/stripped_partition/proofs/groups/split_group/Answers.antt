@@ -58,14 +58,16 @@ last : (rows codes : List ℕ) (i bound n : ℕ) (before ends_before at ends slo
     → Placing (zip rows codes) bound before ends_before at ends slots (take i (zip rows codes)) → Placing (zip rows codes) n before ends_before at ends slots (zip rows codes)
 last rows codes i bound n before ends_before at ends slots coded l e p = subst₂ (λ (b : ℕ) (es : List (ℕ × ℕ)). Placing (zip rows codes) b before ends_before at ends slots es) (sym e) (done rows codes i coded l) p
 
-pub returns-clause-rows : goal.returns-clause-rows
-returns-clause-rows c = placed_rows (zip c.args.rows.now c.args.codes.now) (length c.args.slots.now) c.args.groups.now.rows.items c.args.groups.now.ends.items c.loop-i.groups.rows.items c.loop-i.groups.ends.items c.loop-i.slots
-    (last c.args.rows.now c.args.codes.now c.loop-i.i (length c.loop-i.slots) (length c.args.slots.now) _ _ _ _ _ c.requires.coded c.loop-i-test.false (sym (c.loop-i.auto.slots ∙ c.count.auto.slots)) c.loop-i.invariant)
-
-pub returns-clause-ends : goal.returns-clause-ends
-returns-clause-ends c = placed_ends (zip c.args.rows.now c.args.codes.now) (length c.args.slots.now) c.args.groups.now.rows.items c.args.groups.now.ends.items c.loop-i.groups.rows.items c.loop-i.groups.ends.items c.loop-i.slots
-    (last c.args.rows.now c.args.codes.now c.loop-i.i (length c.loop-i.slots) (length c.args.slots.now) _ _ _ _ _ c.requires.coded c.loop-i-test.false (sym (c.loop-i.auto.slots ∙ c.count.auto.slots)) c.loop-i.invariant)
-    ∙ ap (λ (n : ℕ). c.args.groups.now.ends.items ++ ends_of n (parts (length c.args.slots.now) (zip c.args.rows.now c.args.codes.now))) (let e : length c.args.groups.now.rows.items ≡ vec_len c.args.groups.now.rows = omega (arith, c.args.groups.now.rows.ok.0) in e)
+pub returns-clause-parts : goal.returns-clause-parts
+returns-clause-parts c =
+    let p = last c.args.rows.now c.args.codes.now c.loop-i.i (length c.loop-i.slots) (length c.args.slots.now) c.args.groups.now.rows.items c.args.groups.now.ends.items c.loop-i.groups.rows.items c.loop-i.groups.ends.items c.loop-i.slots
+    c.requires.coded c.loop-i-test.false (sym (c.loop-i.auto.slots ∙ c.count.auto.slots)) c.loop-i.invariant in
+    record {
+      laid = placed_rows (zip c.args.rows.now c.args.codes.now) (length c.args.slots.now) c.args.groups.now.rows.items c.args.groups.now.ends.items c.loop-i.groups.rows.items c.loop-i.groups.ends.items c.loop-i.slots p;
+      cuts =
+          placed_ends (zip c.args.rows.now c.args.codes.now) (length c.args.slots.now) c.args.groups.now.rows.items c.args.groups.now.ends.items c.loop-i.groups.rows.items c.loop-i.groups.ends.items c.loop-i.slots p
+          ∙ ap (λ (n : ℕ). c.args.groups.now.ends.items ++ ends_of n (parts (length c.args.slots.now) (zip c.args.rows.now c.args.codes.now))) (let e : length c.args.groups.now.rows.items ≡ vec_len c.args.groups.now.rows = omega (arith, c.args.groups.now.rows.ok.0) in e);
+    }
 
 pub returns-clause-slots : goal.returns-clause-slots
 returns-clause-slots c d l z = placed_slots (zip c.args.rows.now c.args.codes.now) (length c.loop-i.slots) c.args.groups.now.rows.items c.args.groups.now.ends.items c.loop-i.groups.rows.items c.loop-i.groups.ends.items c.loop-i.slots

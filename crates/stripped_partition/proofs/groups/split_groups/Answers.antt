@@ -22,6 +22,10 @@ within bound rows codes ends rows_made ends_made slots i start is coded p l =
     let e = length-slice rows start (get_or ends i 0) (omega arith) (omega arith) in
     (a, omega arith, omega arith)
 
+-- as many rows as codes
+sliced : (rows codes : List ℕ) (start end : ℕ) → length codes ≡ length rows → start ≤ end → end ≤ length rows → length (slice_range codes start end) ≡ length (slice_range rows start end)
+sliced rows codes start end coded l m = length-slice codes start end l (omega arith) ∙ sym (length-slice rows start end l m)
+
 pub slice_bounds-split_clear-count : goal.slice_bounds-split_clear-count
 slice_bounds-split_clear-count c =
     let w = within (length c.loop-end.slots) c.args.rows.now c.args.codes.now c.args.ends.now c.loop-end.groups.rows.items c.loop-end.groups.ends.items c.loop-end.slots c.loop-end.end-index c.loop-end.start c.requires.cut c.requires.coded c.loop-end.invariant c.loop-end-test.true in
@@ -53,13 +57,14 @@ slice_bounds-split_clear-end-in-loop-end c =
     let b = w.1 in let e = c.requires.coded in
     let g : get_or c.args.ends.now c.loop-end.end-index 0 ≤ length c.args.codes.now = omega arith in search rules
 
-pub split_clear-requires-clause-short : goal.split_clear-requires-clause-short
-split_clear-requires-clause-short c =
+pub split_clear-requires : goal.split_clear-requires
+split_clear-requires c =
     let w = within (length c.loop-end.slots) c.args.rows.now c.args.codes.now c.args.ends.now c.loop-end.groups.rows.items c.loop-end.groups.ends.items c.loop-end.slots c.loop-end.end-index c.loop-end.start c.requires.cut c.requires.coded c.loop-end.invariant c.loop-end-test.true in
-    let s = w.2 in omega (arith, c.loop-end.groups.rows.ok.0)
-
-pub split_clear-requires-clause-clear : goal.split_clear-requires-clause-clear
-split_clear-requires-clause-clear c = c.loop-end.invariant.clear
+    record {
+      short = (let s = w.2 in omega (arith, c.loop-end.groups.rows.ok.0));
+      coded = sliced c.args.rows.now c.args.codes.now c.loop-end.start (get_or c.args.ends.now c.loop-end.end-index 0) c.requires.coded (let a = w.0 in omega arith) w.1;
+      clear = c.loop-end.invariant.clear;
+    }
 
 -- one more group is split
 more : (rows codes ends rows_made ends_made slots : List ℕ) (i start made : ℕ) → IsCut rows ends → length codes ≡ length rows → Splitted (length slots) (zip rows codes) ends rows_made ends_made slots i start → i < length ends
@@ -82,7 +87,7 @@ loop-end-preserved c =
     let at = c.loop-end.groups in
     let made : vec_len at.rows ≡ length at.rows.items = omega (arith, at.rows.ok.0) in
     more c.args.rows.now c.args.codes.now c.args.ends.now at.rows.items at.ends.items c.loop-end.slots c.loop-end.end-index c.loop-end.start (vec_len at.rows) c.requires.cut c.requires.coded c.loop-end.invariant c.loop-end-test.true
-    (get_or c.args.ends.now c.loop-end.end-index 0) c.split_clear.new.groups.rows.items c.split_clear.new.groups.ends.items c.split_clear.new.slots refl made c.in_ok-split_clear.ensures.rows c.in_ok-split_clear.ensures.ends
+    (get_or c.args.ends.now c.loop-end.end-index 0) c.split_clear.new.groups.rows.items c.split_clear.new.groups.ends.items c.split_clear.new.slots refl made c.in_ok-split_clear.ensures.parts.laid c.in_ok-split_clear.ensures.parts.cuts
     c.split_clear.auto.slots
     (c.in_ok-split_clear.ensures.clear ∙ ap (λ (n : ℕ). replicate n 0) (sym c.split_clear.auto.slots))
 

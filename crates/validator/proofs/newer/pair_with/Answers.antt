@@ -13,14 +13,8 @@ is_told-requires-clause-given g c = pairs_given c.args.snapshot.now c.args.asked
 pub is_told-requires-clause-row : goal.is_told-requires-clause-row
 is_told-requires-clause-row g c = let l = (live_within c.args.snapshot.now c.args.row c.requires.live).1 in let b = c.in_ok-other.ensures.before in omega arith
 
-pub differ-requires-clause-first : goal.differ-requires-clause-first
-differ-requires-clause-first g c = let l = (live_within c.args.snapshot.now c.args.row c.requires.live).1 in let b = c.in_ok-other.ensures.before in omega arith
-
-pub differ-requires-clause-second : goal.differ-requires-clause-second
-differ-requires-clause-second g c = (live_within c.args.snapshot.now c.args.row c.requires.live).1
-
 pub returns-then-differ-clause-told : goal.returns-then-differ-clause-told
 returns-then-differ-clause-told g c = (
-  told_apart c.args.snapshot.now c.args.asked.now.left c.args.asked.now.target c.args.pairs.now c.args.row c.in_ok-other.other c.requires.live c.in_ok-other.ensures (not-true _ (sym c.differ.ensures.value ∙ c.if-differ.true)),
+  told_apart c.args.snapshot.now c.args.asked.now.left c.args.asked.now.target c.args.pairs.now c.args.row c.in_ok-other.other c.requires.live c.in_ok-other.ensures (not-true _ (sym (c.differ.ensures.value c.args.snapshot.now c.requires.asked.target c.requires.targets) ∙ c.if-differ.true)),
   c.is_told.ensures.no c.if-is_told.false,
 )

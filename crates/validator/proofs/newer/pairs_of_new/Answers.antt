@@ -3,7 +3,7 @@ use Rattle.std.specs.List.{All}
 use Rattle.std.proofs.lemmas.List.{get_or_read}
 use Rattle.validator.specs.Verdicts.{IsViolation}
 use Rattle.validator.specs.Chains.{IsTold}
-use Rattle.validator.proofs.NewRows.{NewPairs, new_none, new_more, row_live, few_steps, found_new}
+use Rattle.validator.proofs.NewRows.{NewPairs, new_none, new_more, row_live, few_steps, found_new, one_more}
 use Rattle.validator.proofs.newer.pairs_of_new.Goals as goal
 
 pub loop-row-init : goal.loop-row-init
@@ -33,14 +33,18 @@ returns-then-len-asked-clause-steps g c =
     let l = c.loop-row-test.true in
     few_steps c.args.snapshot.now c.args.asked.now c.requires.asked c.as_slice-row-items.result.now (c.as_slice-row-items.ensures.value ∙ c.in_ok-rows.ensures) (c.loop-row.row-index + 1) c.pair_with-pair.new.steps c.args.steps.now (omega arith) (omega arith)
 
-pub returns-then-len-asked-clause-pairs : goal.returns-then-len-asked-clause-pairs
-returns-then-len-asked-clause-pairs g c =
-    found_new c.args.snapshot.now c.args.asked.now c.requires.asked c.as_slice-row-items.result.now (c.as_slice-row-items.ensures.value ∙ c.in_ok-rows.ensures) (c.loop-row.row-index + 1) c.add.new.pairs.items
-    (subst (NewPairs c.args.snapshot.now c.args.asked.now.left c.args.asked.now.target c.as_slice-row-items.result.now (c.loop-row.row-index + 1)) (sym c.in_ok-add.ensures)
-    (new_more c.args.snapshot.now c.args.asked.now.left c.args.asked.now.target c.as_slice-row-items.result.now c.loop-row.row-index c.row-item.result c.loop-row-test.true
-    (get_or_read c.as_slice-row-items.result.now c.loop-row.row-index c.row-item.result c.loop-row-test.true c.row-item.is 0) c.loop-row.pairs.items c.pair_with-pair.result c.loop-row.invariant.found
-    (subst (λ (ps : List (ℕ × ℕ)). IsTold c.args.snapshot.now c.args.asked.now.left c.args.asked.now.target ps c.row-item.result c.pair_with-pair.result) c.deref.ensures.value c.pair_with-pair.ensures.told)))
-    (λ none. absurd (let n = ap length none in let m = c.requires.asked.some in let l = c.if-len-asked.true in let k = c.len.ensures in omega (arith, c.add.new.pairs.ok.0)))
+pub returns-then-len-asked-clause-answer : goal.returns-then-len-asked-clause-answer
+returns-then-len-asked-clause-answer g c =
+    record {
+      found =
+          found_new c.args.snapshot.now c.args.asked.now c.requires.asked c.as_slice-row-items.result.now (c.as_slice-row-items.ensures.value ∙ c.in_ok-rows.ensures) (c.loop-row.row-index + 1) c.add.new.pairs.items
+          (subst (NewPairs c.args.snapshot.now c.args.asked.now.left c.args.asked.now.target c.as_slice-row-items.result.now (c.loop-row.row-index + 1)) (sym c.in_ok-add.ensures)
+          (new_more c.args.snapshot.now c.args.asked.now.left c.args.asked.now.target c.as_slice-row-items.result.now c.loop-row.row-index c.row-item.result c.loop-row-test.true
+          (get_or_read c.as_slice-row-items.result.now c.loop-row.row-index c.row-item.result c.loop-row-test.true c.row-item.is 0) c.loop-row.pairs.items c.pair_with-pair.result c.loop-row.invariant.found
+          (subst (λ (ps : List (ℕ × ℕ)). IsTold c.args.snapshot.now c.args.asked.now.left c.args.asked.now.target ps c.row-item.result c.pair_with-pair.result) c.deref.ensures.value c.pair_with-pair.ensures.told)))
+          (λ none. absurd (let n = ap length none in let m = c.requires.asked.some in let l = c.if-len-asked.true in let k = c.len.ensures in omega (arith, c.add.new.pairs.ok.0)));
+      few = (let few = one_more c.loop-row.pairs.items c.add.new.pairs.items c.pair_with-pair.result c.args.asked.now.most c.in_ok-add.ensures c.loop-row.invariant.fewer in omega (arith, c.add.new.pairs.ok.0));
+    }
 
 pub loop-row-preserved : goal.loop-row-preserved
 loop-row-preserved g c =
@@ -56,13 +60,14 @@ loop-row-preserved g c =
       few = omega arith;
     }
 
-pub returns-clause-pairs : goal.returns-clause-pairs
-returns-clause-pairs g c =
+pub returns-clause-answer : goal.returns-clause-answer
+returns-clause-answer g c =
     let past = c.loop-row-test.false in
-    found_new c.args.snapshot.now c.args.asked.now c.requires.asked c.as_slice-row-items.result.now (c.as_slice-row-items.ensures.value ∙ c.in_ok-rows.ensures) c.loop-row.row-index c.loop-row.pairs.items c.loop-row.invariant.found (λ none. past)
-
-pub returns-clause-few : goal.returns-clause-few
-returns-clause-few g c = let fewer = c.loop-row.invariant.fewer in omega (arith, c.loop-row.pairs.ok.0)
+    record {
+      found =
+          found_new c.args.snapshot.now c.args.asked.now c.requires.asked c.as_slice-row-items.result.now (c.as_slice-row-items.ensures.value ∙ c.in_ok-rows.ensures) c.loop-row.row-index c.loop-row.pairs.items c.loop-row.invariant.found (λ none. past);
+      few = (let fewer = c.loop-row.invariant.fewer in omega (arith, c.loop-row.pairs.ok.0));
+    }
 
 pub returns-clause-steps : goal.returns-clause-steps
 returns-clause-steps g c =

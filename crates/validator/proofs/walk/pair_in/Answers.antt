@@ -10,7 +10,8 @@ use Rattle.rel_base.proofs.States.{All-listed}
 use Rattle.rel_base.specs.Shows.{code_agree}
 use Rattle.std.specs.List.Sorted.{IsStrictlyIncreasing}
 use Rattle.validator.specs.Walk.{key, IsApart, IsClearBut}
-use Rattle.validator.proofs.Leads.{Walked, walked_new, walked_old, walked_apart, walked_clear, walked_few, walked_first, newer}
+use Rattle.validator.proofs.Leads.{Walked, walked_new, walked_old, walked_apart, walked_clear, walked_few, newer}
+use Rattle.validator.proofs.Targets.{key_read}
 use Rattle.validator.proofs.walk.pair_in.Goals as goal
 use Rattle.validator.proofs.walk.pair_in.Goals.{then-first-eq0, else-first-eq0+else-are_apart}
 
@@ -29,11 +30,6 @@ module _ (s : CodeTable) (by : Option ℕ) (t : Target) (from : ℕ) (group : Li
     (x : row ≡ get_or group k 0) (is : slot ≡ key s by row) (f : first ≡ get_or room slot 0) where
   at : slot ≡ key s by (get_or group k 0)
   at = slot_is s by group k row slot x is
-
-  given : (other : ℕ) → All (λ (i : ℕ). i < s.to) group → first ≢ 0 → other ≡ first → other < s.to
-  given other all ne e =
-      let h = walked_first s by t from group k slots room steps start slot l p kept at (above first slot room f ne) in
-      let m = All-listed (λ (i : ℕ). i < s.to) (get_or room slot 0) group all h in omega arith
 
   apart : (other : ℕ) → IsStrictlyIncreasing group → first ≢ 0 → other ≡ first → has_target (code_agree s other row) t ≡ false → IsApart s by t group other row
   apart other up ne e d =
@@ -59,55 +55,46 @@ module _ (s : CodeTable) (by : Option ℕ) (t : Target) (from : ℕ) (group : Li
       (walked_old s by t from group k slots room steps start slot l p kept at (above first slot room f ne)
       (subst₂ (λ (i j : ℕ). from ≤ j → has_target (code_agree s i j) t ≡ true) (e ∙ f) x told) after (subst (λ (i : ℕ). after ≤ steps + cond (leb from i) 1 0) x n))
 
-pub are_apart-requires-clause-first : goal.are_apart-requires-clause-first
-are_apart-requires-clause-first g c =
-    let m : c.key-slot.result < length c.reach.new.slots.items = (let r = c.in_ok-reach.ensures.room in omega (arith, c.reach.new.slots.ok.0)) in
-    given c.args.snapshot.now c.args.question.now.by c.args.question.now.target c.args.question.now.from c.args.group.now c.loop-row.row-index c.loop-row.slots.items c.reach.new.slots.items c.loop-row.steps c.args.steps.now
-    c.key-slot.result c.row-item.result c.index-first.result.now c.loop-row-test.true c.loop-row.invariant c.reach.ensures.kept
-    (get_or_read c.args.group.now c.loop-row.row-index c.row-item.result c.loop-row-test.true c.row-item.is 0) c.key-slot.ensures.value
-    (get_or_read c.reach.new.slots.items c.key-slot.result c.index-first.result.now m c.index-first.ensures 0)
-    c.of.result c.requires.given c.if-first-eq0.false c.of.ensures
-
 pub returns-then-are_apart-clause-pair : goal.returns-then-are_apart-clause-pair
 returns-then-are_apart-clause-pair g c =
-    let m : c.key-slot.result < length c.reach.new.slots.items = (let r = c.in_ok-reach.ensures.room in omega (arith, c.reach.new.slots.ok.0)) in
+    let m : c.code-slot.result < length c.reach.new.slots.items = (let r = c.in_ok-reach.ensures.room in omega (arith, c.reach.new.slots.ok.0)) in
     apart c.args.snapshot.now c.args.question.now.by c.args.question.now.target c.args.question.now.from c.args.group.now c.loop-row.row-index c.loop-row.slots.items c.reach.new.slots.items c.loop-row.steps c.args.steps.now
-    c.key-slot.result c.row-item.result c.index-first.result.now c.loop-row-test.true c.loop-row.invariant c.reach.ensures.kept
-    (get_or_read c.args.group.now c.loop-row.row-index c.row-item.result c.loop-row-test.true c.row-item.is 0) c.key-slot.ensures.value
-    (get_or_read c.reach.new.slots.items c.key-slot.result c.index-first.result.now m c.index-first.ensures 0)
+    c.code-slot.result c.row-item.result c.index-first.result.now c.loop-row-test.true c.loop-row.invariant c.reach.ensures.kept
+    (get_or_read c.args.group.now c.loop-row.row-index c.row-item.result c.loop-row-test.true c.row-item.is 0) (key_read c.args.snapshot.now c.args.question.now.by c.args.lists.now.keys c.row-item.result c.code-slot.result c.requires.lists.keys c.code-slot.ensures)
+    (get_or_read c.reach.new.slots.items c.code-slot.result c.index-first.result.now m c.index-first.ensures 0)
     c.of-then-are_apart.result c.requires.rising c.if-first-eq0.false c.of-then-are_apart.ensures
-    (subst (λ (i : ℕ). has_target (code_agree c.args.snapshot.now i c.row-item.result) c.args.question.now.target ≡ false) (c.of.ensures ∙ sym c.of-then-are_apart.ensures) (c.are_apart.ensures.apart c.if-are_apart.true))
+    (subst (λ (i : ℕ). has_target (code_agree c.args.snapshot.now i c.row-item.result) c.args.question.now.target ≡ false) (c.of.ensures ∙ sym c.of-then-are_apart.ensures) (c.are_apart.ensures.apart c.args.snapshot.now c.requires.target c.requires.lists.targets c.if-are_apart.true))
 
 pub returns-then-are_apart-clause-clear : goal.returns-then-are_apart-clause-clear
 returns-then-are_apart-clause-clear g c =
-    let m : c.key-slot.result < length c.reach.new.slots.items = (let r = c.in_ok-reach.ensures.room in omega (arith, c.reach.new.slots.ok.0)) in
+    let m : c.code-slot.result < length c.reach.new.slots.items = (let r = c.in_ok-reach.ensures.room in omega (arith, c.reach.new.slots.ok.0)) in
     clear c.args.snapshot.now c.args.question.now.by c.args.question.now.target c.args.question.now.from c.args.group.now c.loop-row.row-index c.loop-row.slots.items c.reach.new.slots.items c.loop-row.steps c.args.steps.now
-    c.key-slot.result c.row-item.result c.index-first.result.now c.loop-row-test.true c.loop-row.invariant c.reach.ensures.kept
-    (get_or_read c.args.group.now c.loop-row.row-index c.row-item.result c.loop-row-test.true c.row-item.is 0) c.key-slot.ensures.value
-    (get_or_read c.reach.new.slots.items c.key-slot.result c.index-first.result.now m c.index-first.ensures 0)
+    c.code-slot.result c.row-item.result c.index-first.result.now c.loop-row-test.true c.loop-row.invariant c.reach.ensures.kept
+    (get_or_read c.args.group.now c.loop-row.row-index c.row-item.result c.loop-row-test.true c.row-item.is 0) (key_read c.args.snapshot.now c.args.question.now.by c.args.lists.now.keys c.row-item.result c.code-slot.result c.requires.lists.keys c.code-slot.ensures)
+    (get_or_read c.reach.new.slots.items c.code-slot.result c.index-first.result.now m c.index-first.ensures 0)
 
 pub returns-then-are_apart-clause-steps : goal.returns-then-are_apart-clause-steps
 returns-then-are_apart-clause-steps g c =
-    let m : c.key-slot.result < length c.reach.new.slots.items = (let r = c.in_ok-reach.ensures.room in omega (arith, c.reach.new.slots.ok.0)) in
+    let m : c.code-slot.result < length c.reach.new.slots.items = (let r = c.in_ok-reach.ensures.room in omega (arith, c.reach.new.slots.ok.0)) in
     few c.args.snapshot.now c.args.question.now.by c.args.question.now.target c.args.question.now.from c.args.group.now c.loop-row.row-index c.loop-row.slots.items c.reach.new.slots.items c.loop-row.steps c.args.steps.now
-    c.key-slot.result c.row-item.result c.index-first.result.now c.loop-row-test.true c.loop-row.invariant c.reach.ensures.kept
-    (get_or_read c.args.group.now c.loop-row.row-index c.row-item.result c.loop-row-test.true c.row-item.is 0) c.key-slot.ensures.value
-    (get_or_read c.reach.new.slots.items c.key-slot.result c.index-first.result.now m c.index-first.ensures 0)
+    c.code-slot.result c.row-item.result c.index-first.result.now c.loop-row-test.true c.loop-row.invariant c.reach.ensures.kept
+    (get_or_read c.args.group.now c.loop-row.row-index c.row-item.result c.loop-row-test.true c.row-item.is 0) (key_read c.args.snapshot.now c.args.question.now.by c.args.lists.now.keys c.row-item.result c.code-slot.result c.requires.lists.keys c.code-slot.ensures)
+    (get_or_read c.reach.new.slots.items c.code-slot.result c.index-first.result.now m c.index-first.ensures 0)
     c.are_apart.new.steps c.are_apart.ensures.steps
 
 pub loop-row-preserved : goal.loop-row-preserved
 loop-row-preserved g c =
-    let m : c.key-slot.result < length c.reach.new.slots.items = (let r = c.in_ok-reach.ensures.room in omega (arith, c.reach.new.slots.ok.0)) in
+    let m : c.code-slot.result < length c.reach.new.slots.items = (let r = c.in_ok-reach.ensures.room in omega (arith, c.reach.new.slots.ok.0)) in
     let x = get_or_read c.args.group.now c.loop-row.row-index c.row-item.result c.loop-row-test.true c.row-item.is 0 in
-    let f = get_or_read c.reach.new.slots.items c.key-slot.result c.index-first.result.now m c.index-first.ensures 0 in
+    let f = get_or_read c.reach.new.slots.items c.code-slot.result c.index-first.result.now m c.index-first.ensures 0 in
     elim c.if-first-eq0.branch [
       | then-first-eq0 w ↦
           new c.args.snapshot.now c.args.question.now.by c.args.question.now.target c.args.question.now.from c.args.group.now c.loop-row.row-index c.loop-row.slots.items c.reach.new.slots.items c.loop-row.steps c.args.steps.now
-          c.key-slot.result c.row-item.result c.index-first.result.now c.loop-row-test.true c.loop-row.invariant c.reach.ensures.kept x c.key-slot.ensures.value f
+          c.code-slot.result c.row-item.result c.index-first.result.now c.loop-row-test.true c.loop-row.invariant c.reach.ensures.kept x (key_read c.args.snapshot.now c.args.question.now.by c.args.lists.now.keys c.row-item.result c.code-slot.result c.requires.lists.keys c.code-slot.ensures) f
           c.requires.positive m w.if-first-eq0.true c.if-first-eq0.slots.items w.number.result c.if-first-eq0.steps w.number.ensures.value (ap (λ (v : Vec ℕ Global). v.items) w.slots-is) w.steps-is
       | else-first-eq0+else-are_apart w ↦
           old c.args.snapshot.now c.args.question.now.by c.args.question.now.target c.args.question.now.from c.args.group.now c.loop-row.row-index c.loop-row.slots.items c.reach.new.slots.items c.loop-row.steps c.args.steps.now
-          c.key-slot.result c.row-item.result c.index-first.result.now c.loop-row-test.true c.loop-row.invariant c.reach.ensures.kept x c.key-slot.ensures.value f
-          w.if-first-eq0.false w.of.result w.are_apart.new.steps w.of.ensures (w.are_apart.ensures.alike w.if-are_apart.false) w.are_apart.ensures.steps
+          c.code-slot.result c.row-item.result c.index-first.result.now c.loop-row-test.true c.loop-row.invariant c.reach.ensures.kept x (key_read c.args.snapshot.now c.args.question.now.by c.args.lists.now.keys c.row-item.result c.code-slot.result c.requires.lists.keys c.code-slot.ensures) f
+          w.if-first-eq0.false w.of.result w.are_apart.new.steps w.of.ensures (w.are_apart.ensures.alike c.args.snapshot.now c.requires.target c.requires.lists.targets w.if-are_apart.false) w.are_apart.ensures.steps
           c.if-first-eq0.slots.items c.if-first-eq0.steps (ap (λ (v : Vec ℕ Global). v.items) w.slots-is) w.steps-is
     ]

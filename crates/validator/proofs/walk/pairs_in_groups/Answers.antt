@@ -1,5 +1,5 @@
 use Rattle.std.proofs.Common.{◌≡◌, ◌<◌, ◌+◌, ℕ, List, sym, ap, subst, arith, length}
-use Rattle.validator.proofs.Soundness.{Gathered, seen_few, seen_more, found_few, gathered_more, found, group_some, group_given, group_positive, group_rising}
+use Rattle.validator.proofs.Soundness.{Gathered, seen_few, seen_more, found_few, gathered_more, found, group_some, group_positive, group_rising}
 use Rattle.validator.proofs.walk.pairs_in_groups.Goals as goal
 
 below : (k end n : ℕ) → k < end → end ≡ n → k < n
@@ -8,11 +8,6 @@ below k end n l e = omega arith
 pub pair_of_group-requires-clause-some : goal.pair_of_group-requires-clause-some
 pair_of_group-requires-clause-some g c =
     group_some c.args.snapshot.now c.args.question.now.by c.args.question.now.target c.args.question.now.from c.args.partition.now c.requires.of c.loop-k.k c.group.result.now
-    (below _ _ _ c.loop-k-test.true c.group_count-k-end.ensures) c.group.ensures
-
-pub pair_of_group-requires-clause-given : goal.pair_of_group-requires-clause-given
-pair_of_group-requires-clause-given g c =
-    group_given c.args.snapshot.now c.args.question.now.by c.args.question.now.target c.args.question.now.from c.args.partition.now c.requires.of c.loop-k.k c.group.result.now
     (below _ _ _ c.loop-k-test.true c.group_count-k-end.ensures) c.group.ensures
 
 pub pair_of_group-requires-clause-positive : goal.pair_of_group-requires-clause-positive

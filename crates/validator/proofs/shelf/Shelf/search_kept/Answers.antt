@@ -1,6 +1,5 @@
 use Rattle.std.proofs.Common.{◌≡◌, ◌<◌, ◌^◌, ℕ, List, length, get_or, true, Option, ap, ap₂, sym, ◌∙◌, subst, arith}
 use Rattle.std.proofs.lemmas.List.{get_or_default}
-use Rattle.std.proofs.lemmas.Result.{IfOk-weaker}
 use Rattle.col_set.specs.declared.target.Target.{Target}
 use Rattle.col_set.specs.ColSet.{union, minus, subset}
 use Rattle.rel_base.specs.CodeTable.{CodeTable}
@@ -9,6 +8,7 @@ use Rattle.stripped_partition.specs.AnyOrder.{AreGroupsBy}
 use Rattle.validator.specs.declared.shelf.Kept.{Kept}
 use Rattle.validator.specs.Verdicts.{AreFound}
 use Rattle.validator.specs.Walk.{plus}
+use Rattle.validator.proofs.Answered.{IfOk-both}
 use Rattle.validator.proofs.KeptLists.{minus-below, union-minus, kept_of}
 use Rattle.validator.proofs.shelf.Shelf.search_kept.Goals as goal
 
@@ -38,11 +38,14 @@ pairs_in_groups-requires-clause-of g c =
       are = subst (AreGroupsBy c.args.snapshot.now c.index-2.result.now.columns) (sym c.deref.ensures) (kept_of c.args.snapshot.now c.refine_kept.new.kept.items c.in_ok-k.k c.index-2.result.now c.refine_kept.ensures.kept k c.index-2.ensures);
     }
 
-pub returns-clause-pairs : goal.returns-clause-pairs
-returns-clause-pairs g c =
+pub returns-clause-answer : goal.returns-clause-answer
+returns-clause-answer g c =
     let k : c.in_ok-k.k < length c.refine_kept.new.kept.items = (let l = c.in_ok-k.ensures.place in omega (arith, c.refine_kept.new.kept.ok.0)) in
-    IfOk-weaker c.pairs_in_groups.result _ _ (λ v f.
-    found c.args.snapshot.now c.args.asked.now.target c.args.asked.now.from c.args.asked.now.left c.index-2.result.now.columns c.in_ok-k.by c.deref.result.now v.items
-    (whole c.base.new.self.kept.items c.refine_kept.new.kept.items c.in_ok-base.base c.in_ok-k.k c.index.result.now c.index-2.result.now c.in_ok-k.by c.args.asked.now.left c.minus-rest.result c.index.ensures c.index-2.ensures k
-    c.in_ok-base.ensures.within c.minus-rest.ensures c.in_ok-k.ensures.columns)
-    (subst (AreGroupsBy c.args.snapshot.now c.index-2.result.now.columns) (sym c.deref.ensures) (kept_of c.args.snapshot.now c.refine_kept.new.kept.items c.in_ok-k.k c.index-2.result.now c.refine_kept.ensures.kept k c.index-2.ensures)) c.requires.asked.below f) c.pairs_in_groups.ensures.pairs
+    IfOk-both c.pairs_in_groups.result _ _ _ (λ v f few. record {
+      few = few;
+      found =
+          found c.args.snapshot.now c.args.asked.now.target c.args.asked.now.from c.args.asked.now.left c.index-2.result.now.columns c.in_ok-k.by c.deref.result.now v.items
+          (whole c.base.new.self.kept.items c.refine_kept.new.kept.items c.in_ok-base.base c.in_ok-k.k c.index.result.now c.index-2.result.now c.in_ok-k.by c.args.asked.now.left c.minus-rest.result c.index.ensures c.index-2.ensures k
+          c.in_ok-base.ensures.within c.minus-rest.ensures c.in_ok-k.ensures.columns)
+          (subst (AreGroupsBy c.args.snapshot.now c.index-2.result.now.columns) (sym c.deref.ensures) (kept_of c.args.snapshot.now c.refine_kept.new.kept.items c.in_ok-k.k c.index-2.result.now c.refine_kept.ensures.kept k c.index-2.ensures)) c.requires.asked.below f;
+    }) c.pairs_in_groups.ensures.pairs c.pairs_in_groups.ensures.few
