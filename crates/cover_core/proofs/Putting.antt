@@ -26,7 +26,7 @@ pub record PutSoFar (n : ℕ) (ws : List ℕ) (old : CandLists) (others cols : L
   pub width : length now.columns ≡ n
   pub few : length cols ≤ n
   pub left : (a : ℕ) → a < length cols → get_or cols a None ≡ get_or others a None
-  pub rows : cands_of now RowId ≡ renewed_list n ws old RowId
+  pub row_id : cands_of now RowId ≡ renewed_list n ws old RowId
   pub done : (a : ℕ) → length cols ≤ a → a < n → cands_of now (Col a) ≡ renewed_list n ws old (Col a)
   pub todo : (a : ℕ) → a < length cols → cands_of now (Col a) ≡ cands_of old (Col a)
 
@@ -36,7 +36,7 @@ put-first n ws old None others wide parts = record {
   width = wide;
   few = let e = parts.count in omega arith;
   left = λ a l. refl;
-  rows = sym parts.rows;
+  row_id = sym parts.row_id;
   done = λ a l m. absurd (let e = parts.count in omega arith);
   todo = λ a l. refl;
 }
@@ -44,7 +44,7 @@ put-first n ws old (Some part) others wide parts = record {
   width = wide;
   few = let e = parts.count in omega arith;
   left = λ a l. refl;
-  rows = parts.rows;
+  row_id = parts.row_id;
   done = λ a l m. absurd (let e = parts.count in omega arith);
   todo = λ a l. refl;
 }
