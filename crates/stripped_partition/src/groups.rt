@@ -36,6 +36,9 @@ impl Groups {
 // From here on a slot holds the place of the next row with its code, and below it how many rows have the code.
 const PLACED: u32 = 1 << 31;
 
+// Clearing so many slots one after another takes as long as clearing one by its code.
+const STRIDE: usize = 8;
+
 // Where a group begins: where the one before it ends.
 pub(crate) fn start_of(ends: &[u32], k: usize) -> usize
     requires { k ≤ length ends.now }
@@ -63,7 +66,7 @@ fn clear(slots: &mut [u32], codes: &[u32])
     requires { (c : ℕ) → c < length slots.old → count_by (λ d. d == c) codes.now ≡ 0 → slice_index slots.old c ≡ 0 }
     ensures { slots.new ≡ replicate (length slots.old) 0 }
 {
-    if slots.len() <= codes.len() {
+    if slots.len() / STRIDE <= codes.len() {
         slots.fill(0);
         return;
     }
