@@ -1,8 +1,7 @@
 // Verdicts on the candidates of a pass, by one thread or by several beside each other.
 ghost use Rattle.std.specs.Prelude.{◌≡◌, ◌<◌, ◌≤◌, ◌++◌, length, IfOk, OnOk};
 ghost use Rattle.std.specs.List.{All};
-ghost use Rattle.cover_core.specs.Evidences.{IsEvidence};
-ghost use Rattle.cover_core.specs.Judged.{IsAsked, IsHeld, AreVerdicts};
+ghost use Rattle.cover_core.specs.Judged.{IsAsked, AreVerdicts};
 ghost use Rattle.candidate_cover.specs.Cands.{width};
 ghost use Rattle.cover_core.specs.NewLists.{IsLeftBy};
 ghost use Rattle.validator.specs.Stores.{AreOf};
@@ -197,16 +196,16 @@ fn judged(
     ensures verdicts { IfOk result (AreVerdicts rows.now snapshot.now.value) }
     ensures store { store.new ≡ store.old }
 {
-    let mut held = Vec::new(alloc);
-    let mut found = Vec::new(alloc);
+    let mut all = Verdicts {
+        held: Vec::new(alloc),
+        found: Vec::new(alloc),
+    };
     for waiting in list {
-        if !is_told(found.as_slice(), waiting.target, waiting.cand.left) {
-            judge(
-                alloc, rows, snapshot, *waiting, store, &mut held, &mut found,
-            )?;
+        if !is_told(all.found.as_slice(), waiting.target, waiting.cand.left) {
+            judge(alloc, rows, snapshot, *waiting, store, &mut all)?;
         }
     }
-    Ok(Verdicts { held, found })
+    Ok(all)
 }
 
 // Validates a candidate: it is one more that holds, or there is more evidence.
@@ -216,15 +215,12 @@ fn judge(
     snapshot: &Arc<Snapshot>,
     waiting: Waiting,
     store: &mut Store,
-    held: &mut Vec<Waiting>,
-    found: &mut Vec<Evidence>,
+    all: &mut Verdicts,
 ) -> Result<(), AllocError>
     requires same { store.old ≡ snapshot.now.value }
     requires asked { IsAsked rows.now snapshot.now.value waiting }
-    requires held { All (IsHeld rows.now snapshot.now.value) held.old.items }
-    requires found { All (IsEvidence rows.now) found.old.items }
-    ensures held { OnOk result (All (IsHeld rows.now snapshot.now.value) held.new.items) }
-    ensures found { OnOk result (All (IsEvidence rows.now) found.new.items) }
+    requires verdicts { AreVerdicts rows.now snapshot.now.value all.old }
+    ensures verdicts { OnOk result (AreVerdicts rows.now snapshot.now.value all.new) }
     ensures store { store.new ≡ store.old }
 {
     let cand = waiting.cand;
@@ -237,10 +233,10 @@ fn judge(
     );
     let pairs = violations::<Brand>(store, alloc, &job, MOST_VIOLATIONS, Blank::new(1))?;
     if pairs.is_empty() {
-        held.push(waiting)?;
+        all.held.push(waiting)?;
         return Ok(());
     }
-    push_evidence(rows, pairs.as_slice(), found)
+    push_evidence(rows, pairs.as_slice(), &mut all.found)
 }
 
 // What `judged` does, by a thread for each store, where there are so many candidates at least. Each takes candidates that stand side

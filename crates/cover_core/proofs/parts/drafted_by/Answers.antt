@@ -1,4 +1,4 @@
-use Rattle.std.proofs.Common.{◌≡◌, ◌<◌, ◌∙◌, List, length, slice_index_or, sym, ap, subst}
+use Rattle.std.proofs.Common.{◌<◌, ◌∙◌, List, length, slice_index_or, sym, ap, subst}
 use Rattle.std.specs.List.{AllZip}
 use Rattle.candidate_cover.specs.Cands.{width}
 use Rattle.col_set.specs.Target.{IsColumnTarget}
