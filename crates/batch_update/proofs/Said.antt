@@ -1,15 +1,12 @@
 -- What records say is what is read.
-use Rattle.std.proofs.Common.{◌≡◌, ◌≤◌, ◌==◌, ◌⊎◌, inl, inr, ap, eq-eqb, eqb-true, refl, ℕ, Bool, true, false, cond, nat_lt, ◌||◌, [], ◌∷◌, length, Option, Some, None}
+use Rattle.std.proofs.Common.{◌≡◌, ◌==◌, ◌⊎◌, inl, inr, ap, eq-eqb, eqb-true, refl, ℕ, Bool, true, false, cond, [], ◌∷◌, length, Option, Some, None}
 use Rattle.std.specs.Bool.{⊤}
-use Rattle.std.specs.List.{All}
-use Rattle.std.proofs.lemmas.Bool.{true≢false, ltb-false, le-ltb}
-use Rattle.std.proofs.lemmas.List.Elements.{All-nil, All-cons, All-weaker}
-use Rattle.std.proofs.lemmas.List.Folds.{list_any_none}
 use Rattle.rel_base.specs.declared.limits.Limits.{Limits}
 use Rattle.rel_base.specs.declared.batch.Op.TheVariants as op
 use Rattle.rel_base.specs.declared.why.Why.TheVariants as why
 use Rattle.rel_base.specs.Cells.{Row}
 use Rattle.csv_load.specs.Refusal.{has_long_cell}
+use Rattle.csv_load.proofs.FirstRefused.{short_cells, no_long_cell}
 use Rattle.batch_update.specs.declared.entry.Entry.{Entry}
 use Rattle.batch_update.specs.declared.entry.Entry.TheVariants.{Operation, End, Report, Malformed}
 use Rattle.batch_update.specs.declared.kind.Kind.{Kind}
@@ -19,21 +16,6 @@ use Rattle.batch_update.specs.Kind.{marked}
 use Rattle.batch_update.specs.Laws.{EntriesAreSaid, IsMalformed, Says, WhatIsSaidIsRead}
 use Rattle.batch_update.specs.RowNumber.{row_number}
 use Rattle.batch_update.proofs.Decimals.{named, read_back}
-
--- ---- cells
-
-short_cells : (limit : ℕ) (cells : Row) → has_long_cell limit cells ≡ false → All (λ cell. length cell ≤ limit) cells
-short_cells limit [] e = All-nil (λ cell. length cell ≤ limit)
-short_cells limit (cell ∷ cells) e = by (nat_lt limit (length cell)) refl e (short_cells limit cells)
-  where
-    by : (long : Bool) → nat_lt limit (length cell) ≡ long → long || has_long_cell limit cells ≡ false
-        → (has_long_cell limit cells ≡ false → All (λ cell. length cell ≤ limit) cells) → All (λ cell. length cell ≤ limit) (cell ∷ cells)
-    by true is e others = absurd (true≢false e)
-    by false is e others = All-cons (λ cell. length cell ≤ limit) cell cells (ltb-false limit (length cell) is) (others e)
-
-no_long_cell : (limit : ℕ) (cells : Row) → All (λ cell. length cell ≤ limit) cells → has_long_cell limit cells ≡ false
-no_long_cell limit cells short =
-    list_any_none (λ cell. nat_lt limit (length cell)) cells (All-weaker (λ cell. length cell ≤ limit) (λ cell. nat_lt limit (length cell) ≡ false) (λ cell h. le-ltb limit (length cell) h) cells short)
 
 -- ---- a record is read as what it says, or as malformed
 

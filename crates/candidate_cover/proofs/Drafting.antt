@@ -15,8 +15,10 @@ use Rattle.col_set.specs.Lists.{Listed-append_left, list_any_at, list_any_which}
 use Rattle.col_set.proofs.Least.{refuted_inside}
 use Rattle.candidate_cover.specs.declared.filing.Known.{Known}
 use Rattle.candidate_cover.specs.Drafts.{Drafted, is_news}
-use Rattle.candidate_cover.proofs.Evidence.{refuted-push, choice_parts}
-use Rattle.candidate_cover.proofs.Growing.{outside_of, not_inside}
+use Rattle.col_set.proofs.Specialise.{refuted-push}
+use Rattle.candidate_cover.proofs.Evidence.{choice_parts}
+use Rattle.col_set.proofs.Outside.{outside_of}
+use Rattle.candidate_cover.proofs.Growing.{not_inside}
 use Rattle.candidate_cover.proofs.Exploring.{refuted_more, nothing_refuted}
 
 -- ---- for which targets a set is known

@@ -11,22 +11,10 @@ use Rattle.col_set.specs.Members.{has-all, has-without}
 use Rattle.col_set.specs.Subsets.{IsSubset-trans, has_within, below_from}
 use Rattle.col_set.proofs.Minimal.{minimal_below}
 use Rattle.col_set.proofs.Least.{Listed-least, IsLeast-listed}
+use Rattle.col_set.proofs.Specialise.{refuted-push}
 use Rattle.candidate_cover.specs.Growth.{choices, IsLeastAmong, ListsLeast}
 
 -- ---- one more agree set
-pub refuted-push : (ws : List ℕ) (z : ℕ) (t : Target) (x : ℕ) → refuted (ws ++ z ∷ []) t x ≡ (refuted ws t x || (subset x z && not (has_target z t)))
-unfolding refuted
-refuted-push [] z t x = or_false _
-  where
-    or_false : (b : Bool) → (b || false) ≡ b
-    or_false true = refl
-    or_false false = refl
-refuted-push (w ∷ ws) z t x = ap (λ b. (subset x w && not (has_target w t)) || b) (refuted-push ws z t x) ∙ or_assoc (subset x w && not (has_target w t)) _ _
-  where
-    or_assoc : (a b c : Bool) → (a || (b || c)) ≡ ((a || b) || c)
-    or_assoc true b c = refl
-    or_assoc false b c = refl
-
 module _ (ws : List ℕ) (t : Target) (z : ℕ) (apart : has_target z t ≡ false) where
   pub stands_before : (x : ℕ) → refuted (ws ++ z ∷ []) t x ≡ false → (refuted ws t x ≡ false) × (subset x z ≡ false)
   stands_before x e = let w = or_parts (refuted ws t x) (subset x z && not (has_target z t)) (sym (refuted-push ws z t x) ∙ e) in

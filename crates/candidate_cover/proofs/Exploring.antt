@@ -13,7 +13,8 @@ use Rattle.col_set.specs.Subsets.{IsSubset-trans, subset-true, true-subset, subs
 use Rattle.col_set.specs.Lists.{Listed, Listed-append_left, Listed-append_right, Listed-append_cases}
 use Rattle.col_set.proofs.Least.{refuted_inside}
 use Rattle.candidate_cover.specs.Growth.{IsLeastAmong, ListsLeast, IsExplored}
-use Rattle.candidate_cover.proofs.Evidence.{refuted-push, refuted-push_known}
+use Rattle.col_set.proofs.Specialise.{refuted-push}
+use Rattle.candidate_cover.proofs.Evidence.{refuted-push_known}
 
 -- ---- the least sets among some columns
 -- with no agree set the empty set is the one

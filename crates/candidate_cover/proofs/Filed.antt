@@ -16,7 +16,8 @@ use Rattle.col_set.specs.Evidence.{refuted}
 use Rattle.col_set.specs.Subsets.{subset-true}
 use Rattle.candidate_cover.specs.Growth.{having}
 use Rattle.candidate_cover.specs.Drafts.{AreFiled, AreAdded, IsFiling, lists_behind}
-use Rattle.candidate_cover.proofs.Evidence.{refuted-push, refuted-push_known}
+use Rattle.col_set.proofs.Specialise.{refuted-push}
+use Rattle.candidate_cover.proofs.Evidence.{refuted-push_known}
 use Rattle.candidate_cover.proofs.Exploring.{nothing_refuted}
 use Rattle.candidate_cover.proofs.Drafting.{refuted-push_inside}
 

@@ -15,28 +15,11 @@ use Rattle.col_set.specs.Subsets.{IsSubset-trans, IsSubset-antisymm, IsSubset-wi
 use Rattle.col_set.specs.AllSets.{Listed-upto, columns-set_of}
 use Rattle.col_set.specs.Lists.{Listed, Listed-filter, Listed-filter_parts, Listed-map, Listed-map_which, Listed-flat_map, Listed-flat_map_which, Listed-append_left, Listed-append_right, Listed-append_cases, list_any_at, list_any_which}
 use Rattle.col_set.proofs.Least.{stands_above}
+use Rattle.col_set.proofs.Outside.{Outside, outside_of}
 use Rattle.candidate_cover.specs.Growth.{IsLeastAmong, ListsLeast, one_outside, inside, outside, near, having, unblocked, grown_by, grown}
 use Rattle.candidate_cover.proofs.Evidence.{stands_before, stands_after, HasLeast, least_under}
 
 -- ---- columns outside a set
--- a column of y that z has not
-pub record Outside (y z : ℕ) : Type 0 where
-  pub column : ℕ
-  pub inside : has y column ≡ true
-  pub out : has z column ≡ false
-
-pub outside_of : (n y z : ℕ) → y < 2 ^ n → subset y z ≡ false → Outside y z
-outside_of n y z b e = elim (cases_Bool (list_any (λ k. has y k && not (has z k)) (upto n))) as (λ _. Outside y z) [
-  | inl some ↦ let w = list_any_which (λ k. has y k && not (has z k)) (upto n) some in let q = and_parts (has y w.0) (not (has z w.0)) w.2 in record { column = w.0; inside = q.0; out = not-true _ q.1 }
-  | inr none ↦ absurd (true≢false (sym (true-subset (record { each = λ k h. each k h none })) ∙ e))
-]
-  where
-    each : (k : ℕ) → has y k ≡ true → list_any (λ k. has y k && not (has z k)) (upto n) ≡ false → has z k ≡ true
-    each k h none = elim (cases_Bool (has z k)) as (λ _. has z k ≡ true) [
-      | inl g ↦ g
-      | inr g ↦ absurd (true≢false (sym (list_any_at (λ k. has y k && not (has z k)) k (upto n) (Listed-upto n k (has_within y n k b h)) (and_from _ _ h (not_from_false _ g))) ∙ none))
-    ]
-
 -- a set with a column that z has not lies not inside z
 pub not_inside : (x z k : ℕ) → has x k ≡ true → has z k ≡ false → subset x z ≡ false
 not_inside x z k h e = false_from_ne_true _ (λ s. true≢false (sym ((subset-true s).each k h) ∙ e))

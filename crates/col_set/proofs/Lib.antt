@@ -1,6 +1,7 @@
 pub mod Codes
 pub mod Minimal
 pub mod Least
+pub mod Outside
 pub mod Specialise
 pub mod Places
 pub mod More

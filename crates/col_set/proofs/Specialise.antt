@@ -10,12 +10,13 @@ use Rattle.col_set.specs.Minimal.{proper_subset, is_minimal}
 use Rattle.col_set.specs.Evidence.{refuted, least, extensions, replaced, minimal_of}
 use Rattle.col_set.specs.Members.{has-with}
 use Rattle.col_set.specs.Lists.{Listed, filter_same, Listed-filter, Listed-filter_parts, Listed-map, Listed-map_which, Listed-flat_map, Listed-flat_map_which, list_any_at, list_any_which}
-use Rattle.col_set.specs.Subsets.{IsSubset, IsSubset-trans, IsSubset-antisymm, IsSubset-with, with_subset, with_below, has-with_itself, has_within, subset-true, true-subset, subset_below, proper_from, proper_parts, same_test}
+use Rattle.col_set.specs.Subsets.{IsSubset, IsSubset-trans, IsSubset-antisymm, IsSubset-with, with_subset, with_below, has-with_itself, has_within, subset-true, subset_below, proper_from, proper_parts, same_test}
 use Rattle.col_set.specs.AllSets.{Listed-upto, Listed-upto_within}
 use Rattle.col_set.proofs.Least.{IsLeast, Listed-least, IsLeast-listed, stands_above, lacks_inside, least_below}
+use Rattle.col_set.proofs.Outside.{Outside, outside_of}
 
 -- ---- what one more agree set refutes
-refuted-push : (ws : List ℕ) (z : ℕ) (t : Target) (x : ℕ) → refuted (ws ++ z ∷ []) t x ≡ (refuted ws t x || (subset x z && not (has_target z t)))
+pub refuted-push : (ws : List ℕ) (z : ℕ) (t : Target) (x : ℕ) → refuted (ws ++ z ∷ []) t x ≡ (refuted ws t x || (subset x z && not (has_target z t)))
 unfolding refuted
 refuted-push [] z t x = or_false _
   where
@@ -72,24 +73,6 @@ module _ (n : ℕ) (ws : List ℕ) (t : Target) (z : ℕ) (apart : has_target z 
   outside : (x k : ℕ) → has z k ≡ false → subset (with x k) z ≡ false
   outside x k e = false_from_ne_true _ (λ h. true≢false (sym ((subset-true h).each k (has-with_itself x k)) ∙ e))
 
-  -- a column of y that z has not
-  pub record Outside (y : ℕ) : Type 0 where
-    pub column : ℕ
-    pub inside : has y column ≡ true
-    pub out : has z column ≡ false
-
-  outside_of : (y : ℕ) → y < 2 ^ n → subset y z ≡ false → Outside y
-  outside_of y b e = elim (cases_Bool (list_any (λ k. has y k && not (has z k)) (upto n))) as (λ _. Outside y) [
-    | inl some ↦ let w = list_any_which (λ k. has y k && not (has z k)) (upto n) some in let q = and_parts (has y w.0) (not (has z w.0)) w.2 in record { column = w.0; inside = q.0; out = not-true _ q.1 }
-    | inr none ↦ absurd (true≢false (sym (true-subset (record { each = λ k h. each k h none })) ∙ e))
-  ]
-    where
-      each : (k : ℕ) → has y k ≡ true → list_any (λ k. has y k && not (has z k)) (upto n) ≡ false → has z k ≡ true
-      each k h none = elim (cases_Bool (has z k)) as (λ _. has z k ≡ true) [
-        | inl g ↦ g
-        | inr g ↦ absurd (true≢false (sym (list_any_at (λ k. has y k && not (has z k)) k (upto n) (Listed-upto n k (has_within y n k b h)) (and_from _ _ h (not_from_false _ g))) ∙ none))
-      ]
-
   pub each_stands : (x : ℕ) → Listed x (replaced n t z (least n ws t)) → Stands x
   unfolding replaced extensions
   each_stands x h =
@@ -114,9 +97,9 @@ module _ (n : ℕ) (ws : List ℕ) (t : Target) (z : ℕ) (apart : has_target z 
   listed_of_least y l =
       let s = stands_before y l.stands in
       let m = least_below n ws t y l.below l.lacks s.0 in
-      Listed-flat_map (λ x. if subset x z then extensions n t z x else x ∷ []) m.0 y (least n ws t) (Listed-least n ws t m.0 m.1) (by m.0 m.1 m.2 (outside_of y l.below s.1) (subset m.0 z) refl)
+      Listed-flat_map (λ x. if subset x z then extensions n t z x else x ∷ []) m.0 y (least n ws t) (Listed-least n ws t m.0 m.1) (by m.0 m.1 m.2 (outside_of n y z l.below s.1) (subset m.0 z) refl)
     where
-      by : (x : ℕ) → IsLeast n ws t x → IsSubset x y → Outside y → (b : Bool) → subset x z ≡ b → Listed y (if b then extensions n t z x else x ∷ [])
+      by : (x : ℕ) → IsLeast n ws t x → IsSubset x y → Outside y z → (b : Bool) → subset x z ≡ b → Listed y (if b then extensions n t z x else x ∷ [])
       by x m i o true e =
           let same : with x o.column ≡ y = l.smallest (with x o.column) (with_subset o.column i o.inside) (stands_after (with x o.column) (stands_above ws t (IsSubset-with x o.column) m.stands) (outside x o.column o.out)) in
           subst (λ (w : ℕ). Listed w (map (with x) (filter (λ k. not (has z k) && not (is_target k t)) (upto n)))) same

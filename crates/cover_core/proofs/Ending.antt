@@ -21,6 +21,7 @@ use Rattle.rel_base.specs.Cells.{Row}
 use Rattle.rel_base.specs.RowState.{RowState, IsRowState, next}
 use Rattle.rel_base.specs.Batches.{is_live, is_full, inserted, deleted, applied, go_on, after_from}
 use Rattle.rel_base.proofs.States.{All-listed, live_numbered}
+use Rattle.rel_base.proofs.Results.{same_Ok, refused_or, passed_or}
 use Rattle.negative_cover.specs.declared.negative_cover.Witness.{Witness}
 use Rattle.cover_steps.specs.Core.{standing}
 use Rattle.negative_cover.specs.Witnesses.{sets_of, has_dead, live_of}
@@ -75,22 +76,10 @@ is_live-deleted r n i = by r.live
     by [] = refl
     by (x ∷ xs) = kept x xs (eqb n x) ∙ ap₂ (λ (a b : Bool). a || b) (at x (eqb n x) true refl) (by xs) ∙ join (eqb i x) (list_any (eqb i) xs) (not (eqb n i))
 
-module _ {X E : Type 0} where
-  same_Ok : {x y : X} → (let ok : X → Result X E = λ z. Ok z in ok x ≡ ok y) → x ≡ y
-  same_Ok e = cc
-
-  refused_or : (b : Bool) (w : E) (x y : X) → cond b (Err w) (Ok x) ≡ Ok y → x ≡ y
-  refused_or true w x y e = absurd (cc)
-  refused_or false w x y e = same_Ok e
-
-  passed_or : (b : Bool) (w : E) (r : Result X E) (y : X) → cond b r (Err w) ≡ Ok y → r ≡ Ok y
-  passed_or true w r y e = e
-  passed_or false w r y e = absurd (cc)
-
 -- one operation ends the row that it deletes or updates, of those that there were
 is_live-applied : (r s : RowState) (op : Op) (i : ℕ) → i < next r → applied r op ≡ Ok s → (is_live s i ≡ (is_live r i && not (is_among (ended (op ∷ [])) i))) × (i < next s)
 is_live-applied r s (Insert new) i l e =
-    let m : inserted r new ≡ s = refused_or (is_full r) Rows (inserted r new) s e in
+    let m : inserted r new ≡ s = (refused_or (is_full r) Rows (inserted r new) s e).1 in
     subst (λ (s : RowState). (is_live s i ≡ (is_live r i && not (is_among [] i))) × (i < next s)) m
     (is_live-inserted r new i l ∙ and_true (is_live r i), (let k = length-append r.given (new ∷ []) in omega arith))
   where
@@ -98,7 +87,7 @@ is_live-applied r s (Insert new) i l e =
     and_true true = refl
     and_true false = refl
 is_live-applied r s (Delete n) i l e =
-    let m : deleted r n ≡ s = same_Ok (passed_or (is_live r n) Missing (Ok (deleted r n)) s e) in
+    let m : deleted r n ≡ s = same_Ok (passed_or (is_live r n) Missing (Ok (deleted r n)) s e).1 in
     subst (λ (s : RowState). (is_live s i ≡ (is_live r i && not (is_among (n ∷ []) i))) × (i < next s)) m
     (is_live-deleted r n i ∙ ap (λ (b : Bool). is_live r i && not b) (or_false (eqb n i)), l)
   where
@@ -106,8 +95,8 @@ is_live-applied r s (Delete n) i l e =
     or_false true = refl
     or_false false = refl
 is_live-applied r s (Update n new) i l e =
-    let v = passed_or (is_live r n) Missing (cond (is_full r) (Err Rows) (Ok (inserted (deleted r n) new))) s e in
-    let m : inserted (deleted r n) new ≡ s = refused_or (is_full r) Rows (inserted (deleted r n) new) s v in
+    let v = (passed_or (is_live r n) Missing (cond (is_full r) (Err Rows) (Ok (inserted (deleted r n) new))) s e).1 in
+    let m : inserted (deleted r n) new ≡ s = (refused_or (is_full r) Rows (inserted (deleted r n) new) s v).1 in
     subst (λ (s : RowState). (is_live s i ≡ (is_live r i && not (is_among (n ∷ []) i))) × (i < next s)) m
     (is_live-inserted (deleted r n) new i l ∙ is_live-deleted r n i ∙ ap (λ (b : Bool). is_live r i && not b) (or_false (eqb n i)), (let k = length-append r.given (new ∷ []) in omega arith))
   where

@@ -35,7 +35,7 @@ first_refused-none rule n = refl
 
 -- ---- the rules of a record
 
-short_cells : (limit : ℕ) (cells : Row) → has_long_cell limit cells ≡ false → All (λ cell. length cell ≤ limit) cells
+pub short_cells : (limit : ℕ) (cells : Row) → has_long_cell limit cells ≡ false → All (λ cell. length cell ≤ limit) cells
 short_cells limit [] e = All-nil (λ cell. length cell ≤ limit)
 short_cells limit (cell ∷ cells) e = by (nat_lt limit (length cell)) refl e (short_cells limit cells)
   where
@@ -44,7 +44,7 @@ short_cells limit (cell ∷ cells) e = by (nat_lt limit (length cell)) refl e (s
     by true is e others = absurd (true≢false e)
     by false is e others = All-cons (λ cell. length cell ≤ limit) cell cells (ltb-false limit (length cell) is) (others e)
 
-no_long_cell : (limit : ℕ) (cells : Row) → All (λ cell. length cell ≤ limit) cells → has_long_cell limit cells ≡ false
+pub no_long_cell : (limit : ℕ) (cells : Row) → All (λ cell. length cell ≤ limit) cells → has_long_cell limit cells ≡ false
 no_long_cell limit cells short =
     list_any_none (λ cell. nat_lt limit (length cell)) cells (All-weaker (λ cell. length cell ≤ limit) (λ cell. nat_lt limit (length cell) ≡ false) (λ cell h. le-ltb limit (length cell) h) cells short)
 

@@ -1,5 +1,5 @@
 -- Row states that operations leave, and the operations of a batch one by one.
-use Rattle.std.proofs.Common.{inl, inr, ◌≡◌, ◌∙◌, ◌+◌, ◌-◌, ◌<◌, ◌≤◌, ℕ, zero, suc, arith, Bool, true, false, cond, refl, sym, ap, ap₂, subst, List, [], ◌∷◌, ◌++◌, length, get_or, take, drop, map, filter, drop-cons, Result, Ok, Err}
+use Rattle.std.proofs.Common.{inl, inr, ◌≡◌, ◌∙◌, ◌+◌, ◌-◌, ◌<◌, ◌≤◌, ℕ, zero, suc, arith, Bool, false, cond, refl, sym, ap, ap₂, subst, List, [], ◌∷◌, ◌++◌, length, get_or, take, drop, map, filter, drop-cons, Result, Ok, Err}
 use Rattle.std.specs.List.{All, range_with_len}
 use Rattle.std.proofs.lemmas.Bool.{le-ltb}
 use Rattle.std.proofs.lemmas.List.{take_more, map-append, get_or_default}
@@ -22,6 +22,7 @@ use Rattle.rel_base.specs.Batches.{is_live, is_full, inserted, deleted, applied,
 use Rattle.rel_base.specs.Batches.{IsAsWide}
 use Rattle.rel_base.proofs.States.{All-listed, All-from, increasing-Climbs, live_climbs, live_positive, live_numbered}
 use Rattle.rel_base.proofs.Valid.{Climbs-filter}
+use Rattle.rel_base.proofs.Results.{same_Ok, refused_or, passed_or}
 use Rattle.rel_base.proofs.Changes.{applied-follows}
 use Rattle.rel_base.proofs.Minima.{covers-least}
 use Rattle.col_set.specs.declared.target.Target.{Target}
@@ -97,23 +98,11 @@ rows_more r numbers i x l given is =
     ∙ sym (ap (map (row r)) (take_more numbers i 0 l) ∙ map-append (row r) (take i numbers) (get_or numbers i 0 ∷ []))
 
 -- ---- operations
-module _ {X E : Type 0} where
-  same_Ok : {x y : X} → (let ok : X → Result X E = λ z. Ok z in ok x ≡ ok y) → x ≡ y
-  same_Ok e = cc
-
-  refused_or : (b : Bool) (w : E) (x y : X) → cond b (Err w) (Ok x) ≡ Ok y → x ≡ y
-  refused_or true w x y e = absurd (cc)
-  refused_or false w x y e = same_Ok e
-
-  passed_or : (b : Bool) (w : E) (r : Result X E) (y : X) → cond b r (Err w) ≡ Ok y → r ≡ Ok y
-  passed_or true w r y e = e
-  passed_or false w r y e = absurd (cc)
-
 pub applied-names : (r s : RowState) (op : Op) → applied r op ≡ Ok s → s.names ≡ r.names
-applied-names r s (Insert new) e = ap (λ (t : RowState). t.names) (sym (refused_or (is_full r) Rows (inserted r new) s e))
-applied-names r s (Delete gone) e = ap (λ (t : RowState). t.names) (sym (same_Ok (passed_or (is_live r gone) Missing (Ok (deleted r gone)) s e)))
+applied-names r s (Insert new) e = ap (λ (t : RowState). t.names) (sym (refused_or (is_full r) Rows (inserted r new) s e).1)
+applied-names r s (Delete gone) e = ap (λ (t : RowState). t.names) (sym (same_Ok (passed_or (is_live r gone) Missing (Ok (deleted r gone)) s e).1))
 applied-names r s (Update gone new) e = ap (λ (t : RowState). t.names)
-    (sym (refused_or (is_full r) Rows (inserted (deleted r gone) new) s (passed_or (is_live r gone) Missing (cond (is_full r) (Err Rows) (Ok (inserted (deleted r gone) new))) s e)))
+    (sym (refused_or (is_full r) Rows (inserted (deleted r gone) new) s (passed_or (is_live r gone) Missing (cond (is_full r) (Err Rows) (Ok (inserted (deleted r gone) new))) s e).1).1)
 
 pub as_wide : (m n : ℕ) (op : Op) → m ≡ n → IsAsWide m op → IsAsWide n op
 as_wide m n op e h = subst (λ (k : ℕ). IsAsWide k op) e h

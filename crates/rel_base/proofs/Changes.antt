@@ -1,5 +1,5 @@
 -- What operations and batches do to a row state.
-use Rattle.std.proofs.Common.{inl, inr, ◌≡◌, ◌⊎◌, ℕ, suc, ◌+◌, ◌-◌, ◌<◌, Bool, true, false, cond, not, refl, sym, ap, ◌∙◌, subst, arith, List, [], ◌∷◌, ◌++◌, length, get_or, Result, Ok, Err}
+use Rattle.std.proofs.Common.{inl, inr, ◌≡◌, ◌⊎◌, ℕ, suc, ◌+◌, ◌-◌, ◌<◌, true, false, cond, not, refl, sym, ap, ◌∙◌, subst, arith, List, [], ◌∷◌, ◌++◌, length, get_or, Result, Ok, Err}
 use Rattle.std.specs.Prelude.{nat_eq}
 use Rattle.std.specs.List.{All, Contains}
 use Rattle.std.proofs.lemmas.Bool.{ltb-false}
@@ -20,19 +20,7 @@ use Rattle.rel_base.specs.Batches.{IsAsWide}
 use Rattle.rel_base.specs.Laws.{Follows}
 use Rattle.rel_base.proofs.States.{All-listed, All-from, increasing-Climbs, Climbs-append, live_climbs, live_positive, live_numbered}
 use Rattle.rel_base.proofs.Valid.{Climbs-filter, Listed-agree_sets, AgreeOf-agree_sets, determined-fewer}
-
--- ---- which way a test went
-module _ {X E : Type 0} where
-  same_Ok : {x y : X} → (let ok : X → Result X E = λ z. Ok z in ok x ≡ ok y) → x ≡ y
-  same_Ok e = cc
-
-  refused_or : (b : Bool) (w : E) (x y : X) → cond b (Err w) (Ok x) ≡ Ok y → (b ≡ false) × (x ≡ y)
-  refused_or true w x y e = absurd (cc)
-  refused_or false w x y e = (refl, same_Ok e)
-
-  passed_or : (b : Bool) (w : E) (r : Result X E) (y : X) → cond b r (Err w) ≡ Ok y → (b ≡ true) × (r ≡ Ok y)
-  passed_or true w r y e = (refl, e)
-  passed_or false w r y e = absurd (cc)
+use Rattle.rel_base.proofs.Results.{same_Ok, refused_or, passed_or}
 
 -- ---- one operation
 module _ (r : RowState) (is : IsRowState r) where

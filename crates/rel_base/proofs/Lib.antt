@@ -3,6 +3,7 @@ pub mod Agree
 pub mod Valid
 pub mod States
 pub mod Minima
+pub mod Results
 pub mod Changes
 pub mod Shown
 pub mod Examples

@@ -15,6 +15,7 @@ use Rattle.rel_base.specs.RowState.{RowState, IsRowState, next, width}
 use Rattle.rel_base.specs.Batches.{is_live, is_full, inserted, deleted, applied, go_on, after_from, after, is_insert, is_delete, insert_count, delete_count}
 use Rattle.rel_base.proofs.States.{All-listed, All-from, increasing-Climbs, Climbs-append}
 use Rattle.rel_base.proofs.Valid.{Climbs-filter}
+use Rattle.rel_base.proofs.Results.{same_Ok, refused_or, passed_or}
 use Rattle.rel_base.specs.Batches.{IsAsWide}
 use Rattle.row_log.specs.declared.applying.Applying.{Applying}
 use Rattle.row_log.specs.declared.applying.Halt.{Halt}
@@ -22,19 +23,6 @@ use Rattle.row_log.specs.declared.applying.Halt.TheVariants.{Failed, Starved}
 use Rattle.row_log.specs.Applying.{Answers, Outcome, IsNumbered, LeadsFrom, IsFrom, CameLast, IsEnded}
 use Rattle.row_log.specs.Halting.{answer_at}
 use Rattle.row_log.proofs.Changing.{is_live-Listed, length-without}
-
--- ---- which way a test went
-module _ {X E : Type 0} where
-  pub same_Ok : {x y : X} → (let ok : X → Result X E = λ z. Ok z in ok x ≡ ok y) → x ≡ y
-  same_Ok e = cc
-
-  refused_or : (b : Bool) (w : E) (x y : X) → cond b (Err w) (Ok x) ≡ Ok y → (b ≡ false) × (x ≡ y)
-  refused_or true w x y e = absurd (cc)
-  refused_or false w x y e = (refl, same_Ok e)
-
-  passed_or : (b : Bool) (w : E) (r : Result X E) (y : X) → cond b r (Err w) ≡ Ok y → (b ≡ true) × (r ≡ Ok y)
-  passed_or true w r y e = (refl, e)
-  passed_or false w r y e = absurd (cc)
 
 pub from_state : (r : RowState) → IsRowState r → IsNumbered r
 from_state r is = record { ascending = is.ascending; positive = is.positive; numbered = is.numbered }
