@@ -62,7 +62,11 @@ pub(crate) fn specialised(
         columns.push(part)?;
     }
     let old = Vec::with_capacity(alloc, columns.len().saturating_add(1))?;
-    Ok(Parts { row_id, columns, old })
+    Ok(Parts {
+        row_id,
+        columns,
+        old,
+    })
 }
 
 // Whether one of these agree sets lacks the target.
@@ -119,7 +123,11 @@ pub(crate) fn generalised<L: Ledger>(
         columns.push(part)?;
     }
     let old = Vec::with_capacity(alloc, columns.len().saturating_add(1))?;
-    Ok(Parts { row_id, columns, old })
+    Ok(Parts {
+        row_id,
+        columns,
+        old,
+    })
 }
 
 // What a draft leaves of a target's candidates, where it has changed them.
@@ -153,7 +161,11 @@ pub(crate) fn drafted(
         columns.push(part)?;
     }
     let old = Vec::with_capacity(alloc, columns.len().saturating_add(1))?;
-    Ok(Parts { row_id, columns, old })
+    Ok(Parts {
+        row_id,
+        columns,
+        old,
+    })
 }
 
 // The row's identity and so many columns.
@@ -211,7 +223,11 @@ pub(crate) fn drafted_by<R: Threads + Sync>(
     let mut columns = drafted_parts(rt, alloc, candidates, draft, &targets, workers)?;
     let row_id = columns.remove(0);
     let old = Vec::with_capacity(alloc, columns.len().saturating_add(1))?;
-    Ok(Parts { row_id, columns, old })
+    Ok(Parts {
+        row_id,
+        columns,
+        old,
+    })
 }
 
 // Puts the parts in place, and hands out the lists that stood there. It takes no memory.
