@@ -119,24 +119,24 @@ module _ (s : Core) (table : CodeTable) (book : IsBook s table) where
   pub mark-book : (job : JobParts) (new : CandLists) → Fits s.rows job → holds_in job.snapshot job.left job.target ≡ true → new ≡ with_list s.candidates job.target (marked (cands s job.target) job.left job.to) → IsBook (with_lists s new) table
   mark-book job new fits holds i = subst (λ (c : CandLists). IsBook (with_lists s c) table) (sym i) (record { sound = Sound-marked s job book.sound fits holds; table = book.table; shows = book.shows })
 
-  pub mark-step : (job : JobParts) (new : CandLists) (answer : Marking) → answer ≡ cond (is_listed (cands s job.target) job.left) Marked Dropped → new ≡ with_list s.candidates job.target (marked (cands s job.target) job.left job.to) → steps.Marking s job (reply_of_mark answer) (with_lists s new)
+  pub mark-step : (job : JobParts) (new : CandLists) (answer : Marking) → answer ≡ cond (is_listed (cands s job.target) job.left) Marked Dropped → new ≡ with_list s.candidates job.target (marked (cands s job.target) job.left job.to) → steps.IsMarking s job (reply_of_mark answer) (with_lists s new)
   mark-step job new answer a i = by (is_listed (cands s job.target) job.left) refl a
     where
-      by : (b : Bool) → is_listed (cands s job.target) job.left ≡ b → answer ≡ cond b Marked Dropped → steps.Marking s job (reply_of_mark answer) (with_lists s new)
-      by true e a = subst (λ (m : Marking). steps.Marking s job (reply_of_mark m) (with_lists s new)) (sym a) (e, ap (with_lists s) i)
-      by false e a = subst (λ (m : Marking). steps.Marking s job (reply_of_mark m) (with_lists s new)) (sym a)
+      by : (b : Bool) → is_listed (cands s job.target) job.left ≡ b → answer ≡ cond b Marked Dropped → steps.IsMarking s job (reply_of_mark answer) (with_lists s new)
+      by true e a = subst (λ (m : Marking). steps.IsMarking s job (reply_of_mark m) (with_lists s new)) (sym a) (e, ap (with_lists s) i)
+      by false e a = subst (λ (m : Marking). steps.IsMarking s job (reply_of_mark m) (with_lists s new)) (sym a)
           (e, ap (with_lists s) (i ∙ ap (with_list s.candidates job.target) (unlisted-marked (cands s job.target) job.left job.to e) ∙ with_list-itself s.candidates job.target))
 
   pub release-book : (job : JobParts) (new : CandLists) → IsColumnTarget (width s.rows) job.target → new ≡ with_list s.candidates job.target (holding (cands s job.target) job.left false) → IsBook (with_lists s new) table
   release-book job new l i = subst (λ (c : CandLists). IsBook (with_lists s c) table) (sym i) (record { sound = Sound-holding s job.target job.left false book.sound l; table = book.table; shows = book.shows })
 
   pub release-step : (job : JobParts) (new : CandLists) (listed : Bool) (answer : Release) → listed ≡ is_listed (cands s job.target) job.left → answer ≡ cond listed releases.Released releases.Dropped → new ≡ with_list s.candidates job.target (holding (cands s job.target) job.left false)
-      → steps.Releasing s job (reply_of_release answer) (with_lists s new)
+      → steps.IsReleasing s job (reply_of_release answer) (with_lists s new)
   release-step job new listed answer l a i = by listed l a
     where
-      by : (b : Bool) → b ≡ is_listed (cands s job.target) job.left → answer ≡ cond b releases.Released releases.Dropped → steps.Releasing s job (reply_of_release answer) (with_lists s new)
-      by true e a = subst (λ (m : Release). steps.Releasing s job (reply_of_release m) (with_lists s new)) (sym a) (sym e, ap (with_lists s) i)
-      by false e a = subst (λ (m : Release). steps.Releasing s job (reply_of_release m) (with_lists s new)) (sym a)
+      by : (b : Bool) → b ≡ is_listed (cands s job.target) job.left → answer ≡ cond b releases.Released releases.Dropped → steps.IsReleasing s job (reply_of_release answer) (with_lists s new)
+      by true e a = subst (λ (m : Release). steps.IsReleasing s job (reply_of_release m) (with_lists s new)) (sym a) (sym e, ap (with_lists s) i)
+      by false e a = subst (λ (m : Release). steps.IsReleasing s job (reply_of_release m) (with_lists s new)) (sym a)
           (sym e, ap (with_lists s) (i ∙ ap (with_list s.candidates job.target) (unlisted-holding (cands s job.target) job.left false (sym e)) ∙ with_list-itself s.candidates job.target))
 
   -- ---- refutations

@@ -56,7 +56,7 @@ module _ (s : Core) (sound : Sound s) (near : AreNear s) where
           subst (λ (n : ℕ). next s.rows - 1 ≤ n) (sym (ap (λ (c : Cand). c.upto) w.2 ∙ upto-held x held w.0)) (known t w.0 l w.1)
       at e i (inr same) = known e.0 e.1 i.target (subst (λ (cs : List Cand). Listed e.1 cs) same i.listed)
 
-  pub drawn-near : (draw : Draw) (new : Core) → steps.Drawing s (reply_of_draw draw) new → AreNear new
+  pub drawn-near : (draw : Draw) (new : Core) → steps.IsDrawing s (reply_of_draw draw) new → AreNear new
   drawn-near (draws.Job job) new d = subst AreNear (sym d.after) (still_near job.target job.left true (drawable-entry s job.target (record { left = job.left; upto = job.from; held = false }) d.first).target)
   drawn-near (draws.Busy t x) new d = subst AreNear (sym d.1) near
   drawn-near draws.Settled new d = subst AreNear (sym d.1) near

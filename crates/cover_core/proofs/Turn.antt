@@ -99,7 +99,7 @@ module _ (s now : Core) (table : CodeTable) (book : IsBook s table) (view : s �
   listed : is_listed (cands s t) c.left ≡ true
   listed = list_any_at _ c (cands s t) entry.listed (eq-eqb c.left c.left refl)
 
-  marked-so : (answer : Marking) (new : Core) → steps.Marking s (job_of s t c table) (reply_of_mark answer) new → Advances s new
+  marked-so : (answer : Marking) (new : Core) → steps.IsMarking s (job_of s t c table) (reply_of_mark answer) new → Advances s new
   marked-so Marked new step = record {
     rows = ap (λ (m : Core). m.rows) step.1;
     witnesses = ([], ap (λ (m : Core). m.witnesses) step.1 ∙ sym (append-nil s.witnesses));
@@ -107,8 +107,8 @@ module _ (s now : Core) (table : CodeTable) (book : IsBook s table) (view : s �
   }
   marked-so Dropped new step = absurd (true≢false (sym listed ∙ step.0))
 
-  pub turn-marked : (answer : Marking) (new : Core) → steps.Marking s job (reply_of_mark answer) new → Advances now new
-  turn-marked answer new step = subst (λ (m : Core). Advances m new) view (marked-so answer new (subst (λ (j : JobParts). steps.Marking s j (reply_of_mark answer) new) same step))
+  pub turn-marked : (answer : Marking) (new : Core) → steps.IsMarking s job (reply_of_mark answer) new → Advances now new
+  turn-marked answer new step = subst (λ (m : Core). Advances m new) view (marked-so answer new (subst (λ (j : JobParts). steps.IsMarking s j (reply_of_mark answer) new) same step))
 
   -- ---- a refutation
   module _ (i j : ℕ) (violation : IsViolation job.snapshot job.left job.target i j) where
@@ -121,7 +121,7 @@ module _ (s now : Core) (table : CodeTable) (book : IsBook s table) (view : s �
     refutes : refutes_some s (agree_of s.rows i j) ≡ true
     refutes = violation-refutes s book.sound t c entry table book.table book.shows i j here
 
-    booked-so : (answer : Refutation) (new : Core) → Sound new → steps.Refuting s i j (reply_of_refutation answer) new → Advances s new
+    booked-so : (answer : Refutation) (new : Core) → Sound new → steps.IsRefuting s i j (reply_of_refutation answer) new → Advances s new
     booked-so (Gone row) new sound (inl gone, stays) = absurd (true≢false (sym live.first ∙ gone.0))
     booked-so (Gone row) new sound (inr gone, stays) = absurd (true≢false (sym live.second ∙ gone.1))
     booked-so Known new sound step = absurd (true≢false (sym refutes ∙ step.1))
@@ -131,5 +131,5 @@ module _ (s now : Core) (table : CodeTable) (book : IsBook s table) (view : s �
       less = work-booked s new sound (ap (λ (m : Core). m.rows) step.2) (ap (λ (m : Core). length m.witnesses) step.2 ∙ length-append s.witnesses (witness_of s.rows i j ∷ []));
     }
 
-    pub turn-booked : (answer : Refutation) (new : Core) → Sound new → steps.Refuting s i j (reply_of_refutation answer) new → Advances now new
+    pub turn-booked : (answer : Refutation) (new : Core) → Sound new → steps.IsRefuting s i j (reply_of_refutation answer) new → Advances now new
     turn-booked answer new sound step = subst (λ (m : Core). Advances m new) view (booked-so answer new sound step)

@@ -43,13 +43,13 @@ module _ (s now : Core) (table : CodeTable) (book : IsBook s table) (view : s �
   -- ---- mark
   pub record MarkAll (job : JobParts) (answer : Marking) (new : CandLists) : Type 0 where
     pub kept : IsBook (Calls.with_lists s new) table
-    pub step : steps.Marking now job (reply_of_mark answer) (Calls.with_lists s new)
+    pub step : steps.IsMarking now job (reply_of_mark answer) (Calls.with_lists s new)
 
   pub mark-all : (job : JobParts) (t : Target) (x n : ℕ) (answer : Marking) (new : CandLists) → t ≡ job.target → x ≡ job.left → n ≡ job.to → Fits now.rows job → holds_in job.snapshot job.left job.target ≡ true
       → answer ≡ cond (is_listed (cands_of s.candidates t) x) Marked Dropped → new ≡ with_list s.candidates t (marked (cands_of s.candidates t) x n) → MarkAll job answer new
   mark-all job t x n answer new e f g fits holds a l = record {
     kept = Calls.mark-book s table book job new (subst (λ (s : Core). Fits s.rows job) (sym view) fits) holds list;
-    step = subst (λ (m : Core). steps.Marking m job (reply_of_mark answer) (Calls.with_lists s new)) view (Calls.mark-step s table book job new answer told list);
+    step = subst (λ (m : Core). steps.IsMarking m job (reply_of_mark answer) (Calls.with_lists s new)) view (Calls.mark-step s table book job new answer told list);
   }
     where
       list : new ≡ with_list s.candidates job.target (marked (cands s job.target) job.left job.to)
@@ -61,13 +61,13 @@ module _ (s now : Core) (table : CodeTable) (book : IsBook s table) (view : s �
   -- ---- release
   pub record ReleaseAll (job : JobParts) (answer : Release) (new : CandLists) : Type 0 where
     pub kept : IsBook (Calls.with_lists s new) table
-    pub step : steps.Releasing now job (reply_of_release answer) (Calls.with_lists s new)
+    pub step : steps.IsReleasing now job (reply_of_release answer) (Calls.with_lists s new)
 
   pub release-all : (job : JobParts) (t : Target) (x : ℕ) (listed : Bool) (answer : Release) (new : CandLists) → t ≡ job.target → x ≡ job.left → IsColumnTarget (width now.rows) job.target
       → listed ≡ is_listed (cands_of s.candidates t) x → answer ≡ cond listed releases.Released releases.Dropped → new ≡ with_list s.candidates t (holding (cands_of s.candidates t) x false) → ReleaseAll job answer new
   release-all job t x listed answer new e f l told a i = record {
     kept = Calls.release-book s table book job new (subst (λ (s : Core). IsColumnTarget (width s.rows) job.target) (sym view) l) list;
-    step = subst (λ (m : Core). steps.Releasing m job (reply_of_release answer) (Calls.with_lists s new)) view (Calls.release-step s table book job new listed answer is a list);
+    step = subst (λ (m : Core). steps.IsReleasing m job (reply_of_release answer) (Calls.with_lists s new)) view (Calls.release-step s table book job new listed answer is a list);
   }
     where
       list : new ≡ with_list s.candidates job.target (holding (cands s job.target) job.left false)

@@ -160,7 +160,7 @@ impl Book {
     /// after a batch it begins anew. It fails only where a job is to be made and no further owner of the snapshot can be counted,
     /// and then nothing changed.
     pub fn draw(&mut self) -> Result<Draw, AllocError>
-        ensures step { IfOk result (λ draw. steps.Drawing self.old (reply_of_draw draw) self.new) }
+        ensures step { IfOk result (λ draw. steps.IsDrawing self.old (reply_of_draw draw) self.new) }
         ensures refused { OnErr result (self.new ≡ self.old) }
         ensures wanted { OnErr result (first_drawable_of self.old ≢ None) }
         ensures drawn { IfOk result (λ draw. IfJob draw (Fits self.new.rows)) }
@@ -193,7 +193,7 @@ impl Book {
     /// these alone. It fails only where there are such targets, and then nothing changed: `Gone` and `Known` take no memory.
     pub fn refute(&mut self, i: RowNo, j: RowNo) -> Result<Refutation, AllocError>
         requires { i ≢ j }
-        ensures step { IfOk result (λ refutation. steps.Refuting self.old i j (reply_of_refutation refutation) self.new) }
+        ensures step { IfOk result (λ refutation. steps.IsRefuting self.old i j (reply_of_refutation refutation) self.new) }
         ensures refused { OnErr result (self.new ≡ self.old) }
         ensures wanted { OnErr result (steps.AreLive self.old.rows i j × (refutes_some self.old (agree_of self.old.rows i j) ≡ true)) }
         ensures rows { self.new.rows ≡ self.old.rows }
@@ -225,7 +225,7 @@ impl Book {
     pub fn mark(&mut self, job: &Job) -> Marking
         requires fits { Fits self.old.rows job.now }
         requires holds { holds_in job.now.snapshot job.now.left job.now.target ≡ true }
-        ensures step { steps.Marking self.old job.now (reply_of_mark result) self.new }
+        ensures step { steps.IsMarking self.old job.now (reply_of_mark result) self.new }
         ensures rows { self.new.rows ≡ self.old.rows }
         ensures fits { (other : JobParts) → Fits self.old.rows other → Fits self.new.rows other }
         ensures sound { Sound self.new }
@@ -244,7 +244,7 @@ impl Book {
     pub fn release(&mut self, job: &Job) -> Release
         requires target { IsColumnTarget (width self.old.rows) job.now.target }
         requires left { job.now.left < 2 ^ width self.old.rows }
-        ensures step { steps.Releasing self.old job.now (reply_of_release result) self.new }
+        ensures step { steps.IsReleasing self.old job.now (reply_of_release result) self.new }
         ensures rows { self.new.rows ≡ self.old.rows }
         ensures fits { (other : JobParts) → Fits self.old.rows other → Fits self.new.rows other }
         ensures sound { Sound self.new }
@@ -266,7 +266,7 @@ impl Book {
     /// set lacks the target what `generalise` takes. After a refusal or want of memory nothing changed.
     pub fn apply(&mut self, batch: &Batch) -> Applying
         requires { All (IsAsWide (width self.old.rows)) batch.now }
-        ensures step { steps.Applying self.old batch.now (reply_of_batch result) self.new }
+        ensures step { steps.IsApplying self.old batch.now (reply_of_batch result) self.new }
         ensures fits { (job : JobParts) → Fits self.old.rows job → Fits self.new.rows job }
         ensures sound { Sound self.new }
     {
@@ -304,7 +304,7 @@ impl Book {
     /// The covers of the rows, where each candidate is known to hold in all rows, or else the first candidate that is not, which
     /// takes a look alone. Want of memory comes only where the covers are to be made.
     pub fn settle(&self) -> Result<Settling, AllocError>
-        ensures step { IfOk result (λ settling. steps.Settling self.now (reply_of_settle settling) self.now) }
+        ensures step { IfOk result (λ settling. steps.IsSettling self.now (reply_of_settle settling) self.now) }
         ensures exact { IfOk result (λ settling. IfReady settling (λ found. found ≡ covers self.now.rows)) }
         ensures wanted { OnErr result (first_unfinished_of self.now ≡ None) }
     {

@@ -16,7 +16,7 @@ use Rattle.cover_steps.specs.declared.step.Reply.{Reply}
 use Rattle.cover_steps.specs.declared.step.Reply.TheVariants.{Job, Busy, Settled, Gone, Known, Booked, Marked, Dropped, Released, Applied, Refused, Ready, NotYet, NoMemory}
 use Rattle.cover_steps.specs.Core.{Core, witness_of}
 use Rattle.negative_cover.specs.Witnesses.{sets_of}
-use Rattle.cover_steps.specs.Steps.{Drawing, Refuting, Marking, Releasing, Applying, Settling, Step}
+use Rattle.cover_steps.specs.Steps.{IsDrawing, IsRefuting, IsMarking, IsReleasing, IsApplying, IsSettling, Step}
 use Rattle.cover_steps.specs.Sound.{Sound}
 use Rattle.cover_steps.specs.Histories.{rows_after_call, is_accepted, is_booked}
 use Rattle.cover_steps.specs.Laws.{different}
@@ -99,30 +99,30 @@ marks_alone s m new e rows ws = record {
 same : (s new : Core) → new ≡ s → Changes s new s.rows 0
 same s new e = marks_alone s s new e refl refl
 
-drawing_changes : (s new : Core) (reply : Reply) → Drawing s reply new → Changes s new s.rows 0
+drawing_changes : (s new : Core) (reply : Reply) → IsDrawing s reply new → Changes s new s.rows 0
 drawing_changes s new (Job job) d = marks_alone s _ new d.after refl refl
 drawing_changes s new (Busy t x) d = same s new d.1
 drawing_changes s new Settled d = same s new d.1
 drawing_changes s new NoMemory d = same s new d
 drawing_changes s new _ d = absurd d
 
-marking_changes : (s new : Core) (job : JobParts) (reply : Reply) → Marking s job reply new → Changes s new s.rows 0
+marking_changes : (s new : Core) (job : JobParts) (reply : Reply) → IsMarking s job reply new → Changes s new s.rows 0
 marking_changes s new job Marked d = marks_alone s _ new d.1 refl refl
 marking_changes s new job Dropped d = same s new d.1
 marking_changes s new job _ d = absurd d
 
-releasing_changes : (s new : Core) (job : JobParts) (reply : Reply) → Releasing s job reply new → Changes s new s.rows 0
+releasing_changes : (s new : Core) (job : JobParts) (reply : Reply) → IsReleasing s job reply new → Changes s new s.rows 0
 releasing_changes s new job Released d = marks_alone s _ new d.1 refl refl
 releasing_changes s new job Dropped d = same s new d.1
 releasing_changes s new job _ d = absurd d
 
-settling_changes : (s new : Core) (reply : Reply) → Settling s reply new → Changes s new s.rows 0
+settling_changes : (s new : Core) (reply : Reply) → IsSettling s reply new → Changes s new s.rows 0
 settling_changes s new (Ready covers) d = same s new d.2
 settling_changes s new (NotYet t x number) d = same s new d.1
 settling_changes s new NoMemory d = same s new d
 settling_changes s new _ d = absurd d
 
-refuting_changes : (s new : Core) (i j : ℕ) (reply : Reply) → Refuting s i j reply new → Changes s new s.rows (bookings reply)
+refuting_changes : (s new : Core) (i j : ℕ) (reply : Reply) → IsRefuting s i j reply new → Changes s new s.rows (bookings reply)
 refuting_changes s new i j (Gone row) d = same s new d.1
 refuting_changes s new i j Known d = same s new d.2
 refuting_changes s new i j Booked d = record {
@@ -133,13 +133,13 @@ refuting_changes s new i j NoMemory d = same s new d
 refuting_changes s new i j _ d = absurd d
 
 -- the rows after a batch
-pub applying_rows : (s new : Core) (ops : List Op) (reply : Reply) → Applying s ops reply new → new.rows ≡ rows_after_call s.rows (Apply ops) reply
+pub applying_rows : (s new : Core) (ops : List Op) (reply : Reply) → IsApplying s ops reply new → new.rows ≡ rows_after_call s.rows (Apply ops) reply
 applying_rows s new ops (Applied inserted deleted) d = ap (λ (m : Core). m.rows) d.state ∙ ap (kept_or_after s.rows) (sym d.after)
 applying_rows s new ops (Refused at why) d = ap (λ (m : Core). m.rows) d.1
 applying_rows s new ops NoMemory d = ap (λ (m : Core). m.rows) d
 applying_rows s new ops _ d = absurd d
 
-applying_changes : (s new : Core) (ops : List Op) (reply : Reply) → is_accepted reply ≡ false → Applying s ops reply new → Changes s new s.rows 0
+applying_changes : (s new : Core) (ops : List Op) (reply : Reply) → is_accepted reply ≡ false → IsApplying s ops reply new → Changes s new s.rows 0
 applying_changes s new ops (Applied inserted deleted) quiet d = absurd (true≢false quiet)
 applying_changes s new ops (Refused at why) quiet d = same s new d.1
 applying_changes s new ops NoMemory quiet d = same s new d
@@ -147,23 +147,23 @@ applying_changes s new ops _ quiet d = absurd d
 
 -- a reply that no refutation has is not that a witness was booked
 module _ (s new : Core) where
-  drawing_none : (reply : Reply) → Drawing s reply new → bookings reply ≡ 0
+  drawing_none : (reply : Reply) → IsDrawing s reply new → bookings reply ≡ 0
   drawing_none Booked d = absurd d
   drawing_none _ d = refl
 
-  marking_none : (job : JobParts) (reply : Reply) → Marking s job reply new → bookings reply ≡ 0
+  marking_none : (job : JobParts) (reply : Reply) → IsMarking s job reply new → bookings reply ≡ 0
   marking_none job Booked d = absurd d
   marking_none job _ d = refl
 
-  releasing_none : (job : JobParts) (reply : Reply) → Releasing s job reply new → bookings reply ≡ 0
+  releasing_none : (job : JobParts) (reply : Reply) → IsReleasing s job reply new → bookings reply ≡ 0
   releasing_none job Booked d = absurd d
   releasing_none job _ d = refl
 
-  applying_none : (ops : List Op) (reply : Reply) → Applying s ops reply new → bookings reply ≡ 0
+  applying_none : (ops : List Op) (reply : Reply) → IsApplying s ops reply new → bookings reply ≡ 0
   applying_none ops Booked d = absurd d
   applying_none ops _ d = refl
 
-  settling_none : (reply : Reply) → Settling s reply new → bookings reply ≡ 0
+  settling_none : (reply : Reply) → IsSettling s reply new → bookings reply ≡ 0
   settling_none Booked d = absurd d
   settling_none _ d = refl
 

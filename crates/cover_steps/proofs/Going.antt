@@ -23,7 +23,7 @@ use Rattle.cover_steps.specs.declared.step.Call.TheVariants.{Draw, Refute, Mark,
 use Rattle.cover_steps.specs.declared.step.Reply.{Reply}
 use Rattle.cover_steps.specs.declared.step.Reply.TheVariants.{Job, Busy, Settled, Gone, Known, Booked, Marked, Dropped, Released, Applied, Refused, Ready, NotYet, NoMemory}
 use Rattle.cover_steps.specs.Core.{Core, cands, entries, is_unfinished, first_unfinished, first_drawable, refutes_some, with_cands, witness_of}
-use Rattle.cover_steps.specs.Steps.{Drawing, Refuting, Marking, Releasing, Applying, Settling, Step}
+use Rattle.cover_steps.specs.Steps.{IsDrawing, IsRefuting, IsMarking, IsReleasing, IsApplying, IsSettling, Step}
 use Rattle.cover_steps.specs.Sound.{IsWitness, Sound, Fits, SoundWith}
 use Rattle.cover_steps.specs.Histories.{Entry, May, Runs, drawn, all_drawn, rows_after, is_accepted, IsQuiet}
 use Rattle.cover_steps.specs.Laws.{RunsGoOn, RowsAreAfter, Stands, booking, WitnessesStay}
@@ -52,7 +52,7 @@ runs-go_on jobs s new = record {
 }
 
 -- ---- rows
-applying_follows : (s new : Core) (ops : List Op) (reply : Reply) → IsRowState s.rows → All (IsAsWide (width s.rows)) ops → Applying s ops reply new → Follows s.rows new.rows
+applying_follows : (s new : Core) (ops : List Op) (reply : Reply) → IsRowState s.rows → All (IsAsWide (width s.rows)) ops → IsApplying s ops reply new → Follows s.rows new.rows
 applying_follows s new ops (Applied inserted deleted) is wide d = subst (λ (m : Core). Follows s.rows m.rows) (sym d.state) (after-follows 1 s.rows d.rows ops is wide d.after).1
 applying_follows s new ops (Refused at why) is wide d = subst (λ (m : Core). Follows s.rows m.rows) (sym d.1) (Follows-refl s.rows)
 applying_follows s new ops NoMemory is wide d = subst (λ (m : Core). Follows s.rows m.rows) (sym d) (Follows-refl s.rows)
@@ -133,21 +133,21 @@ module _ (s : Core) (sound : Sound s) (none : first_unfinished s ≡ None) where
       let w = drawable-entry s t c e in
       true≢false (sym (and_parts _ _ (drawable-test s t c e)).0 ∙ all_finished s t c none w.target w.listed)
 
-  drawing_finished : (new : Core) (reply : Reply) → Drawing s reply new → first_unfinished new ≡ None
+  drawing_finished : (new : Core) (reply : Reply) → IsDrawing s reply new → first_unfinished new ≡ None
   drawing_finished new (Job job) d = absurd (no_draw job.target _ d.first)
   drawing_finished new (Busy t x) d = ap first_unfinished d.1 ∙ none
   drawing_finished new Settled d = ap first_unfinished d.1 ∙ none
   drawing_finished new NoMemory d = ap first_unfinished d ∙ none
   drawing_finished new _ d = absurd d
 
-  refuting_finished : (new : Core) (i j : ℕ) (reply : Reply) → i ≢ j → Refuting s i j reply new → first_unfinished new ≡ None
+  refuting_finished : (new : Core) (i j : ℕ) (reply : Reply) → i ≢ j → IsRefuting s i j reply new → first_unfinished new ≡ None
   refuting_finished new i j (Gone row) ne d = ap first_unfinished d.1 ∙ none
   refuting_finished new i j Known ne d = ap first_unfinished d.2 ∙ none
   refuting_finished new i j Booked ne d = absurd (none_refuted i j ne d.0.first d.0.second d.1)
   refuting_finished new i j NoMemory ne d = ap first_unfinished d ∙ none
   refuting_finished new i j _ ne d = absurd d
 
-  marking_finished : (new : Core) (job : JobParts) (reply : Reply) → IsColumnTarget (width s.rows) job.target → Marking s job reply new → first_unfinished new ≡ None
+  marking_finished : (new : Core) (job : JobParts) (reply : Reply) → IsColumnTarget (width s.rows) job.target → IsMarking s job reply new → first_unfinished new ≡ None
   marking_finished new job Marked l d = ap first_unfinished d.1 ∙ finished-remarked job.target l (λ c. cond (eqb c.left job.left) (record { left = job.left; upto = max c.upto job.to; held = false }) c) (λ c. more c (eqb c.left job.left))
     where
       more : (c : Cand) (b : Bool) → c.upto ≤ (cond b (record { left = job.left; upto = max c.upto job.to; held = false }) c).upto
@@ -156,7 +156,7 @@ module _ (s : Core) (sound : Sound s) (none : first_unfinished s ≡ None) where
   marking_finished new job Dropped l d = ap first_unfinished d.1 ∙ none
   marking_finished new job _ l d = absurd d
 
-  releasing_finished : (new : Core) (job : JobParts) (reply : Reply) → IsColumnTarget (width s.rows) job.target → Releasing s job reply new → first_unfinished new ≡ None
+  releasing_finished : (new : Core) (job : JobParts) (reply : Reply) → IsColumnTarget (width s.rows) job.target → IsReleasing s job reply new → first_unfinished new ≡ None
   releasing_finished new job Released l d = ap first_unfinished d.1 ∙ finished-remarked job.target l (λ c. cond (eqb c.left job.left) (record { left = job.left; upto = c.upto; held = false }) c) (λ c. more c (eqb c.left job.left))
     where
       more : (c : Cand) (b : Bool) → c.upto ≤ (cond b (record { left = job.left; upto = c.upto; held = false }) c).upto
@@ -165,13 +165,13 @@ module _ (s : Core) (sound : Sound s) (none : first_unfinished s ≡ None) where
   releasing_finished new job Dropped l d = ap first_unfinished d.1 ∙ none
   releasing_finished new job _ l d = absurd d
 
-  applying_finished : (new : Core) (ops : List Op) (reply : Reply) → is_accepted reply ≡ false → Applying s ops reply new → first_unfinished new ≡ None
+  applying_finished : (new : Core) (ops : List Op) (reply : Reply) → is_accepted reply ≡ false → IsApplying s ops reply new → first_unfinished new ≡ None
   applying_finished new ops (Applied inserted deleted) quiet d = absurd (true≢false quiet)
   applying_finished new ops (Refused at why) quiet d = ap first_unfinished d.1 ∙ none
   applying_finished new ops NoMemory quiet d = ap first_unfinished d ∙ none
   applying_finished new ops _ quiet d = absurd d
 
-  settling_finished : (new : Core) (reply : Reply) → Settling s reply new → first_unfinished new ≡ None
+  settling_finished : (new : Core) (reply : Reply) → IsSettling s reply new → first_unfinished new ≡ None
   settling_finished new (Ready covers) d = ap first_unfinished d.2 ∙ none
   settling_finished new (NotYet t x number) d = ap first_unfinished d.1 ∙ none
   settling_finished new NoMemory d = ap first_unfinished d ∙ none
@@ -197,31 +197,31 @@ is_live-Contains : (r : RowState) (i : ℕ) → Contains r.live i → is_live r 
 is_live-Contains r i h = list_any_at (eqb i) i r.live (Listed-contained i r.live h) (eq-eqb i i refl)
 
 module _ (s : Core) (w : Witness) (listed : Listed w s.witnesses) where
-  witness-drawing : (new : Core) (reply : Reply) → Drawing s reply new → Listed w new.witnesses
+  witness-drawing : (new : Core) (reply : Reply) → IsDrawing s reply new → Listed w new.witnesses
   witness-drawing new (Job job) d = subst (λ (m : Core). Listed w m.witnesses) (sym d.after) listed
   witness-drawing new (Busy t x) d = subst (λ (m : Core). Listed w m.witnesses) (sym d.1) listed
   witness-drawing new Settled d = subst (λ (m : Core). Listed w m.witnesses) (sym d.1) listed
   witness-drawing new NoMemory d = subst (λ (m : Core). Listed w m.witnesses) (sym d) listed
   witness-drawing new _ d = absurd d
 
-  witness-refuting : (new : Core) (i j : ℕ) (reply : Reply) → Refuting s i j reply new → Listed w new.witnesses
+  witness-refuting : (new : Core) (i j : ℕ) (reply : Reply) → IsRefuting s i j reply new → Listed w new.witnesses
   witness-refuting new i j (Gone row) d = subst (λ (m : Core). Listed w m.witnesses) (sym d.1) listed
   witness-refuting new i j Known d = subst (λ (m : Core). Listed w m.witnesses) (sym d.2) listed
   witness-refuting new i j Booked d = subst (λ (m : Core). Listed w m.witnesses) (sym d.2) (Listed-append_left w s.witnesses (witness_of s.rows i j ∷ []) listed)
   witness-refuting new i j NoMemory d = subst (λ (m : Core). Listed w m.witnesses) (sym d) listed
   witness-refuting new i j _ d = absurd d
 
-  witness-marking : (new : Core) (job : JobParts) (reply : Reply) → Marking s job reply new → Listed w new.witnesses
+  witness-marking : (new : Core) (job : JobParts) (reply : Reply) → IsMarking s job reply new → Listed w new.witnesses
   witness-marking new job Marked d = subst (λ (m : Core). Listed w m.witnesses) (sym d.1) listed
   witness-marking new job Dropped d = subst (λ (m : Core). Listed w m.witnesses) (sym d.1) listed
   witness-marking new job _ d = absurd d
 
-  witness-releasing : (new : Core) (job : JobParts) (reply : Reply) → Releasing s job reply new → Listed w new.witnesses
+  witness-releasing : (new : Core) (job : JobParts) (reply : Reply) → IsReleasing s job reply new → Listed w new.witnesses
   witness-releasing new job Released d = subst (λ (m : Core). Listed w m.witnesses) (sym d.1) listed
   witness-releasing new job Dropped d = subst (λ (m : Core). Listed w m.witnesses) (sym d.1) listed
   witness-releasing new job _ d = absurd d
 
-  witness-applying : (new : Core) (ops : List Op) (reply : Reply) → Stands new.rows w → Applying s ops reply new → Listed w new.witnesses
+  witness-applying : (new : Core) (ops : List Op) (reply : Reply) → Stands new.rows w → IsApplying s ops reply new → Listed w new.witnesses
   witness-applying new ops (Applied inserted deleted) stands d =
       let here : Stands d.rows w = subst (λ (m : Core). Stands m.rows w) d.state stands in
       subst (λ (m : Core). Listed w m.witnesses) (sym d.state)
@@ -230,7 +230,7 @@ module _ (s : Core) (w : Witness) (listed : Listed w s.witnesses) where
   witness-applying new ops NoMemory stands d = subst (λ (m : Core). Listed w m.witnesses) (sym d) listed
   witness-applying new ops _ stands d = absurd d
 
-  witness-settling : (new : Core) (reply : Reply) → Settling s reply new → Listed w new.witnesses
+  witness-settling : (new : Core) (reply : Reply) → IsSettling s reply new → Listed w new.witnesses
   witness-settling new (Ready covers) d = subst (λ (m : Core). Listed w m.witnesses) (sym d.2) listed
   witness-settling new (NotYet t x number) d = subst (λ (m : Core). Listed w m.witnesses) (sym d.1) listed
   witness-settling new NoMemory d = subst (λ (m : Core). Listed w m.witnesses) (sym d) listed

@@ -36,7 +36,7 @@ use Rattle.candidate_cover.specs.Cands.{cands_of, with_list, lefts, fresh, kept_
 use Rattle.cover_steps.specs.Core.{one_each}
 use Rattle.cover_steps.specs.Core.{Core, opened_core, cands, refutes_some, with_cands, renewed, renewed_list, witness_of, booked, standing, with_rows}
 use Rattle.negative_cover.specs.Witnesses.{sets_of}
-use Rattle.cover_steps.specs.Steps.{Drawing, Refuting, AreLive, Marking, Releasing, Applying, Settling, Step}
+use Rattle.cover_steps.specs.Steps.{IsDrawing, IsRefuting, AreLive, IsMarking, IsReleasing, IsApplying, IsSettling, Step}
 use Rattle.cover_steps.specs.Sound.{IsWitness, IsMarked, Sound, Fits, SoundWith}
 use Rattle.cover_steps.specs.Histories.{May, drawn}
 use Rattle.cover_steps.proofs.Lists.{AllPairs-Pairwise, Pairwise-AllPairs, Pairwise-append_one, map_map, map_same_listed}
@@ -241,7 +241,7 @@ Sound-marked s job sound fits e = Sound-remarked s sound job.target fits.target 
     }
     by c false i m = m
 
-drawing_keeps : (jobs : List JobParts) (s new : Core) (reply : Reply) → SoundWith s jobs → Drawing s reply new → SoundWith new (jobs ++ drawn reply)
+drawing_keeps : (jobs : List JobParts) (s new : Core) (reply : Reply) → SoundWith s jobs → IsDrawing s reply new → SoundWith new (jobs ++ drawn reply)
 drawing_keeps jobs s new (Job job) h d = subst (λ (m : Core). SoundWith m (jobs ++ job ∷ [])) (sym d.after) (record {
   sound = Sound-holding s job.target job.left true h.sound entry.target;
   fits = All-from (Fits s.rows) (jobs ++ job ∷ []) (λ k g. by k (Listed-append_cases k jobs (job ∷ []) g));
@@ -263,26 +263,26 @@ drawing_keeps jobs s new Settled h d = stays s new jobs h d.1
 drawing_keeps jobs s new NoMemory h d = stays s new jobs h d
 drawing_keeps jobs s new _ h d = absurd d
 
-refuting_keeps : (jobs : List JobParts) (s new : Core) (i j : ℕ) (reply : Reply) → SoundWith s jobs → i ≢ j → Refuting s i j reply new → SoundWith new (jobs ++ drawn reply)
+refuting_keeps : (jobs : List JobParts) (s new : Core) (i j : ℕ) (reply : Reply) → SoundWith s jobs → i ≢ j → IsRefuting s i j reply new → SoundWith new (jobs ++ drawn reply)
 refuting_keeps jobs s new i j (Gone row) h ne d = stays s new jobs h d.1
 refuting_keeps jobs s new i j Known h ne d = stays s new jobs h d.2
 refuting_keeps jobs s new i j Booked h ne d = same_rows s (booked s i j) new jobs h.fits (Sound-booked s i j h.sound ne d.0 d.1) refl d.2
 refuting_keeps jobs s new i j NoMemory h ne d = stays s new jobs h d
 refuting_keeps jobs s new i j _ h ne d = absurd d
 
-marking_keeps : (jobs : List JobParts) (s new : Core) (job : JobParts) (reply : Reply) → SoundWith s jobs → Contains jobs job → holds_in job.snapshot job.left job.target ≡ true → Marking s job reply new → SoundWith new (jobs ++ drawn reply)
+marking_keeps : (jobs : List JobParts) (s new : Core) (job : JobParts) (reply : Reply) → SoundWith s jobs → Contains jobs job → holds_in job.snapshot job.left job.target ≡ true → IsMarking s job reply new → SoundWith new (jobs ++ drawn reply)
 marking_keeps jobs s new job Marked h was e d =
     same_rows s (with_cands s job.target (marked (cands s job.target) job.left job.to)) new jobs h.fits (Sound-marked s job h.sound (All-listed (Fits s.rows) job jobs h.fits (Listed-contained job jobs was)) e) refl d.1
 marking_keeps jobs s new job Dropped h was e d = stays s new jobs h d.1
 marking_keeps jobs s new job _ h was e d = absurd d
 
-releasing_keeps : (jobs : List JobParts) (s new : Core) (job : JobParts) (reply : Reply) → SoundWith s jobs → IsColumnTarget (width s.rows) job.target → Releasing s job reply new → SoundWith new (jobs ++ drawn reply)
+releasing_keeps : (jobs : List JobParts) (s new : Core) (job : JobParts) (reply : Reply) → SoundWith s jobs → IsColumnTarget (width s.rows) job.target → IsReleasing s job reply new → SoundWith new (jobs ++ drawn reply)
 releasing_keeps jobs s new job Released h l d =
     same_rows s (with_cands s job.target (holding (cands s job.target) job.left false)) new jobs h.fits (Sound-holding s job.target job.left false h.sound l) refl d.1
 releasing_keeps jobs s new job Dropped h l d = stays s new jobs h d.1
 releasing_keeps jobs s new job _ h l d = absurd d
 
-applying_keeps : (jobs : List JobParts) (s new : Core) (ops : List Op) (reply : Reply) → SoundWith s jobs → All (IsAsWide (width s.rows)) ops → Applying s ops reply new → SoundWith new (jobs ++ drawn reply)
+applying_keeps : (jobs : List JobParts) (s new : Core) (ops : List Op) (reply : Reply) → SoundWith s jobs → All (IsAsWide (width s.rows)) ops → IsApplying s ops reply new → SoundWith new (jobs ++ drawn reply)
 applying_keeps jobs s new ops (Applied inserted deleted) h wide d =
     let f = after-follows 1 s.rows d.rows ops h.sound.rows wide d.after in
     subst (λ (m : Core). SoundWith m (jobs ++ [])) (sym d.state) (subst (SoundWith (with_rows s d.rows)) (sym (append-nil jobs)) (record {
@@ -293,7 +293,7 @@ applying_keeps jobs s new ops (Refused at why) h wide d = stays s new jobs h d.1
 applying_keeps jobs s new ops NoMemory h wide d = stays s new jobs h d
 applying_keeps jobs s new ops _ h wide d = absurd d
 
-settling_keeps : (jobs : List JobParts) (s new : Core) (reply : Reply) → SoundWith s jobs → Settling s reply new → SoundWith new (jobs ++ drawn reply)
+settling_keeps : (jobs : List JobParts) (s new : Core) (reply : Reply) → SoundWith s jobs → IsSettling s reply new → SoundWith new (jobs ++ drawn reply)
 settling_keeps jobs s new (Ready covers) h d = stays s new jobs h d.2
 settling_keeps jobs s new (NotYet t x number) h d = stays s new jobs h d.1
 settling_keeps jobs s new NoMemory h d = stays s new jobs h d

@@ -21,7 +21,7 @@ use Rattle.cover_steps.specs.declared.step.Call.TheVariants.{Draw, Refute, Mark,
 use Rattle.cover_steps.specs.declared.step.Reply.{Reply}
 use Rattle.cover_steps.specs.declared.step.Reply.TheVariants.{Job}
 use Rattle.cover_steps.specs.Core.{Core}
-use Rattle.cover_steps.specs.Steps.{Drawing, Refuting, Marking, Releasing, Applying, Settling, Step}
+use Rattle.cover_steps.specs.Steps.{IsDrawing, IsRefuting, IsMarking, IsReleasing, IsApplying, IsSettling, Step}
 use Rattle.cover_steps.specs.Sound.{SoundWith}
 use Rattle.cover_steps.specs.Histories.{Entry, Runs, drawn, all_drawn}
 use Rattle.cover_steps.specs.Laws.{live_count, JobsOfTheSameRows}
@@ -74,28 +74,28 @@ live-counted job r is shows = ap length (live_numbers-shown job.snapshot r is sh
 
 -- a draw's job shows the rows
 module _ (s new : Core) (job : JobParts) where
-  drawing_shows : (reply : Reply) → Drawing s reply new → Listed job (drawn reply) → Shows job.snapshot s.rows × (job.to ≡ next s.rows)
+  drawing_shows : (reply : Reply) → IsDrawing s reply new → Listed job (drawn reply) → Shows job.snapshot s.rows × (job.to ≡ next s.rows)
   drawing_shows (Job other) d (inl e) = (subst (λ (j : JobParts). Shows j.snapshot s.rows) (sym e) d.shows, ap (λ (j : JobParts). j.to) e ∙ d.to)
   drawing_shows (Job other) d (inr h) = absurd h
   drawing_shows _ d h = absurd h
 
-  refuting_none : (i j : ℕ) (reply : Reply) → Refuting s i j reply new → Listed job (drawn reply) → ⊥
+  refuting_none : (i j : ℕ) (reply : Reply) → IsRefuting s i j reply new → Listed job (drawn reply) → ⊥
   refuting_none i j (Job other) d h = d
   refuting_none i j _ d h = h
 
-  marking_none : (k : JobParts) (reply : Reply) → Marking s k reply new → Listed job (drawn reply) → ⊥
+  marking_none : (k : JobParts) (reply : Reply) → IsMarking s k reply new → Listed job (drawn reply) → ⊥
   marking_none k (Job other) d h = d
   marking_none k _ d h = h
 
-  releasing_none : (k : JobParts) (reply : Reply) → Releasing s k reply new → Listed job (drawn reply) → ⊥
+  releasing_none : (k : JobParts) (reply : Reply) → IsReleasing s k reply new → Listed job (drawn reply) → ⊥
   releasing_none k (Job other) d h = d
   releasing_none k _ d h = h
 
-  applying_none : (ops : List Op) (reply : Reply) → Applying s ops reply new → Listed job (drawn reply) → ⊥
+  applying_none : (ops : List Op) (reply : Reply) → IsApplying s ops reply new → Listed job (drawn reply) → ⊥
   applying_none ops (Job other) d h = d
   applying_none ops _ d h = h
 
-  settling_none : (reply : Reply) → Settling s reply new → Listed job (drawn reply) → ⊥
+  settling_none : (reply : Reply) → IsSettling s reply new → Listed job (drawn reply) → ⊥
   settling_none (Job other) d h = d
   settling_none _ d h = h
 

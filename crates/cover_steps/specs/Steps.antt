@@ -30,12 +30,12 @@ pub record IsBusy (s : Core) (t : Target) (x : Columns) : Type 0 where
   pub none : first_drawable s ≡ None
   pub first : (c : Cand) × (first_unfinished s ≡ Some (t, c)) × (c.left ≡ x)
 
-abbrev pub Drawing : Core → Reply → Core → Type 0
-Drawing s (Job job) new = Draws s job new
-Drawing s (Busy t x) new = IsBusy s t x × (new ≡ s)
-Drawing s Settled new = (first_unfinished s ≡ None) × (new ≡ s)
-Drawing s NoMemory new = new ≡ s
-Drawing s _ new = ⊥
+abbrev pub IsDrawing : Core → Reply → Core → Type 0
+IsDrawing s (Job job) new = Draws s job new
+IsDrawing s (Busy t x) new = IsBusy s t x × (new ≡ s)
+IsDrawing s Settled new = (first_unfinished s ≡ None) × (new ≡ s)
+IsDrawing s NoMemory new = new ≡ s
+IsDrawing s _ new = ⊥
 
 -- which of two rows is not live, the first one first
 abbrev pub IsGone : RowState → ℕ → ℕ → ℕ → Type 0
@@ -46,22 +46,22 @@ pub record AreLive (r : RowState) (i j : ℕ) : Type 0 where
   pub first : is_live r i ≡ true
   pub second : is_live r j ≡ true
 
-abbrev pub Refuting : Core → ℕ → ℕ → Reply → Core → Type 0
-Refuting s i j (Gone row) new = IsGone s.rows i j row × (new ≡ s)
-Refuting s i j Known new = AreLive s.rows i j × (refutes_some s (agree_of s.rows i j) ≡ false) × (new ≡ s)
-Refuting s i j Booked new = AreLive s.rows i j × (refutes_some s (agree_of s.rows i j) ≡ true) × (new ≡ booked s i j)
-Refuting s i j NoMemory new = new ≡ s
-Refuting s i j _ new = ⊥
+abbrev pub IsRefuting : Core → ℕ → ℕ → Reply → Core → Type 0
+IsRefuting s i j (Gone row) new = IsGone s.rows i j row × (new ≡ s)
+IsRefuting s i j Known new = AreLive s.rows i j × (refutes_some s (agree_of s.rows i j) ≡ false) × (new ≡ s)
+IsRefuting s i j Booked new = AreLive s.rows i j × (refutes_some s (agree_of s.rows i j) ≡ true) × (new ≡ booked s i j)
+IsRefuting s i j NoMemory new = new ≡ s
+IsRefuting s i j _ new = ⊥
 
-abbrev pub Marking : Core → JobParts → Reply → Core → Type 0
-Marking s job Marked new = (is_listed (cands s job.target) job.left ≡ true) × (new ≡ with_cands s job.target (marked (cands s job.target) job.left job.to))
-Marking s job Dropped new = (is_listed (cands s job.target) job.left ≡ false) × (new ≡ s)
-Marking s job _ new = ⊥
+abbrev pub IsMarking : Core → JobParts → Reply → Core → Type 0
+IsMarking s job Marked new = (is_listed (cands s job.target) job.left ≡ true) × (new ≡ with_cands s job.target (marked (cands s job.target) job.left job.to))
+IsMarking s job Dropped new = (is_listed (cands s job.target) job.left ≡ false) × (new ≡ s)
+IsMarking s job _ new = ⊥
 
-abbrev pub Releasing : Core → JobParts → Reply → Core → Type 0
-Releasing s job Released new = (is_listed (cands s job.target) job.left ≡ true) × (new ≡ with_cands s job.target (holding (cands s job.target) job.left false))
-Releasing s job Dropped new = (is_listed (cands s job.target) job.left ≡ false) × (new ≡ s)
-Releasing s job _ new = ⊥
+abbrev pub IsReleasing : Core → JobParts → Reply → Core → Type 0
+IsReleasing s job Released new = (is_listed (cands s job.target) job.left ≡ true) × (new ≡ with_cands s job.target (holding (cands s job.target) job.left false))
+IsReleasing s job Dropped new = (is_listed (cands s job.target) job.left ≡ false) × (new ≡ s)
+IsReleasing s job _ new = ⊥
 
 -- the batch was accepted, and these are its counts
 pub record Accepts (s : Core) (ops : List Op) (inserted deleted : ℕ) (new : Core) : Type 0 where
@@ -71,23 +71,23 @@ pub record Accepts (s : Core) (ops : List Op) (inserted deleted : ℕ) (new : Co
   pub deletes : deleted ≡ delete_count ops
   pub state : new ≡ with_rows s rows
 
-abbrev pub Applying : Core → List Op → Reply → Core → Type 0
-Applying s ops (Applied inserted deleted) new = Accepts s ops inserted deleted new
-Applying s ops (Refused at why) new = (after s.rows ops ≡ Err (at, why)) × (new ≡ s)
-Applying s ops NoMemory new = new ≡ s
-Applying s ops _ new = ⊥
+abbrev pub IsApplying : Core → List Op → Reply → Core → Type 0
+IsApplying s ops (Applied inserted deleted) new = Accepts s ops inserted deleted new
+IsApplying s ops (Refused at why) new = (after s.rows ops ≡ Err (at, why)) × (new ≡ s)
+IsApplying s ops NoMemory new = new ≡ s
+IsApplying s ops _ new = ⊥
 
-abbrev pub Settling : Core → Reply → Core → Type 0
-Settling s (Ready covers) new = (first_unfinished s ≡ None) × (covers ≡ listed_covers s) × (new ≡ s)
-Settling s (NotYet t x number) new = ((c : Cand) × (first_unfinished s ≡ Some (t, c)) × (c.left ≡ x) × (c.upto ≡ number)) × (new ≡ s)
-Settling s NoMemory new = new ≡ s
-Settling s _ new = ⊥
+abbrev pub IsSettling : Core → Reply → Core → Type 0
+IsSettling s (Ready covers) new = (first_unfinished s ≡ None) × (covers ≡ listed_covers s) × (new ≡ s)
+IsSettling s (NotYet t x number) new = ((c : Cand) × (first_unfinished s ≡ Some (t, c)) × (c.left ≡ x) × (c.upto ≡ number)) × (new ≡ s)
+IsSettling s NoMemory new = new ≡ s
+IsSettling s _ new = ⊥
 
 -- from the state s the call may have this reply, and then the state is new
 abbrev pub Step : Core → Call → Reply → Core → Type 0
-Step s Draw reply new = Drawing s reply new
-Step s (Refute i j) reply new = Refuting s i j reply new
-Step s (Mark job) reply new = Marking s job reply new
-Step s (Release job) reply new = Releasing s job reply new
-Step s (Apply ops) reply new = Applying s ops reply new
-Step s Settle reply new = Settling s reply new
+Step s Draw reply new = IsDrawing s reply new
+Step s (Refute i j) reply new = IsRefuting s i j reply new
+Step s (Mark job) reply new = IsMarking s job reply new
+Step s (Release job) reply new = IsReleasing s job reply new
+Step s (Apply ops) reply new = IsApplying s ops reply new
+Step s Settle reply new = IsSettling s reply new

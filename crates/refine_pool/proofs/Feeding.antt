@@ -43,7 +43,7 @@ record Follows (s new : Core) (ops : List Op) (applying : Applying) : Type 0 whe
   replied : applying ≡ answer ops (after s.rows ops)
   rows : new.rows ≡ kept_or_after s.rows (after s.rows ops)
 
-follows : (s new : Core) (ops : List Op) (applying : Applying) → applying ≢ changes.NoMemory → steps.Applying s ops (reply_of_batch applying) new → Follows s new ops applying
+follows : (s new : Core) (ops : List Op) (applying : Applying) → applying ≢ changes.NoMemory → steps.IsApplying s ops (reply_of_batch applying) new → Follows s new ops applying
 follows s new ops (changes.Applied inserted deleted) some d = record {
   replied = (λ i. changes.Applied (d.inserts i) (d.deletes i)) ∙ ap (answer ops) (sym d.after);
   rows = ap (λ (c : Core). c.rows) d.state ∙ ap (kept_or_after s.rows) (sym d.after);
@@ -54,7 +54,7 @@ follows s new ops (changes.Refused at why) some d = record {
 }
 follows s new ops changes.NoMemory some d = absurd (some refl)
 
-stays : (s new : Core) (ops : List Op) → steps.Applying s ops (reply_of_batch changes.NoMemory) new → new.rows ≡ s.rows
+stays : (s new : Core) (ops : List Op) → steps.IsApplying s ops (reply_of_batch changes.NoMemory) new → new.rows ≡ s.rows
 stays s new ops d = ap (λ (c : Core). c.rows) d
 
 -- ---- the feeder's turns
@@ -69,7 +69,7 @@ record Before (desk : Desk) (q : Place) (batches : List (List Op)) (ops : List O
   from : Core
   to : Core
   legal : Legal booked allowed (opened_book desk) (seen q) to
-  step : steps.Applying from ops (reply_of_batch applying) to
+  step : steps.IsApplying from ops (reply_of_batch applying) to
   rows : from.rows ≡ rows_after_all (opened_book desk).rows batches
 
 before : (desk : Desk) (p q : Place) (batches : List (List Op)) (replies : List Applying) (ops : List Op) (applying : Applying) → Sound (opened_book desk) → InHome (view p) 0 → IsFed desk p batches replies → TookTurn desk p (Apply ops) (Applied applying ops tt) q → Before desk q batches ops applying

@@ -32,7 +32,7 @@ invariant_of-self-in-Ok c =
     )
 
 pub returns-in-Ok-clause-step : goal.returns-in-Ok-clause-step
-returns-in-Ok-clause-step c = subst (λ (a : Applying). steps.Applying c.args.self.now c.args.batch.now (reply_of_batch a) (record { rows = c.apply-answer.new.self; witnesses = c.withdraw.new.self; candidates = c.put_all-lists.new.candidates })) (sym c.in-Applied.is) (record {
+returns-in-Ok-clause-step c = subst (λ (a : Applying). steps.IsApplying c.args.self.now c.args.batch.now (reply_of_batch a) (record { rows = c.apply-answer.new.self; witnesses = c.withdraw.new.self; candidates = c.put_all-lists.new.candidates })) (sym c.in-Applied.is) (record {
   rows = c.apply-answer.new.self;
   after = ap (λ (s : Core). after s.rows c.args.batch.now) (sym c.self.view_is) ∙ c.in-Applied.ensures.after;
   inserts = c.in-Applied.ensures.inserted;

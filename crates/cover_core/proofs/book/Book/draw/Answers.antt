@@ -45,11 +45,11 @@ returns-after-first-clause-step c =
     elim c.match-first.branch [
       | in-Some-first w ↦
           let told = first-told same c.first.result w.in-Some-first.first c.first.ensures w.in-Some-first.is in
-          subst (λ (m : Core). steps.Drawing m (reply_of_draw c.match-first.result) same) c.self.view_is
-          (subst (λ (d : Draw). steps.Drawing same (reply_of_draw d) same) (sym w.result-is) (record { none = subst (λ (m : Core). first_drawable m ≡ None) (sym c.self.view_is) none; first = (told.0, told.1, told.2) }, refl))
+          subst (λ (m : Core). steps.IsDrawing m (reply_of_draw c.match-first.result) same) c.self.view_is
+          (subst (λ (d : Draw). steps.IsDrawing same (reply_of_draw d) same) (sym w.result-is) (record { none = subst (λ (m : Core). first_drawable m ≡ None) (sym c.self.view_is) none; first = (told.0, told.1, told.2) }, refl))
       | in-None-first w ↦
-          subst (λ (m : Core). steps.Drawing m (reply_of_draw c.match-first.result) same) c.self.view_is
-          (subst (λ (d : Draw). steps.Drawing same (reply_of_draw d) same) (sym w.result-is) (first-none same c.first.result c.first.ensures w.in-None-first.is, refl))
+          subst (λ (m : Core). steps.IsDrawing m (reply_of_draw c.match-first.result) same) c.self.view_is
+          (subst (λ (d : Draw). steps.IsDrawing same (reply_of_draw d) same) (sym w.result-is) (first-none same c.first.result c.first.ensures w.in-None-first.is, refl))
     ]
 
 pub returns-in_err-snapshot-in-Some-clause-wanted : goal.returns-in_err-snapshot-in-Some-clause-wanted

@@ -23,7 +23,7 @@ returns-in_ok-push-in-Job-clause-near g c = drawn-near c.args.book.now c.rows-ro
 pub returns-in_ok-push-in-Job-clause-steps : goal.returns-in_ok-push-in-Job-clause-steps
 returns-in_ok-push-in-Job-clause-steps g c =
     let few : new_rows c.in-Job.job.snapshot c.in-Job.job.from ≤ 1 = drawn-few c.args.book.now c.rows-rows.ensures.sound c.requires c.in-Job.job c.draw.new.self
-    (subst (λ (d : Draw). steps.Drawing c.args.book.now (reply_of_draw d) c.draw.new.self) c.in-Job.is c.in_ok-last.ensures.step) in
+    (subst (λ (d : Draw). steps.IsDrawing c.args.book.now (reply_of_draw d) c.draw.new.self) c.in-Job.is c.in_ok-last.ensures.step) in
     let taken = c.validate.ensures.steps in
     let more = c.in_ok-push-in-Job.ensures.len in
     omega arith
