@@ -37,7 +37,8 @@ IsMalformed (Malformed cause) = ⊤
 
 -- a record is read as an entry only where it says that entry, or as malformed
 abbrev pub EntriesAreSaid : Type 0
-EntriesAreSaid = (columns : ℕ) (limits : Limits) (fields : Row) → IsMalformed (entry_of columns limits fields) ⊎ Says columns limits fields (entry_of columns limits fields)
+EntriesAreSaid = (columns : ℕ) (limits : Limits) (fields : Row) → IsMalformed (entry_of columns limits fields)
+    ⊎ Says columns limits fields (entry_of columns limits fields)
 
 -- a record that says an entry is read as that entry
 abbrev pub WhatIsSaidIsRead : Type 0

@@ -23,7 +23,8 @@ FirstIsLeftSide r s = IfSome (first_violation r s) (IsLeftSide r s)
 
 -- The split is what the definition says of each set of the columns at hand.
 abbrev pub SplitsAsSaid : RowState → Columns → Type 0
-SplitsAsSaid r s = MatchOption (first_violation r s) (splits r s ≡ s ∷ []) (λ x. splits r s ≡ splits r (minus s (dependents r s x)) ++ splits r (union x (dependents r s x)))
+SplitsAsSaid r s =
+    MatchOption (first_violation r s) (splits r s ≡ s ∷ []) (λ x. splits r s ≡ splits r (minus s (dependents r s x)) ++ splits r (union x (dependents r s x)))
 
 -- Its tables are all in BCNF, lie inside the set that is split, and together have each of its columns.
 pub record SplitMeans (r : RowState) (s : Columns) : Type 0 where

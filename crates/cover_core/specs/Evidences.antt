@@ -22,4 +22,5 @@ pub record IsNews (r : RowState) (n : ℕ) (ws more : List Witness) (draft : Dra
 
 -- what each live row from a number on and each live row before it agree on is no news to the witnesses
 pub record IsAllTold (s : Core) (from : ℕ) : Type 0 where
-  pub each : (i j : ℕ) → Contains s.rows.live i → Contains s.rows.live j → i < j → from ≤ j → is_news (width s.rows) (sets_of s.witnesses) (agree_of s.rows i j) ≡ false
+  pub each : (i j : ℕ) → Contains s.rows.live i → Contains s.rows.live j → i < j → from ≤ j
+      → is_news (width s.rows) (sets_of s.witnesses) (agree_of s.rows i j) ≡ false

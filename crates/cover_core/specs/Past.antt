@@ -35,7 +35,8 @@ pub record IsPast (p : Cand → Bool) (c : CandLists) (cursor : Cursor) : Type 0
 pub record IsPastBut (p : Cand → Bool) (c : CandLists) (concerned : Concerned) (cursor : Cursor) : Type 0 where
   pub target : IsColumnTarget (width c) cursor.target
   pub earlier : (t : Target) (k : Cand) → concerns concerned t ≡ false → rank t < rank cursor.target → Listed k (cands_of c t) → p k ≡ false
-  pub before : (k : Cand) → concerns concerned cursor.target ≡ false → Listed k (cands_of c cursor.target) → is_lt (report_cmp k.left cursor.left) ≡ true → p k ≡ false
+  pub before : (k : Cand) → concerns concerned cursor.target ≡ false → Listed k (cands_of c cursor.target) → is_lt (report_cmp k.left cursor.left) ≡ true
+      → p k ≡ false
 
 -- whether one cursor stands before another
 abbrev pub stands_before : Cursor → Cursor → Bool

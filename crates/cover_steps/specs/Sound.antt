@@ -47,7 +47,8 @@ pub record Fits (r : RowState) (job : JobParts) : Type 0 where
   pub to : job.to ≤ next r
   pub holds : HoldsInBelow job.from job.snapshot job.left job.target
   pub live : (i : ℕ) → Contains r.live i → i < job.to → live_at job.snapshot i ≡ true
-  pub codes : (i j k : ℕ) → Contains r.live i → Contains r.live j → i < job.to → j < job.to → i ≢ j → k < width r → (code_at job.snapshot i k ≡ code_at job.snapshot j k) ↔ (has (agree_of r i j) k ≡ true)
+  pub codes : (i j k : ℕ) → Contains r.live i → Contains r.live j → i < job.to → j < job.to → i ≢ j → k < width r
+      → (code_at job.snapshot i k ≡ code_at job.snapshot j k) ↔ (has (agree_of r i j) k ≡ true)
 
 -- a sound state, and jobs that fit it
 pub record SoundWith (s : Core) (jobs : List JobParts) : Type 0 where

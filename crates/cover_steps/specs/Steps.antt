@@ -59,7 +59,8 @@ IsMarking s job Dropped new = (is_listed (cands s job.target) job.left ≡ false
 IsMarking s job _ new = ⊥
 
 abbrev pub IsReleasing : Core → JobParts → Reply → Core → Type 0
-IsReleasing s job Released new = (is_listed (cands s job.target) job.left ≡ true) × (new ≡ with_cands s job.target (holding (cands s job.target) job.left false))
+IsReleasing s job Released new = (is_listed (cands s job.target) job.left ≡ true)
+    × (new ≡ with_cands s job.target (holding (cands s job.target) job.left false))
 IsReleasing s job Dropped new = (is_listed (cands s job.target) job.left ≡ false) × (new ≡ s)
 IsReleasing s job _ new = ⊥
 

@@ -18,4 +18,5 @@ write_last_after (Write name) last = Some name
 
 -- it stands at what was open where one of its calls failed
 abbrev pub StandsAt : {F : Type 0} → Fault → Held F → Type 0
-StandsAt fault held = ((last : Option (List ℕ)) → read_last_after fault last ≡ read_last_of held last) × ((last : Option (List ℕ)) → write_last_after fault last ≡ write_last_of held last)
+StandsAt fault held = ((last : Option (List ℕ)) → read_last_after fault last ≡ read_last_of held last)
+    × ((last : Option (List ℕ)) → write_last_after fault last ≡ write_last_of held last)

@@ -71,8 +71,10 @@ pub record WasDrawn (desk : Desk) (place : Place) (job : JobParts) : Type 0 wher
 -- was drawn from the same rows, so that the snapshots are alike; and where the `to` and the number of live rows are those of the
 -- opened book, so are the rows.
 pub record TellsRows (desk : Desk) (before : Place) (job : JobParts) : Type 0 where
-  pub alike : (other : JobParts) → WasDrawn desk before other → other.to ≡ job.to → live_count other.snapshot ≡ live_count job.snapshot → Alike other.snapshot job.snapshot
-  pub opened : job.to ≡ next (opened_book desk).rows → live_count job.snapshot ≡ length (opened_book desk).rows.live → Shows job.snapshot (opened_book desk).rows
+  pub alike : (other : JobParts) → WasDrawn desk before other → other.to ≡ job.to → live_count other.snapshot ≡ live_count job.snapshot
+      → Alike other.snapshot job.snapshot
+  pub opened : job.to ≡ next (opened_book desk).rows → live_count job.snapshot ≡ length (opened_book desk).rows.live
+      → Shows job.snapshot (opened_book desk).rows
 
 -- what the calls answer, as replies
 abbrev pub reply_of_drawing : {E : Type 0} → Result Draw E → Reply

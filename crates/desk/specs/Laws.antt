@@ -29,12 +29,14 @@ HistoriesAreRuns = (opened x : Core) (history : History) → Sound opened → Le
 
 -- A job whose draw stands in what a pass has seen fits the book after any history that goes on from there.
 abbrev pub DrawnJobsFit : Type 0
-DrawnJobsFit = (opened x : Core) (seen history : History) (job : JobParts) → Sound opened → Legal booked allowed opened history x → Begins seen history → Contains (jobs_in seen) job → Fits x.rows job
+DrawnJobsFit = (opened x : Core) (seen history : History) (job : JobParts) → Sound opened → Legal booked allowed opened history x → Begins seen history
+    → Contains (jobs_in seen) job → Fits x.rows job
 
 -- Two jobs of one history with the same `to` and as many live rows were drawn from the same rows, and likewise a job and the
 -- opened book, or the book at the end.
 abbrev pub JobsTellTheSameRows : Type 0
-JobsTellTheSameRows = (opened x : Core) (history : History) → Sound opened → Legal booked allowed opened history x → JobsOfTheSameRows [] opened x (turns_of history)
+JobsTellTheSameRows = (opened x : Core) (history : History) → Sound opened → Legal booked allowed opened history x
+    → JobsOfTheSameRows [] opened x (turns_of history)
 
 -- The rows are those after the batches that were accepted, in order.
 abbrev pub RowsGoByBatches : Type 0
@@ -42,16 +44,21 @@ RowsGoByBatches = (opened x : Core) (history : History) → Sound opened → Leg
 
 -- Where each candidate was known to hold in all rows, and no batch was accepted since, each is.
 abbrev pub QuietTurnsKeepFinished : Type 0
-QuietTurnsKeepFinished = (opened x y : Core) (past quiet : History) → Sound opened → Legal booked allowed opened past x → LegalFrom booked allowed opened past x quiet y → IsQuiet (turns_of quiet) → first_unfinished x ≡ None → first_unfinished y ≡ None
+QuietTurnsKeepFinished = (opened x y : Core) (past quiet : History) → Sound opened → Legal booked allowed opened past x
+    → LegalFrom booked allowed opened past x quiet y → IsQuiet (turns_of quiet) → first_unfinished x ≡ None → first_unfinished y ≡ None
 
 -- A witness whose two rows are live at the end is listed there: one that there was at some time, and one that was booked.
 pub record WitnessesStand (opened : Core) : Type 0 where
-  pub there : (x y : Core) (past more : History) (w : Witness) → Legal booked allowed opened past x → LegalFrom booked allowed opened past x more y → Contains x.witnesses w → Stands y.rows w → Contains y.witnesses w
-  pub booked : (y : Core) (before later : History) (e : Entry Call Reply) (i j : ℕ) → Legal booked allowed opened (before ++ e ∷ later) y → e.call ≡ Refute i j → e.reply ≡ Refuted Booked tt → Stands y.rows (witness_of (rows_after opened.rows (turns_of before)) i j) → Contains y.witnesses (witness_of (rows_after opened.rows (turns_of before)) i j)
+  pub there : (x y : Core) (past more : History) (w : Witness) → Legal booked allowed opened past x → LegalFrom booked allowed opened past x more y
+      → Contains x.witnesses w → Stands y.rows w → Contains y.witnesses w
+  pub booked : (y : Core) (before later : History) (e : Entry Call Reply) (i j : ℕ) → Legal booked allowed opened (before ++ e ∷ later) y
+      → e.call ≡ Refute i j → e.reply ≡ Refuted Booked tt → Stands y.rows (witness_of (rows_after opened.rows (turns_of before)) i j)
+      → Contains y.witnesses (witness_of (rows_after opened.rows (turns_of before)) i j)
 
 abbrev pub WitnessesStay : Type 0
 WitnessesStay = (opened : Core) → Sound opened → WitnessesStand opened
 
 -- Each answer that all is settled carries the covers of the rows after the batches that were accepted before it.
 abbrev pub ReadyIsExact : Type 0
-ReadyIsExact = (opened y : Core) (before later : History) (e : Entry Call Reply) (found : CoverLists) → Sound opened → Legal booked allowed opened (before ++ e ∷ later) y → e.reply ≡ Settled (Ready found) → found ≡ covers (rows_after opened.rows (turns_of before))
+ReadyIsExact = (opened y : Core) (before later : History) (e : Entry Call Reply) (found : CoverLists) → Sound opened
+    → Legal booked allowed opened (before ++ e ∷ later) y → e.reply ≡ Settled (Ready found) → found ≡ covers (rows_after opened.rows (turns_of before))

@@ -87,9 +87,11 @@ pub jobs_in-append : (past more : List (Entry Call Reply)) → jobs_in (past ++ 
 jobs_in-append past more = ap all_drawn (map-append turn_of past more) ∙ flat_map-append (λ (e : Turn). drawn e.reply) (turns_of past) (turns_of more)
 
 pub drawn_later : (past more : List (Entry Call Reply)) (job : JobParts) → Contains (jobs_in past) job → Contains (jobs_in (past ++ more)) job
-drawn_later past more job h = subst (λ (jobs : List JobParts). Contains jobs job) (sym (jobs_in-append past more)) (Contains-append_left (jobs_in past) (jobs_in more) job h)
+drawn_later past more job h =
+    subst (λ (jobs : List JobParts). Contains jobs job) (sym (jobs_in-append past more)) (Contains-append_left (jobs_in past) (jobs_in more) job h)
 
-suits_later : (opened : Core) (number : ℕ) (past more : List (Entry Call Reply)) (call : Call) → Suits opened number past call → Suits opened number (past ++ more) call
+suits_later : (opened : Core) (number : ℕ) (past more : List (Entry Call Reply)) (call : Call) → Suits opened number past call
+    → Suits opened number (past ++ more) call
 suits_later opened number past more Draw h = tt
 suits_later opened number past more (Refute i j) h = h
 suits_later opened number past more (Mark job) h = (drawn_later past more job h.0, h.1)
@@ -98,5 +100,6 @@ suits_later opened number past more (Apply ops) h = h
 suits_later opened number past more Settle h = tt
 
 -- what may be done stays so
-pub allowed_later : (opened : Core) (number : ℕ) (past more : List (Entry Call Reply)) (call : Call) → allowed opened number past call → allowed opened number (past ++ more) call
+pub allowed_later : (opened : Core) (number : ℕ) (past more : List (Entry Call Reply)) (call : Call) → allowed opened number past call
+    → allowed opened number (past ++ more) call
 allowed_later opened number past more call h = (h.0, suits_later opened number past more call h.1)

@@ -44,23 +44,28 @@ pub record ProjectionTestsMean (r : RowState) (s : Columns) : Type 0 where
 
 -- Inside S a dependency holds among the rows exactly where it holds in the projection to S.
 abbrev pub ProjectionsKeepDependencies : Type 0
-ProjectionsKeepDependencies = (r : RowState) (s x : Columns) (a : ℕ) → IsRowState r → r.nulls ≡ Equal → s < 2 ^ width r → IsSubset x s → has s a ≡ true → projection_holds r s x (Col a) ≡ holds r x (Col a)
+ProjectionsKeepDependencies = (r : RowState) (s x : Columns) (a : ℕ) → IsRowState r → r.nulls ≡ Equal → s < 2 ^ width r → IsSubset x s → has s a ≡ true
+    → projection_holds r s x (Col a) ≡ holds r x (Col a)
 
 -- A set inside S is unique in the projection to S exactly where it determines every column of S.
 abbrev pub ProjectionsAreUniqueByAll : Type 0
-ProjectionsAreUniqueByAll = (r : RowState) (s x : Columns) → IsRowState r → r.nulls ≡ Equal → s < 2 ^ width r → IsSubset x s → (projection_holds r s x RowId ≡ true) ↔ ((a : ℕ) → has s a ≡ true → holds r x (Col a) ≡ true)
+ProjectionsAreUniqueByAll = (r : RowState) (s x : Columns) → IsRowState r → r.nulls ≡ Equal → s < 2 ^ width r → IsSubset x s
+    → (projection_holds r s x RowId ≡ true) ↔ ((a : ℕ) → has s a ≡ true → holds r x (Col a) ≡ true)
 
 -- A projection is the natural join of the two that a lossless split makes of it.
 abbrev pub SplitsAreLossless : Type 0
-SplitsAreLossless = (r : RowState) (s x y : Columns) → IsRowState r → r.nulls ≡ Equal → s < 2 ^ width r → IsLossless r s x y → IsJoinOf r s (minus s y ∷ union x y ∷ [])
+SplitsAreLossless = (r : RowState) (s x y : Columns) → IsRowState r → r.nulls ≡ Equal → s < 2 ^ width r → IsLossless r s x y
+    → IsJoinOf r s (minus s y ∷ union x y ∷ [])
 
 -- A projection is the natural join of all that one lossless split after another makes of it.
 abbrev pub RepeatedSplitsAreLossless : Type 0
-RepeatedSplitsAreLossless = (r : RowState) (s : Columns) (sets : List Columns) → IsRowState r → r.nulls ≡ Equal → s < 2 ^ width r → SplitsInto r s sets → IsJoinOf r s sets
+RepeatedSplitsAreLossless = (r : RowState) (s : Columns) (sets : List Columns) → IsRowState r → r.nulls ≡ Equal → s < 2 ^ width r → SplitsInto r s sets
+    → IsJoinOf r s sets
 
 -- Along the splits of all columns, the natural join of the projections is the distinct rows.
 abbrev pub SplitsJoinToDistinctRows : Type 0
-SplitsJoinToDistinctRows = (r : RowState) (sets : List Columns) → IsRowState r → r.nulls ≡ Equal → SplitsInto r (all (width r)) sets → IsNaturalJoin (width r) (map (projection_table r) sets) (distinct_rows r)
+SplitsJoinToDistinctRows = (r : RowState) (sets : List Columns) → IsRowState r → r.nulls ≡ Equal → SplitsInto r (all (width r)) sets
+    → IsNaturalJoin (width r) (map (projection_table r) sets) (distinct_rows r)
 
 -- The split of all columns to BCNF: each table is in BCNF, the tables have all columns together, and the natural join of their
 -- projections is the distinct rows.

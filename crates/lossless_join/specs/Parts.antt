@@ -30,7 +30,8 @@ projection_holds r s x t = determined (part_agree_sets s (projection r s)) x t
 
 -- the same as a fact
 pub record ProjectionHolds (r : RowState) (s x : Columns) (t : Target) : Type 0 where
-  pub each : (p q : Row) → Contains (projection r s) p → Contains (projection r s) q → p ≢ q → IsSubset x (part_agree s p q) → has_target (part_agree s p q) t ≡ true
+  pub each : (p q : Row) → Contains (projection r s) p → Contains (projection r s) q → p ≢ q → IsSubset x (part_agree s p q)
+      → has_target (part_agree s p q) t ≡ true
 
 -- the minimal keys of the projection to S, in report order: the sets inside S on which no two different parts agree, where
 -- on each proper subset two do

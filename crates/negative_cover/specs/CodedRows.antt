@@ -18,7 +18,8 @@ pub record AreCodedRows (s : CodeTable) (rows : CodedRows) : Type 0 where
   pub positive : All (λ i. 0 < i) rows.numbers.items
   pub live : All (λ i. live_at s i ≡ true) rows.numbers.items
   pub width : rows.width ≡ length s.codes
-  pub each : (k c : ℕ) → k < length rows.numbers.items → c < rows.width → slice_index rows.codes.items (rows.width * k + c) ≡ code_at s (slice_index rows.numbers.items k) c
+  pub each : (k c : ℕ) → k < length rows.numbers.items → c < rows.width
+      → slice_index rows.codes.items (rows.width * k + c) ≡ code_at s (slice_index rows.numbers.items k) c
 
 -- there are as many codes for each row, and no more than columns
 pub record IsShaped (rows : CodedRows) : Type 0 where

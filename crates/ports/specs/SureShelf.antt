@@ -11,7 +11,13 @@ opened_of files at None = Nothing
 opened_of files at (Some name) = ForReading name (Some (drop at (bytes_of (look_up files) name)))
 
 abbrev pub seen : Inside → SureFiles
-seen s = record { files = s.files.items; opened = opened_of s.files.items s.at s.«open»; opens = s.opens; write_faults = s.write_faults; write_last = s.write_last }
+seen s = record {
+  files = s.files.items;
+  opened = opened_of s.files.items s.at s.«open»;
+  opens = s.opens;
+  write_faults = s.write_faults;
+  write_last = s.write_last;
+}
 
 -- no more was read than there is
 abbrev pub IsRead : List File → ℕ → Option (List ℕ) → Type 0

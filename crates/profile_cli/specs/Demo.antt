@@ -35,7 +35,8 @@ drawn_row r d1 d2 d3 d4 d5 d6 =
 -- the row of a number where the state is s before its draws
 unfoldable pub row_from : ℕ → ℕ → Row
 row_from r s =
-    drawn_row r (drawn (state_after s 1)) (drawn (state_after s 2)) (drawn (state_after s 3)) (drawn (state_after s 4)) (drawn (state_after s 5)) (drawn (state_after s 6))
+    drawn_row r (drawn (state_after s 1)) (drawn (state_after s 2)) (drawn (state_after s 3))
+    (drawn (state_after s 4)) (drawn (state_after s 5)) (drawn (state_after s 6))
 
 -- so many rows from this number on, the first of them drawn in this state
 unfoldable pub rows_from : ℕ → ℕ → ℕ → List Row

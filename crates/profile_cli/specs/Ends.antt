@@ -48,7 +48,8 @@ OnTold task limits content input P = OnSources task content input (λ files byte
 
 -- the same where the files are accepted and hold these relations
 abbrev pub OnRead : Task → Limits → List Content → Option (List ℕ) → (Option (List ℕ × ℕ × Why) → Written → Type 0) → Type 0
-OnRead task limits relations input P = OnInput task.reads_input input (λ bytes. P (input_refusal task.reads_input limits bytes) (task.writes limits relations bytes))
+OnRead task limits relations input P =
+    OnInput task.reads_input input (λ bytes. P (input_refusal task.reads_input limits bytes) (task.writes limits relations bytes))
 
 -- the same of what was made, where nothing is refused
 abbrev pub OnMade : Written → (Option (List ℕ × ℕ × Why) → Written → Type 0) → Type 0
@@ -85,22 +86,31 @@ StoresAll Stored files content content' faults last old new = (content' ≡ opti
 StoresAll Failed files content content' faults last old new = StopsAt files content content' faults last old new
 
 -- writing failed at a file, and nothing was put on the sink
-pub record StopsAtFile {S : Type 0} (w : Written) (content content' : Option Files) (before now : Option (List ℕ)) (sink sink' : ℕ) (faults : S → ℕ) (last : S → Option (List ℕ)) (old new : S) : Type 0 where
+pub record StopsAtFile {S : Type 0} (w : Written) (content content' : Option Files) (before now : Option (List ℕ)) (sink sink' : ℕ)
+    (faults : S → ℕ) (last : S → Option (List ℕ)) (old new : S) : Type 0 where
   pub file : StopsAt w.files content content' faults last old new
   pub text : now ≡ before
   pub sink_count : sink' ≡ sink
 
 -- the files are whole, the sink failed, and some first bytes of the text were put on it
-pub record StopsAtSink {S : Type 0} (w : Written) (content content' : Option Files) (before now : Option (List ℕ)) (sink sink' : ℕ) (faults : S → ℕ) (last : S → Option (List ℕ)) (old new : S) : Type 0 where
+pub record StopsAtSink {S : Type 0} (w : Written) (content content' : Option Files) (before now : Option (List ℕ)) (sink sink' : ℕ)
+    (faults : S → ℕ) (last : S → Option (List ℕ)) (old new : S) : Type 0 where
   pub files : content' ≡ option_map (with_files w.files) content
   pub shelf : SameFaults faults last old new
   pub count : ℕ
   pub text : Gains before now (take count w.text)
   pub sink_count : Rose sink sink'
 
+-- one of both
+abbrev pub Stops : {S : Type 0} → Written → Option Files → Option Files → Option (List ℕ) → Option (List ℕ) → ℕ → ℕ → (S → ℕ) → (S → Option (List ℕ))
+    → S → S → Type 0
+Stops w content content' before now sink sink' faults last old new =
+    StopsAtFile w content content' before now sink sink' faults last old new ⊎ StopsAtSink w content content' before now sink sink' faults last old new
+
 -- ---- what a run comes to
 -- What each end says of the first refusal, of what is written and of what was written. `M` says what is known of the first two.
-abbrev pub Runs : {S : Type 0} → ((Option (List ℕ × ℕ × Why) → Written → Type 0) → Type 0) → Outcome → Option Files → Option Files → Option (List ℕ) → Option (List ℕ) → ℕ → ℕ
+abbrev pub Runs : {S : Type 0} → ((Option (List ℕ × ℕ × Why) → Written → Type 0) → Type 0) → Outcome → Option Files → Option Files → Option (List ℕ)
+    → Option (List ℕ) → ℕ → ℕ
     → (S → ℕ) → (S → Option (List ℕ)) → S → S → Type 0
 Runs M Done content content' before now sink sink' faults last old new =
     M (λ r w. (r ≡ None) × IsWhole w content content' before now) × (sink' ≡ sink) × SameFaults faults last old new
@@ -110,7 +120,7 @@ Runs M (Refused file rec why) content content' before now sink sink' faults last
 Runs M (ReadFault file) content content' before now sink sink' faults last old new =
     IsPut (fault_line file) before now sink sink' × IsUnwritten content content' faults last old new
 Runs M WriteFault content content' before now sink sink' faults last old new =
-    M (λ r w. (r ≡ None) × (StopsAtFile w content content' before now sink sink' faults last old new ⊎ StopsAtSink w content content' before now sink sink' faults last old new))
+    M (λ r w. (r ≡ None) × Stops w content content' before now sink sink' faults last old new)
     × (Rose sink sink' ⊎ Rose (faults old) (faults new))
 Runs M NoMemory content content' before now sink sink' faults last old new = (now ≡ before) × (sink' ≡ sink) × IsUnwritten content content' faults last old new
 
@@ -134,7 +144,8 @@ pub record IsReached (limits : Limits) (content : Option Files) (names : List (L
   pub opened : opens' ≤ opens + (place + 1)
 
 -- This file is the first that a rule refuses, and the input was left as it was.
-pub record IsFileRefusal {I : Type 0} (limits : Limits) (content : Option Files) (task : Task) (file : List ℕ) (rec : ℕ) (why : Why) (input input' : I) (opens opens' : ℕ) : Type 0 where
+pub record IsFileRefusal {I : Type 0} (limits : Limits) (content : Option Files) (task : Task) (file : List ℕ) (rec : ℕ) (why : Why)
+    (input input' : I) (opens opens' : ℕ) : Type 0 where
   pub reached : IsReached limits content task.reads file opens opens'
   pub refused : IfSome content (λ files. refused_file limits (bytes_of files file) ≡ Some (rec, why))
   pub unread : input' ≡ input
@@ -150,7 +161,8 @@ pub record IsInputRefusal (limits : Limits) (reads : Bool) (file : List ℕ) (re
   pub moved : Moves left left' came
 
 -- A call on this file failed, and no file before it is refused. The input was left as it was.
-pub record IsFileFault {S I : Type 0} (limits : Limits) (content : Option Files) (task : Task) (file : List ℕ) (faults : S → ℕ) (last : S → Option (List ℕ)) (old new : S) (input input' : I) (opens opens' : ℕ) : Type 0 where
+pub record IsFileFault {S I : Type 0} (limits : Limits) (content : Option Files) (task : Task) (file : List ℕ) (faults : S → ℕ)
+    (last : S → Option (List ℕ)) (old new : S) (input input' : I) (opens opens' : ℕ) : Type 0 where
   pub reached : IsReached limits content task.reads file opens opens'
   pub shelf : RoseAt file faults last old new
   pub unread : input' ≡ input
@@ -165,6 +177,7 @@ pub record IsInputFault (limits : Limits) (reads : Bool) (file : List ℕ) (left
   pub moved : Moves left left' came
 
 -- all files are accepted, and no call on one of them failed
-pub record AreAccepted {S : Type 0} (limits : Limits) (content : Option Files) (names : List (List ℕ)) (faults : S → ℕ) (last : S → Option (List ℕ)) (old new : S) : Type 0 where
+pub record AreAccepted {S : Type 0} (limits : Limits) (content : Option Files) (names : List (List ℕ)) (faults : S → ℕ)
+    (last : S → Option (List ℕ)) (old new : S) : Type 0 where
   pub accepted : IfSome content (λ files. first_refusal limits files names ≡ None)
   pub shelf : SameFaults faults last old new

@@ -32,7 +32,8 @@ pub record HasFields (text : List ℕ) (fields : List (List ℕ)) (writer : Writ
 
 -- one more field of the line, whatever was written before
 abbrev pub AddsField : Writer (Vec ℕ) → Writer (Vec ℕ) → List ℕ → Type 0
-AddsField old new field = (text : List ℕ) (fields : List (List ℕ)) → length fields < 2 ^ 64 - 1 → HasFields text fields old → HasFields text (fields ++ field ∷ []) new
+AddsField old new field = (text : List ℕ) (fields : List (List ℕ)) → length fields < 2 ^ 64 - 1 → HasFields text fields old
+    → HasFields text (fields ++ field ∷ []) new
 
 -- the line has its end
 abbrev pub EndsLine : Writer (Vec ℕ) → Writer (Vec ℕ) → Type 0

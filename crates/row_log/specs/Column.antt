@@ -13,7 +13,8 @@ pub record ColumnCells : Type 0 where
 -- Two different rows have equal codes exactly where their cells agree.
 pub record AreCodes (c : ColumnCells) (codes : List ℕ) : Type 0 where
   pub long : length codes ≡ length c.cells
-  pub agree : (i j : ℕ) → i < length codes → j < length codes → i ≢ j → (slice_index codes i ≡ slice_index codes j) ↔ Agrees c.nulls (slice_index_or c.cells i []) (slice_index_or c.cells j [])
+  pub agree : (i j : ℕ) → i < length codes → j < length codes → i ≢ j → (slice_index codes i ≡ slice_index codes j)
+      ↔ Agrees c.nulls (slice_index_or c.cells i []) (slice_index_or c.cells j [])
 
 -- the column that these codes are, by this dictionary
 abbrev pub column_of : Coding → List ℕ → ColumnCells
@@ -24,7 +25,8 @@ column_of d codes = record { nulls = d.nulls; cells = map (λ code. slice_index_
 pub record IsKept (d : Coding) (codes firsts : List ℕ) : Type 0 where
   pub known : (i : ℕ) → i < length codes → slice_index codes i < length d.cells
   pub agree : (i j : ℕ) → i < length codes → j < length codes → i ≢ j
-      → (slice_index codes i ≡ slice_index codes j) ↔ Agrees d.nulls (slice_index_or d.cells (slice_index codes i) []) (slice_index_or d.cells (slice_index codes j) [])
+      → (slice_index codes i ≡ slice_index codes j)
+      ↔ Agrees d.nulls (slice_index_or d.cells (slice_index codes i) []) (slice_index_or d.cells (slice_index codes j) [])
   pub all : length firsts ≡ length d.cells
   pub first : (i : ℕ) → i < length codes → slice_index firsts (slice_index codes i) ≤ i
   pub later : (c : ℕ) → c < length firsts → c ≤ slice_index firsts c

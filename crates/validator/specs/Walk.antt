@@ -24,7 +24,8 @@ first_with s by rows c = slice_index (filter (λ i. key s by i == c) rows) 0
 
 -- each of these rows from a number on agrees on the target with the first that has its key, if that is another one
 pub record IsUniform (s : CodeTable) (by : Option ℕ) (t : Target) (from : ℕ) (rows : List ℕ) : Type 0 where
-  pub each : (j : ℕ) → Listed j rows → from ≤ j → first_with s by rows (key s by j) ≢ j → has_target (code_agree s (first_with s by rows (key s by j)) j) t ≡ true
+  pub each : (j : ℕ) → Listed j rows → from ≤ j → first_with s by rows (key s by j) ≢ j
+      → has_target (code_agree s (first_with s by rows (key s by j)) j) t ≡ true
 
 -- two of these rows that have one key and differ on the target, the smaller number first
 pub record IsApart (s : CodeTable) (by : Option ℕ) (t : Target) (rows : List ℕ) (i j : ℕ) : Type 0 where
