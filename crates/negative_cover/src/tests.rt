@@ -82,7 +82,7 @@ fn witnesses_tell_which_targets_an_agree_set_concerns(rt: HostRuntime) -> Result
         agree: zero,
     })?;
     let beside = Concerned::by(&cover, ColSet::empty().with(1), 3);
-    assert!(rt; beside.rows && beside.columns == zero.with(2));
+    assert!(rt; beside.row_id && beside.columns == zero.with(2));
     let inside = Concerned::by(&cover, ColSet::empty(), 3);
     assert!(rt; inside.has(Target::Col(0)) && !inside.has(Target::Col(1)));
     assert!(rt; !inside.has(Target::RowId) && !inside.is_none());
