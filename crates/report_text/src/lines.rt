@@ -38,11 +38,8 @@ impl Lines {
     pub fn new(alloc: Global) -> Lines
         ensures { result ≡ [] }
     {
-        let writer = WriterBuilder::new()
-            .flexible(true)
-            .from_writer(Vec::new(alloc));
         Lines {
-            writer,
+            writer: new_writer(alloc),
             columns: Vec::new(alloc),
             alloc,
         }
@@ -76,7 +73,7 @@ impl Lines {
         ensures err { OnErr result (self.new ≡ []) }
     {
         if write_line(&mut self.writer, &mut self.columns, fields).is_err() {
-            *self = Lines::new(self.alloc);
+            restart(self.alloc, &mut self.writer);
             return Err(AllocError);
         }
         Ok(())
@@ -88,11 +85,31 @@ impl Lines {
         ensures err { OnErr result (self.new ≡ []) }
     {
         if write_row(&mut self.writer, row).is_err() {
-            *self = Lines::new(self.alloc);
+            restart(self.alloc, &mut self.writer);
             return Err(AllocError);
         }
         Ok(())
     }
+}
+
+// A writer of no text yet.
+fn new_writer(alloc: Global) -> Writer<Vec<u8>>
+    ensures at_line { IsAtLine result }
+    ensures text { text_in result ≡ [] }
+{
+    WriterBuilder::new()
+        .flexible(true)
+        .from_writer(Vec::new(alloc))
+}
+
+// Begins anew. It stays a call of its own: a function that has room for a second writer clears that room at each of its calls.
+#[cold]
+#[inline(never)]
+fn restart(alloc: Global, writer: &mut Writer<Vec<u8>>)
+    ensures at_line { IsAtLine writer.new }
+    ensures text { text_in writer.new ≡ [] }
+{
+    *writer = new_writer(alloc);
 }
 
 fn write_line(
