@@ -20,7 +20,7 @@ use Rattle.batch_update.specs.Numbers.{IsNumberedTo}
 use Rattle.batch_update.proofs.Few.{few_records}
 use Rattle.batch_update.proofs.Steps.{begins_end, begins_fault, begins_operation, begins_report, ends, ends_fault, faults, goes_on, skips, text_ends_after_fault, text_ends_after_operations, text_ends_between}
 
--- the same of the items to come, wherever the reading stands
+-- no item that is to come has a number above m, wherever the reading stands
 record Numbered (m : ℕ) (left : List Entry) : Type 0 where
   between : (number n : ℕ) → 0 < number → number ≤ n → n + length left ≤ m + 1 → All (IsNumberedTo m) (coming number n Nothing left)
   operations : (number n first : ℕ) (ops : List Op) → 0 < number → number ≤ first → 0 < length ops → first + length ops ≡ n → n + length left ≤ m + 1

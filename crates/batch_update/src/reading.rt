@@ -3,11 +3,12 @@ ghost use Rattle.std.specs.Prelude.{◌≡◌, ◌<◌, drop, length, IfOk};
 ghost use Rattle.csv.specs.Records.{fields_of};
 ghost use Rattle.batch_update.specs.Entry as spec;
 
-use crate::cells::{cells_from, has_long_cell};
+use crate::cells::cells_from;
 use crate::entry::Entry;
 use crate::kind::{Kind, kind_of};
 use crate::row_number::row_number;
 use csv::ByteRecord;
+use csv_load::has_long_cell;
 use rel_base::{Limits, Op, Why};
 use std::alloc::{AllocError, Global};
 

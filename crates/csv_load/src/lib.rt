@@ -12,3 +12,4 @@ mod tests;
 
 pub use load::{Reading, read_relation, records};
 pub use record_reader::RecordReader;
+pub use refusal::has_long_cell;

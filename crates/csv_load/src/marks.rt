@@ -1,4 +1,4 @@
-// Byte order marks.
+// What may stand before the first record: byte order marks.
 ghost use Rattle.std.specs.Prelude.{◌≡◌};
 ghost use Rattle.csv_load.specs.Records.{without_marks};
 

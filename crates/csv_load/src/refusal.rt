@@ -1,5 +1,5 @@
 // The rules that refuse a record.
-ghost use Rattle.std.specs.Prelude.{◌≡◌, ◌<◌, ◌≤◌, length};
+ghost use Rattle.std.specs.Prelude.{◌≡◌, ◌<◌, ◌≤◌, drop, length};
 ghost use Rattle.csv.specs.Records.{fields_of};
 ghost use Rattle.csv_load.specs.Refusal as spec;
 
@@ -13,7 +13,7 @@ pub(crate) fn header_refusal(limits: &Limits, names: &ByteRecord) -> Option<Why>
     if names.len() > limits.columns as usize {
         return Some(Why::Columns);
     }
-    if has_long_cell(limits.cell, names) {
+    if has_long_cell(limits.cell, names, 0) {
         return Some(Why::Cell);
     }
     None
@@ -32,7 +32,7 @@ pub(crate) fn row_refusal(
     if cells.len() != width {
         return Some(Why::Fields);
     }
-    if has_long_cell(limits.cell, cells) {
+    if has_long_cell(limits.cell, cells, 0) {
         return Some(Why::Cell);
     }
     if rec - 1 > limits.rows as u64 {
@@ -41,12 +41,12 @@ pub(crate) fn row_refusal(
     None
 }
 
-// Whether some cell has more bytes than the limit.
-fn has_long_cell(limit: u64, cells: &ByteRecord) -> bool
-    ensures { result ≡ spec.has_long_cell limit (fields_of cells.now) }
+/// Whether some field from this place on has more bytes than the limit.
+pub fn has_long_cell(limit: u64, fields: &ByteRecord, start: usize) -> bool
+    ensures { result ≡ spec.has_long_cell limit (drop start (fields_of fields.now)) }
 {
-    for place in 0..cells.len() {
-        let cell = cells.get(place).unwrap();
+    for place in start..fields.len() {
+        let cell = fields.get(place).unwrap();
         if cell.len() as u64 > limit {
             return true;
         }
