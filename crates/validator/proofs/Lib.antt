@@ -11,3 +11,4 @@ pub mod Chained
 pub mod NewRows
 pub mod WithFirst
 pub mod Answered
+pub mod Made

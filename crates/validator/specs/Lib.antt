@@ -1,5 +1,6 @@
 pub mod Verdicts
 pub mod Walk
+pub mod Weighed
 pub mod Kept
 pub mod Asking
 pub mod Chains

@@ -16,6 +16,7 @@ mod stores;
 mod tests;
 mod verdict;
 mod walk;
+mod weighed;
 
 pub use judge::validate;
 pub use old_groups::OldGroups;

@@ -11,6 +11,7 @@ ghost use Rattle.validator.specs.Walk.{IsClear, plus};
 ghost use Rattle.validator.specs.declared.shelf.Kept.{Kept};
 
 use crate::walk::{self, Question};
+use crate::weighed::{Weighed, unknown_of, weighed_by};
 use col_set::{ColSet, Target};
 use indexmap::IndexMap;
 use rel_base::{COLUMN_PLACES, MOST_COLUMNS, RowNo, Snapshot, Steps};
@@ -18,6 +19,7 @@ use std::alloc::{AllocError, Global};
 use std::hash::{BuildHasherDefault, DefaultHasher};
 use std::sync::Arc;
 use std::sync::ledger::Ledger;
+use std::thread::Threads;
 use stripped_partition::{Partition, Scratch};
 
 // The most columns of a set whose partition is kept, where it has few rows and else.
@@ -27,14 +29,14 @@ const MOST_LARGE_COLUMNS: u32 = 4;
 
 const FEW_KEPT_ROWS: usize = 1024;
 
-// Partitions by so many columns are shared with who works beside the owner.
-const MOST_SHARED_COLUMNS: u32 = 2;
-
 // The most partitions that are kept.
 const MOST_KEPT: usize = 16384;
 
+// Of so many columns at most the partitions are made before they are kept, or let go of.
+const MOST_AT_ONCE: u8 = 16;
+
 // The weight of a column whose partition was not made yet.
-const UNKNOWN: u32 = u32::MAX;
+pub(crate) const UNKNOWN: u32 = u32::MAX;
 
 // What is searched for: pairs of rows that break a dependency which holds among the rows below a number, up to so many.
 #[derive(Clone, Copy)]
@@ -55,7 +57,11 @@ pub(crate) struct Kept {
 
 impl Kept {
     // The partition by these columns, as it is kept.
-    fn of(alloc: Global, partition: Partition, columns: ColSet) -> Result<Kept, AllocError>
+    pub(crate) fn of(
+        alloc: Global,
+        partition: Partition,
+        columns: ColSet,
+    ) -> Result<Kept, AllocError>
         ensures partition { IfOk result (λ kept. kept.partition.value ≡ partition) }
         ensures columns { IfOk result (λ kept. kept.columns ≡ columns) }
         ensures kept { IfOk result (λ kept. (s : CodeTable) → AreGroupsBy s columns partition → IsKept s kept) }
@@ -90,8 +96,11 @@ pub(crate) type Places = IndexMap<ColSet, usize, BuildHasherDefault<DefaultHashe
 // Columns are taken by `order`: their weights here or, where these are not known, as they were for earlier rows.
 //
 // The first `settled` partitions stay for good. They have `rows` rows in their groups, of the `room` that there is, and a partition
-// is large with more than `large` rows. Those behind them are the path: what the last search made on its way and may not stay. No
-// two of the path are by equally many columns. `last` is the left side of the last search that came to the end of its groups.
+// is large with more than `large` rows. Those that another shelf made are not counted among the rows. Those behind the settled ones are
+// the path: what the last search made on its way and may not stay. No two of the path are by equally many columns. `last` is the left
+// side of the last search that came to the end of its groups.
+//
+// The first `levelled` partitions were handed to who works beside the owner.
 #[derive(Drop)]
 pub(crate) struct Shelf {
     pub(crate) kept: Vec<Kept>,
@@ -100,6 +109,7 @@ pub(crate) struct Shelf {
     pub(crate) places: Places,
     last: ColSet,
     settled: usize,
+    levelled: usize,
     rows: usize,
     room: usize,
     large: usize,
@@ -170,27 +180,6 @@ fn push_refined(
         .refine_unordered(alloc, snapshot, column, slots, scratch)?;
     kept.push(Kept::of(alloc, partition, columns)?)?;
     Ok(())
-}
-
-// Keeps the partition by a column, and answers its weight.
-#[tactic(auto, using(stripped_partition::proofs::Refining::in_its_order))]
-fn push_column(
-    alloc: Global,
-    snapshot: &Snapshot,
-    kept: &mut Vec<Kept>,
-    column: u8,
-) -> Result<u32, AllocError>
-    requires kept { AreKept snapshot.now kept.old.items }
-    requires column { column < length snapshot.now.codes }
-    requires bound { column < MOST_COLUMNS }
-    ensures kept { AreKept snapshot.now kept.new.items }
-    ensures weight { IfOk result (λ weight. weight ≡ weight_of snapshot.now column) }
-{
-    let partition = Partition::of_column(alloc, snapshot, column)?;
-    let weight = partition.error_count();
-    let columns = ColSet::empty().with(column);
-    kept.push(Kept::of(alloc, partition, columns)?)?;
-    Ok(weight)
 }
 
 // Keeps the partition by no column.
@@ -321,14 +310,14 @@ impl Shelf {
             places: Places::with_hasher(alloc, BuildHasherDefault::new()),
             last: ColSet::empty(),
             settled: 0,
+            levelled: 0,
             rows: 0,
             room,
             large: rows / 2,
         }
     }
 
-    // A shelf for the same snapshot with room for so many rows, beside the partitions by one and two columns that are kept here and which
-    // both share.
+    // A shelf for the same snapshot with room for so many rows, beside the partitions that stay here for good and which both share.
     pub(crate) fn beside(
         &self,
         alloc: Global,
@@ -340,15 +329,51 @@ impl Shelf {
     {
         let mut shelf = Shelf::of(alloc, rows, room, self.order);
         shelf.weights = self.weights;
-        for entry in self.kept.as_slice() {
-            let columns = entry.columns;
-            let k = shelf.kept.len();
-            if columns.len() <= MOST_SHARED_COLUMNS && note(&mut shelf.places, columns, k) {
-                shelf.kept.push(entry.shared()?)?;
-                shelf.settled = shelf.kept.len();
+        shelf.share(self, 0)?;
+        shelf.levelled = shelf.settled;
+        Ok(shelf)
+    }
+
+    // Shares those partitions that stay for good in another shelf of the same snapshot, were not levelled there yet and are lacking here.
+    // It lets go of the path if there are any.
+    pub(crate) fn take_over(&mut self, other: &Shelf) -> Result<(), AllocError>
+        ensures kept { (s : CodeTable) → AreKept s self.old.kept.items → AreKept s other.now.kept.items → AreKept s self.new.kept.items }
+        ensures weights { self.new.weights ≡ self.old.weights }
+    {
+        if other.levelled < other.settled {
+            self.share(other, other.levelled)?;
+        }
+        Ok(())
+    }
+
+    // Shares those partitions that stay for good in another shelf from a place on and are lacking here, and lets go of the path.
+    fn share(&mut self, other: &Shelf, from: usize) -> Result<(), AllocError>
+        ensures kept { (s : CodeTable) → AreKept s self.old.kept.items → AreKept s other.now.kept.items → AreKept s self.new.kept.items }
+        ensures weights { self.new.weights ≡ self.old.weights }
+    {
+        self.kept.truncate(self.settled);
+        for k in from..other.settled.min(other.kept.len()) {
+            let columns = other.kept[k].columns;
+            let place = self.kept.len();
+            if place < MOST_KEPT && self.lacks(columns) && note(&mut self.places, columns, place) {
+                self.kept.push(other.kept[k].shared()?)?;
+                self.settled = self.kept.len();
             }
         }
-        Ok(shelf)
+        Ok(())
+    }
+
+    // Whether no partition by these columns is kept.
+    fn lacks(&self, columns: ColSet) -> bool {
+        place_of(&self.kept, &self.places, columns).is_none()
+    }
+
+    // All that stays for good was handed to the others.
+    pub(crate) fn end_levelling(&mut self)
+        ensures kept { self.new.kept ≡ self.old.kept }
+        ensures weights { self.new.weights ≡ self.old.weights }
+    {
+        self.levelled = self.settled;
     }
 
     // Whether the place in the order of one of these columns is not known.
@@ -460,12 +485,70 @@ impl Shelf {
         ensures weights { AreWeights snapshot.now self.new.weights }
         ensures known { OnOk result (self.new.weights ≡ slice_set self.old.weights column (weight_of snapshot.now column)) }
     {
+        let weighed = Weighed::of(alloc, snapshot, column)?;
+        self.keep_weighed(weighed)
+    }
+
+    // Learns the weight of a column, and keeps the partition by it if that may stay.
+    fn keep_weighed(&mut self, weighed: Weighed) -> Result<(), AllocError>
+        requires { weighed.column < MOST_COLUMNS }
+        ensures kept { (s : CodeTable) → IsKept s weighed.kept → AreKept s self.old.kept.items → AreKept s self.new.kept.items }
+        ensures weights { self.new.weights ≡ slice_set self.old.weights weighed.column weighed.weight }
+    {
+        self.weights[weighed.column as usize] = weighed.weight;
+        self.order[weighed.column as usize] = weighed.weight;
         self.kept.truncate(self.settled);
-        let weight = push_column(alloc, snapshot, &mut self.kept, column)?;
-        self.weights[column as usize] = weight;
-        self.order[column as usize] = weight;
+        self.kept.push(weighed.kept)?;
         self.settle();
         self.kept.truncate(self.settled);
+        Ok(())
+    }
+
+    // Learns the weights that are not known yet, by so many threads at most.
+    pub(crate) fn weigh_by<R: Threads + Sync>(
+        &mut self,
+        rt: &R,
+        alloc: Global,
+        snapshot: &Snapshot,
+        workers: u8,
+    ) -> Result<(), AllocError>
+        requires kept { AreKept snapshot.now self.old.kept.items }
+        requires weights { AreWeights snapshot.now self.old.weights }
+        ensures kept { AreKept snapshot.now self.new.kept.items }
+        ensures weights { AreWeights snapshot.now self.new.weights }
+    {
+        let count = snapshot.columns();
+        let mut first = 0;
+        while first < count {
+            let end = count.min(first.saturating_add(MOST_AT_ONCE));
+            self.weigh_some(rt, alloc, snapshot, first, end, workers)?;
+            first = end;
+        }
+        Ok(())
+    }
+
+    // Learns the weights that are not known yet of the columns from the first up to the end, by so many threads at most.
+    fn weigh_some<R: Threads + Sync>(
+        &mut self,
+        rt: &R,
+        alloc: Global,
+        snapshot: &Snapshot,
+        first: u8,
+        end: u8,
+        workers: u8,
+    ) -> Result<(), AllocError>
+        requires kept { AreKept snapshot.now self.old.kept.items }
+        requires weights { AreWeights snapshot.now self.old.weights }
+        requires end { end ≤ length snapshot.now.codes }
+        ensures kept { AreKept snapshot.now self.new.kept.items }
+        ensures weights { AreWeights snapshot.now self.new.weights }
+    {
+        // `columns` is called for its clause that there are at most `MOST_COLUMNS`.
+        let _count = snapshot.columns();
+        let unknown = unknown_of(alloc, &self.weights, first, end)?;
+        for weighed in weighed_by(rt, alloc, snapshot, &unknown, workers)? {
+            self.keep_weighed(weighed)?;
+        }
         Ok(())
     }
 

@@ -19,6 +19,7 @@ use std::marker::Model;
 use std::mem;
 use std::sync::Arc;
 use std::sync::ledger::Ledger;
+use std::thread::Threads;
 use stripped_partition::Scratch;
 
 // So many live rows are few enough that new ones are looked up whatever the column.
@@ -91,8 +92,8 @@ impl Store {
     }
 
     /// A store for the same snapshot, with room for this many row numbers, that goes by the weights which this one found: so who works
-    /// beside its owner takes the same columns first. The partitions by one and two columns that are kept here are shared with it, and
-    /// come on top of its room; it has no others.
+    /// beside its owner takes the same columns first. The partitions that are kept here are shared with it, and come on top of its room,
+    /// since they take no memory of their own; it has no others.
     pub fn another(&self, alloc: Global, room: usize) -> Result<Store, AllocError>
         ensures { IfOk result (λ store. store ≡ self.now) }
     {
@@ -108,6 +109,21 @@ impl Store {
             earlier: None,
             room,
         })
+    }
+
+    // Shares what another store of the same snapshot keeps for good, as far as that is new and lacking here. It comes on top of the room.
+    pub(crate) fn take_over(&mut self, other: &Store) -> Result<(), AllocError>
+        requires { other.now ≡ self.old }
+        ensures { self.new ≡ self.old }
+    {
+        self.shelf.take_over(&other.shelf)
+    }
+
+    // All that is kept for good was handed to the other stores.
+    pub(crate) fn end_levelling(&mut self)
+        ensures { self.new ≡ self.old }
+    {
+        self.shelf.end_levelling();
     }
 
     /// Goes over to another snapshot, mostly a later one of the same relation. It takes no memory, and some steps a column. What it
@@ -205,6 +221,21 @@ impl Store {
         ensures store { self.new ≡ self.old }
     {
         self.shelf.weights(alloc, &self.snapshot)
+    }
+
+    /// The weights as `weights` tells them. The partitions that it makes are made by so many threads at most, sixteen of them beside
+    /// each other before the first is kept or let go of; by the caller's thread alone where that is one worker, or live rows are few.
+    pub fn weights_by<R: Threads + Sync>(
+        &mut self,
+        rt: &R,
+        alloc: Global,
+        workers: u8,
+    ) -> Result<[u32; COLUMN_PLACES], AllocError>
+        ensures weights { IfOk result (λ weights. (column : ℕ) → column < length self.old.codes → slice_index weights column ≡ error_of (stripped self.old (with empty column))) }
+        ensures store { self.new ≡ self.old }
+    {
+        self.shelf.weigh_by(rt, alloc, &self.snapshot, workers)?;
+        self.weights(alloc)
     }
 
     // The column of the left side by which new rows are looked up, where they are few: the one that tells the most rows apart, as far

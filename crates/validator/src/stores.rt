@@ -36,8 +36,8 @@ impl Stores {
         })
     }
 
-    /// Makes further stores until there are so many in all. They share what the own one has for them (`Store::another`), and of its
-    /// room each has a part.
+    /// Makes further stores until there are so many in all. They share what the own one keeps (`Store::another`), and of its room each
+    /// has a part for what it makes itself.
     pub fn spread(&mut self, alloc: Global, workers: u8) -> Result<(), AllocError>
         requires { AreOf self.old.own self.old }
         ensures { AreOf self.old.own self.new }
@@ -47,6 +47,27 @@ impl Stores {
             let other = self.own.another(alloc, room)?;
             self.others.push(other)?;
         }
+        Ok(())
+    }
+
+    /// Hands round what the stores keep: each shares what the others made since it was last called, as far as it lacks it and may keep so
+    /// many partitions. So what one thread has made serves all that work after this call.
+    ///
+    /// It copies no groups, and what is shared comes on top of a store's room. It takes a look-up for each new partition and each
+    /// store. What the stores made on their way and may not keep goes where there is something to share. After want of memory they
+    /// are as useful as before.
+    pub fn level(&mut self) -> Result<(), AllocError>
+        requires { AreOf self.old.own self.old }
+        ensures { AreOf self.old.own self.new }
+    {
+        for k in 0..self.others.len() {
+            self.own.take_over(&self.others[k])?;
+        }
+        for k in 0..self.others.len() {
+            self.others[k].take_over(&self.own)?;
+            self.others[k].end_levelling();
+        }
+        self.own.end_levelling();
         Ok(())
     }
 

@@ -2,6 +2,7 @@
 ghost use Rattle.std.specs.Prelude.{◌≡◌, ◌<◌, ◌≤◌, IsTrue};
 ghost use Rattle.col_set.specs.Target.{IsColumnTarget};
 ghost use Rattle.rel_base.specs.Alike.{Alike};
+ghost use Rattle.validator.specs.Stores.{AreOf};
 ghost use Rattle.validator.specs.Verdicts.{IsFitting};
 
 mod sample;
@@ -209,6 +210,38 @@ fn is_determined(
     Ok(pairs.is_empty())
 }
 
+// Whether the first column determines the second one, as each further store tells after what the stores keep was handed round.
+fn is_determined_by_each(
+    alloc: Global,
+    rt: &impl Abort,
+    sample: &Sample,
+    stores: &mut Stores,
+) -> Result<bool, AllocError>
+    requires { AreOf sample.now.snapshot.value stores.old }
+    ensures { AreOf sample.now.snapshot.value stores.new }
+{
+    let wanted = is_determined(alloc, rt, sample, &mut stores.own)?;
+    stores.level()?;
+    for k in 0..stores.others.len() {
+        let found = is_determined(alloc, rt, sample, &mut stores.others[k])?;
+        assert!(rt; found == wanted);
+    }
+    stores.level()?;
+    Ok(wanted)
+}
+
+#[test]
+fn weights_are_found_by_several_threads(rt: HostRuntime) -> Result<(), Fail> {
+    let alloc = rt.alloc();
+    let sample = drawn(alloc, &rt, &mut Samples::from_seed(1969))?;
+    for workers in 0..3 {
+        let mut store = Store::of(alloc, sample.snapshot.clone()?, 1000);
+        assert!(rt; sample.weighs(&store.weights_by(&rt, alloc, workers)?));
+        assert!(rt; sample.weighs(&store.weights_by(&rt, alloc, workers)?));
+    }
+    Ok(())
+}
+
 #[test]
 fn stores_of_one_snapshot_are_lent_and_taken_back(rt: HostRuntime) -> Result<(), Fail> {
     let alloc = rt.alloc();
@@ -217,6 +250,7 @@ fn stores_of_one_snapshot_are_lent_and_taken_back(rt: HostRuntime) -> Result<(),
     let wanted = is_determined(alloc, &rt, &sample, &mut stores.own)?;
     stores.spread(alloc, 3)?;
     assert!(rt; stores.others.len() == 2);
+    assert!(rt; is_determined_by_each(alloc, &rt, &sample, &mut stores)? == wanted);
     let lent = stores.lend(alloc, &sample.snapshot, 4)?;
     assert!(rt; lent.len() == 4 && lent[2].is_some() && lent[3].is_none());
     assert!(rt; stores.others.is_empty());
