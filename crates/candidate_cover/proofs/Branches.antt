@@ -1,8 +1,8 @@
 -- The least sets from a chosen set on, by those with one more column and those without it.
-use Rattle.std.proofs.Common.{inl, inr, ◌≡◌, ◌⊎◌, ℕ, ◌+◌, ◌<◌, ◌≤◌, Bool, true, false, not, ◌&&◌, ◌||◌, eqb, refl, sym, ap, ap₂, ◌∙◌, subst, List, [], ◌∷◌, ◌++◌, if◌then◌else◌, cond, length, map, get_or, take, drop, arith}
+use Rattle.std.proofs.Common.{inl, inr, ◌≡◌, ◌⊎◌, ℕ, ◌+◌, ◌-◌, ◌<◌, ◌≤◌, Bool, true, false, not, ◌&&◌, ◌||◌, eqb, refl, sym, ap, ap₂, ◌∙◌, subst, List, [], ◌∷◌, ◌++◌, if◌then◌else◌, cond, length, map, get_or, take, drop, arith}
 use Rattle.std.specs.List.{filter, list_any}
 use Rattle.std.proofs.lemmas.Bool.{true≢false, false≢true, and_parts, and_from, or_cases, or_left, or_right, not-true, not_from_false, false_from_ne_true, true_from_ne_false, eqb-true, eq-eqb, ne_eqb, cases_Bool}
-use Rattle.std.proofs.lemmas.List.{append-nil, append_assoc, length-take-le, take-append-drop}
+use Rattle.std.proofs.lemmas.List.{append-nil, append_assoc, length-take-le, take-append-drop, drop-drop, drop_more, drop_all}
 use Rattle.std.proofs.lemmas.List.Elements.{filter-append}
 use Rattle.std.proofs.lemmas.Grind.{flat_map-append}
 use Rattle.std.proofs.lemmas.List.Folds.{list_any-append}
@@ -458,13 +458,53 @@ kept_cover free ws kept real all x i = same_test (covered kept x) (covered ws x)
         let v = list_any_which (λ v. subset (inter w.set free) v) kept (all w.set w.listed) in
         covered_at kept x v.0 v.1 (record { each = λ k g. (subset-true v.2).each k (has-inter w.set free k ∙ and_from _ _ (w.inside.each k g) (i.each k g)) })
 
--- what is found in the front of a list is found in the list
-pub found_in_part : (p : ℕ → Bool) (n : ℕ) (xs ys : List ℕ) → xs ≡ ys → list_any p (take n xs) ≡ true → list_any p ys ≡ true
-found_in_part p n xs ys e h =
-    ap (list_any p) (sym e ∙ sym (take-append-drop n xs)) ∙ list_any-append p (take n xs) (drop n xs) ∙ or_left _ _ h
+-- what was kept and those from a place on contain among the columns what all contain
+pub record CoversWithRest (free : ℕ) (ws : List ℕ) (place : ℕ) (kept : List ℕ) : Type 0 where
+  pub same : (x : ℕ) → IsSubset x free → covered (kept ++ drop place ws) x ≡ covered ws x
 
-pub outermost_cover : (ws : List ℕ) (free : ℕ) (rest kept : List ℕ) → rest ≡ [] → OutermostSoFar ws free rest kept → (x : ℕ) → IsSubset x free → covered kept x ≡ covered ws x
-outermost_cover ws free rest kept e o = kept_cover free ws kept o.real (outermost_all ws free rest kept e o)
+pub with_rest-none : (free : ℕ) (ws kept : List ℕ) → kept ≡ [] → CoversWithRest free ws 0 kept
+with_rest-none free ws kept e = record { same = λ x i. ap (λ (vs : List ℕ). covered (vs ++ ws) x) e }
+
+pub with_rest-kept : (free : ℕ) (ws : List ℕ) (place : ℕ) (kept kept' : List ℕ) (w : ℕ) → place < length ws → w ≡ get_or ws place w → kept' ≡ kept ++ w ∷ [] → CoversWithRest free ws place kept → CoversWithRest free ws (place + 1) kept'
+with_rest-kept free ws place kept kept' w l is e c = record {
+  same = λ x i. ap (λ (vs : List ℕ). covered (vs ++ drop (place + 1) ws) x) e ∙ ap (λ (vs : List ℕ). covered vs x) (append_assoc kept (w ∷ []) (drop (place + 1) ws) ∙ ap (λ (vs : List ℕ). kept ++ vs) (sym (drop_more ws place w l ∙ ap (λ (u : ℕ). u ∷ drop (place + 1) ws) (sym is)))) ∙ c.same x i;
+}
+
+pub with_rest-left : (free : ℕ) (ws : List ℕ) (place end : ℕ) (kept : List ℕ) (w : ℕ) → place < length ws → place < end → w ≡ get_or ws place w → list_any (λ v. subset (inter w free) v) (drop end ws) ≡ true → CoversWithRest free ws place kept → CoversWithRest free ws (place + 1) kept
+with_rest-left free ws place end kept w l further is h c = record { same = λ x i. same_test _ _ (there x i) (back x i) ∙ c.same x i }
+  where
+    split : drop place ws ≡ w ∷ drop (place + 1) ws
+    split = drop_more ws place w l ∙ ap (λ (u : ℕ). u ∷ drop (place + 1) ws) (sym is)
+
+    there : (x : ℕ) → IsSubset x free → covered (kept ++ drop (place + 1) ws) x ≡ true → covered (kept ++ drop place ws) x ≡ true
+    there x i e =
+        let u = covered_which (kept ++ drop (place + 1) ws) x e in
+        covered_at (kept ++ drop place ws) x u.set (elim (Listed-append_cases u.set kept (drop (place + 1) ws) u.listed) as (λ _. Listed u.set (kept ++ drop place ws)) [
+          | inl g ↦ Listed-append_left u.set kept (drop place ws) g
+          | inr g ↦ Listed-append_right u.set kept (drop place ws) (subst (Listed u.set) (sym split) (inr g))
+        ]) u.inside
+
+    later : (v : ℕ) → Listed v (drop end ws) → Listed v (drop (place + 1) ws)
+    later v h =
+        let e : drop end ws ≡ drop (end - (place + 1)) (drop (place + 1) ws) = (let m : place + 1 + (end - (place + 1)) ≡ end = omega (arith, further) in ap (λ (k : ℕ). drop k ws) (sym m) ∙ sym (drop-drop (end - (place + 1)) (place + 1) ws)) in
+        subst (Listed v) (take-append-drop (end - (place + 1)) (drop (place + 1) ws)) (Listed-append_right v (take (end - (place + 1)) (drop (place + 1) ws)) (drop (end - (place + 1)) (drop (place + 1) ws)) (subst (Listed v) e h))
+
+    back : (x : ℕ) → IsSubset x free → covered (kept ++ drop place ws) x ≡ true → covered (kept ++ drop (place + 1) ws) x ≡ true
+    back x i e =
+        let u = covered_which (kept ++ drop place ws) x e in
+        let v = list_any_which (λ v. subset (inter w free) v) (drop end ws) h in
+        elim (Listed-append_cases u.set kept (drop place ws) u.listed) as (λ _. covered (kept ++ drop (place + 1) ws) x ≡ true) [
+          | inl g ↦ covered_at (kept ++ drop (place + 1) ws) x u.set (Listed-append_left u.set kept (drop (place + 1) ws) g) u.inside
+          | inr g ↦ elim (subst (Listed u.set) split g) as (λ _. covered (kept ++ drop (place + 1) ws) x ≡ true) [
+            | inl m ↦ covered_at (kept ++ drop (place + 1) ws) x v.0 (Listed-append_right v.0 kept (drop (place + 1) ws) (later v.0 v.1)) (record {
+              each = λ k f. (subset-true v.2).each k (has-inter w free k ∙ and_from _ _ (subst (λ (z : ℕ). has z k ≡ true) m (u.inside.each k f)) (i.each k f));
+            })
+            | inr m ↦ covered_at (kept ++ drop (place + 1) ws) x u.set (Listed-append_right u.set kept (drop (place + 1) ws) m) u.inside
+          ]
+        ]
+
+pub with_rest-all : (free : ℕ) (ws kept : List ℕ) (place : ℕ) → length ws ≤ place → CoversWithRest free ws place kept → (x : ℕ) → IsSubset x free → covered kept x ≡ covered ws x
+with_rest-all free ws kept place l c x i = ap (λ (vs : List ℕ). covered vs x) (sym (append-nil kept) ∙ ap (λ (vs : List ℕ). kept ++ vs) (sym (drop_all place ws l))) ∙ c.same x i
 
 pub outermost_tell : (free : ℕ) (ws : List ℕ) (t : Target) (lacking kept : List ℕ) → lacking ≡ filter (λ w. not (has_target w t)) ws → ((w : ℕ) → Listed w kept → Listed w lacking) → ((w : ℕ) → Listed w lacking → list_any (λ v. subset (inter w free) v) kept ≡ true) → (x : ℕ) → IsSubset x free → covered kept x ≡ refuted ws t x
 outermost_tell free ws t lacking kept e real all x i = kept_cover free lacking kept real all x i ∙ ap (λ us. covered us x) e ∙ covered_refuted ws t x

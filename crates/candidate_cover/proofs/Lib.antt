@@ -1,4 +1,5 @@
 pub mod Branches
+pub mod Changed
 pub mod Cuts
 pub mod Drafted
 pub mod Drafting
@@ -16,3 +17,4 @@ pub mod Targets
 pub mod Toggling
 pub mod Filed
 pub mod Firsts
+pub mod Within

@@ -412,26 +412,39 @@ fn outermost(
     Ok(kept)
 }
 
+// Where the run ends that begins at a place: before the first set that has more columns than the one before it.
+fn run_end(sets: &[ColSet], place: usize) -> usize
+    requires { place < length sets.now }
+    ensures further { place < result }
+    ensures within { result ≤ length sets.now }
+{
+    for end in place + 1..sets.len() {
+        if sets[end].len() > sets[end - 1].len() {
+            return end;
+        }
+    }
+    sets.len()
+}
+
 // Of agree sets of which none lies inside an earlier one those that lie, as far as the columns go, inside no other.
 //
-// They came in runs, the large ones of each first, so one lies inside another of a later run at most: of one run all stay.
+// They came in runs, the large ones of each first, so one lies inside another of a later run at most: of one run all stay. The large ones
+// stand first in the answer too, since another is looked for among them soon.
 pub(crate) fn outermost_of_filed(
     alloc: Global,
     columns: ColSet,
-    agree_sets: Vec<ColSet>,
+    agree_sets: &[ColSet],
 ) -> Result<Vec<ColSet>, AllocError>
-    ensures { IfOk result (λ kept. (x : ℕ) → IsSubset x columns → covered kept.items x ≡ covered agree_sets.items x) }
+    ensures { IfOk result (λ kept. (x : ℕ) → IsSubset x columns → covered kept.items x ≡ covered agree_sets.now x) }
 {
-    let mut rest = agree_sets;
-    let mut kept = Vec::new(alloc);
-    let mut later = 0;
-    let mut before = 0;
-    while let Some(w) = rest.pop() {
-        if w.len() < before {
-            later = kept.len();
+    let mut kept = Vec::with_capacity(alloc, agree_sets.len())?;
+    let mut end = 0;
+    for place in 0..agree_sets.len() {
+        if place >= end {
+            end = run_end(agree_sets, place);
         }
-        before = w.len();
-        if !is_inside(&kept[..later], columns, w) {
+        let w = agree_sets[place];
+        if !is_inside(&agree_sets[end..], columns, w) {
             kept.push(w)?;
         }
     }

@@ -1,5 +1,5 @@
 // Candidates and their marks.
-ghost use Rattle.std.specs.Prelude.{◌≡◌, max, false};
+ghost use Rattle.std.specs.Prelude.{◌≡◌, false};
 ghost use Rattle.candidate_cover.specs.Marks.{fresh_mark};
 
 use rel_base::{ColSet, RowNo};
@@ -35,14 +35,6 @@ impl Mark {
             upto: RowNo::first(),
             held: false,
         }
-    }
-
-    // Known to hold up to there at least, and no longer held.
-    pub(crate) fn marked(self, to: RowNo) -> Mark
-        ensures { result ≡ record { upto = max self.upto to; held = false } }
-    {
-        let upto = if self.upto < to { to } else { self.upto };
-        Mark { upto, held: false }
     }
 
     // No longer held.

@@ -8,7 +8,7 @@ ghost use Rattle.candidate_cover.specs.Cands as words;
 ghost use Rattle.candidate_cover.specs.Cands.{from, all_free, kept_or_fresh};
 ghost use Rattle.candidate_cover.specs.AllMarked.{all_marked, refreshed};
 ghost use Rattle.candidate_cover.specs.Marks.{cand, cands, fresh_mark};
-ghost use Rattle.candidate_cover.specs.Pairs.{pairs_of, AreEven, keys, is_key, value_at, with_value, toggled};
+ghost use Rattle.candidate_cover.specs.Pairs.{pairs_of, AreEven, keys, value_at, toggled};
 ghost use Rattle.candidate_cover.specs.Pairs as pairs;
 ghost use Rattle.candidate_cover.specs.declared.cand.Cand.{Cand};
 
@@ -173,15 +173,30 @@ impl CandList {
         }
     }
 
-    // Gives x these marks if it is there, and answers whether it is.
-    pub(crate) fn set(&mut self, x: ColSet, mark: Mark) -> bool
-        ensures found { result ≡ is_key self.old x }
-        ensures pairs { self.new ≡ with_value self.old x mark }
+    // Notes that x is known to hold up to there at least and that nobody holds it, and answers whether it is there.
+    pub(crate) fn mark(&mut self, x: ColSet, to: RowNo) -> bool
+        ensures found { result ≡ words.is_listed (cands self.old) x }
+        ensures list { cands self.new ≡ words.marked (cands self.old) x to }
     {
         match place_about(self.lists.sets.as_slice(), self.last, x) {
             Ok(place) => {
-                self.lists.uptos[place] = mark.upto;
-                self.lists.helds[place] = mark.held;
+                self.lists.uptos[place] = later(self.lists.uptos[place], to);
+                self.lists.helds[place] = false;
+                self.last = place;
+                true
+            }
+            Err(_) => false,
+        }
+    }
+
+    // Holds x or lets go of it, and answers whether it is there.
+    pub(crate) fn hold(&mut self, x: ColSet, held: bool) -> bool
+        ensures found { result ≡ words.is_listed (cands self.old) x }
+        ensures list { cands self.new ≡ words.holding (cands self.old) x held }
+    {
+        match place_about(self.lists.sets.as_slice(), self.last, x) {
+            Ok(place) => {
+                self.lists.helds[place] = held;
                 self.last = place;
                 true
             }
@@ -259,7 +274,7 @@ impl CandList {
     }
 
     // These left sides, each with the marks that it has here, or fresh ones. Where one is here that follows the one before it, it
-    // is found in a step.
+    // is found in a step, and else among the next few where it stands there.
     pub(crate) fn with_lefts(
         &self,
         alloc: Global,

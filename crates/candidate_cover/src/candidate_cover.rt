@@ -14,7 +14,7 @@ ghost use Rattle.candidate_cover.specs.Marks.{cand, cands};
 ghost use Rattle.candidate_cover.specs.declared.cand.Cand.{Cand};
 ghost use Rattle.candidate_cover.specs.declared.cand.Marking.TheVariants.{Marked, Dropped};
 
-use crate::cand::{Cand, Mark, Marking};
+use crate::cand::{Cand, Marking};
 use crate::cand_list::CandList;
 use crate::draft::Draft;
 use crate::explore::explored;
@@ -200,8 +200,8 @@ impl CandidateCover {
         ensures list { self.new ≡ with_list self.old target (holding (cands_of self.old target) x held) }
     {
         match target {
-            Target::Col(column) => hold_in(&mut self.columns[column as usize], x, held),
-            Target::RowId => hold_in(&mut self.row_id, x, held),
+            Target::Col(column) => self.columns[column as usize].hold(x, held),
+            Target::RowId => self.row_id.hold(x, held),
         }
     }
 
@@ -351,27 +351,9 @@ fn mark_in(list: &mut CandList, x: ColSet, to: RowNo) -> Marking
     ensures answer { result ≡ (if is_listed (cands list.old) x then Marked else Dropped) }
     ensures list { cands list.new ≡ marked (cands list.old) x to }
 {
-    match list.get(x) {
-        Some(mark) => {
-            list.set(x, mark.marked(to));
-            Marking::Marked
-        }
-        None => Marking::Dropped,
-    }
-}
-
-fn hold_in(list: &mut CandList, x: ColSet, held: bool) -> bool
-    ensures answer { result ≡ is_listed (cands list.old) x }
-    ensures list { cands list.new ≡ holding (cands list.old) x held }
-{
-    match list.get(x) {
-        Some(mark) => list.set(
-            x,
-            Mark {
-                upto: mark.upto,
-                held,
-            },
-        ),
-        None => false,
+    if list.mark(x, to) {
+        Marking::Marked
+    } else {
+        Marking::Dropped
     }
 }

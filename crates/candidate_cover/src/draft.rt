@@ -75,7 +75,7 @@ impl Draft {
         let news = &self.filing.agree_sets()[self.made..];
         if count_lacking(news, target) > FEW {
             let choices = choices(columns, target);
-            let outer = self.filing.outer(target).to_vec(alloc)?;
+            let outer = self.filing.outer(target);
             let kept = outermost_of_filed(alloc, choices, outer)?;
             let sets = uncovered(alloc, choices, kept)?;
             return Ok(sets);

@@ -38,7 +38,26 @@ fn are_after(sets: &[ColSet], place: usize, x: ColSet) -> bool
     x.cmp_report(sets[place]).is_lt()
 }
 
-// The place of the set, or the place at which it would stand, by a look at one place and the one before it first.
+// The place of the set, or the place at which it would stand, where it stands between two places.
+fn place_between(sets: &[ColSet], start: usize, end: usize, x: ColSet) -> Result<usize, usize>
+    requires order { Rises report_cmp sets.now }
+    requires start { start ≤ end }
+    requires end { end ≤ length sets.now }
+    requires before { (k d : ℕ) → k < start → report_cmp (slice_index_or sets.now k d) x ≡ Less }
+    requires after { (k d : ℕ) → end ≤ k → k < length sets.now → report_cmp x (slice_index_or sets.now k d) ≡ Less }
+    ensures { IsPlace sets.now x result }
+{
+    match place_of(&sets[start..end], x) {
+        Ok(place) => Ok(start + place),
+        Err(place) => Err(start + place),
+    }
+}
+
+// So many places from the first one on are searched before the whole list is.
+const NEXT: usize = 64;
+
+// The place of the set, or the place at which it would stand, by a look at one place and the one before it first, and at those
+// that follow next.
 pub(crate) fn place_near(sets: &[ColSet], first: usize, x: ColSet) -> Result<usize, usize>
     requires { Rises report_cmp sets.now }
     ensures { IsPlace sets.now x result }
@@ -49,8 +68,15 @@ pub(crate) fn place_near(sets: &[ColSet], first: usize, x: ColSet) -> Result<usi
     if first < sets.len() && sets[first] == x {
         return Ok(first);
     }
-    if are_before(sets, first, x) && are_after(sets, first, x) {
+    if !are_before(sets, first, x) {
+        return place_of(sets, x);
+    }
+    if are_after(sets, first, x) {
         return Err(first);
+    }
+    let end = sets.len().min(first.saturating_add(NEXT));
+    if are_after(sets, end, x) {
+        return place_between(sets, first, end, x);
     }
     place_of(sets, x)
 }

@@ -12,12 +12,11 @@ use Rattle.candidate_cover.proofs.draft.Draft.left_sides.Goals as goal
 
 pub returns-then-count_lacking-gt-FEW : goal.returns-then-count_lacking-gt-FEW
 returns-then-count_lacking-gt-FEW c =
-    let outer : c.in_ok-outer.outer.items ≡ c.outer.result.now = search rules in
     let filed : c.self.inside.filing.agree_sets ≡ c.args.self.now.agree_sets = ap (λ (d : Drafted). d.agree_sets) c.self.view_is in
     let wide : c.columns-columns.result ≡ c.args.self.now.width = c.columns-columns.ensures.width ∙ c.self.invariant.2 ∙ ap (λ (d : Drafted). d.width) c.self.view_is in
     let chosen : c.choices-choices.result ≡ choices c.args.self.now.width c.args.target = c.choices-choices.ensures ∙ ap (λ (n : ℕ). choices n c.args.target) wide in
     branched_least (choices c.args.self.now.width c.args.target) c.args.self.now.agree_sets c.args.target c.in_ok-kept.kept.items c.in_ok-sets.sets.items
-    (λ x i. c.in_ok-kept.ensures x (subst (IsSubset x) (sym chosen) i) ∙ ap (λ (vs : List ℕ). covered vs x) outer ∙ c.outer.ensures x ∙ ap (λ (vs : List ℕ). refuted vs c.args.target x) filed)
+    (λ x i. c.in_ok-kept.ensures x (subst (IsSubset x) (sym chosen) i) ∙ c.outer-outer.ensures x ∙ ap (λ (vs : List ℕ). refuted vs c.args.target x) filed)
     (subst (λ (u : ℕ). HasBranched c.in_ok-kept.kept.items 0 u [] c.in_ok-sets.sets.items) chosen c.in_ok-sets.ensures)
 
 pub returns : goal.returns

@@ -1,0 +1,44 @@
+use Rattle.std.proofs.Common.{◌∙◌, sym, ap, subst, max, false}
+use Rattle.col_set.specs.ColSet.{report_cmp}
+use Rattle.col_set.specs.Lists.{Rises}
+use Rattle.candidate_cover.specs.declared.cand.Cand.{Cand}
+use Rattle.candidate_cover.specs.declared.cand.Mark.{Mark}
+use Rattle.candidate_cover.specs.Cands.{is_listed, marked}
+use Rattle.candidate_cover.specs.Marks.{cands}
+use Rattle.candidate_cover.specs.Pairs.{pairs_of}
+use Rattle.candidate_cover.proofs.Places.{is_key-stands, is_key-lacks}
+use Rattle.candidate_cover.proofs.Flat.{flat_rises, stands_keys, lacks_keys, even-set}
+use Rattle.candidate_cover.proofs.Remarked.{is_listed-cands, untouched}
+use Rattle.candidate_cover.proofs.Changed.{changed, changed_order}
+use Rattle.candidate_cover.proofs.cand_list.CandList.mark.Goals as goal
+
+pub place_about-requires : goal.place_about-requires
+place_about-requires c = subst (Rises report_cmp) (sym c.as_slice.ensures.value) (flat_rises c.self.inside.lists.sets.items c.self.inside.lists.uptos.items c.self.inside.lists.helds.items c.self.invariant.0 c.self.invariant.1)
+
+pub invariant_of-self : goal.invariant_of-self
+invariant_of-self c = (
+  even-set c.self.inside.lists.sets.items c.self.inside.lists.uptos.items c.self.inside.lists.helds.items c.in-Ok.place c.later.result false c.self.invariant.0,
+  changed_order c.self.inside.lists.sets.items c.self.inside.lists.uptos.items c.self.inside.lists.helds.items c.self.invariant.0 c.self.invariant.1 c.in-Ok.place c.later.result false,
+)
+
+pub returns-in-Ok-clause-found : goal.returns-in-Ok-clause-found
+returns-in-Ok-clause-found c =
+    sym (is_listed-cands (pairs_of c.self.inside.lists.sets.items c.self.inside.lists.uptos.items c.self.inside.lists.helds.items) c.args.x ∙ is_key-stands (pairs_of c.self.inside.lists.sets.items c.self.inside.lists.uptos.items c.self.inside.lists.helds.items) c.args.x c.in-Ok.place (stands_keys c.self.inside.lists.sets.items c.self.inside.lists.uptos.items c.self.inside.lists.helds.items c.self.invariant.0 c.args.x c.as_slice.result.now c.in-Ok.place c.as_slice.ensures.value c.in-Ok.ensures))
+    ∙ ap (λ ps. is_listed (cands ps) c.args.x) c.self.view_is
+
+pub returns-in-Err-clause-found : goal.returns-in-Err-clause-found
+returns-in-Err-clause-found c =
+    sym (is_listed-cands (pairs_of c.self.inside.lists.sets.items c.self.inside.lists.uptos.items c.self.inside.lists.helds.items) c.args.x ∙ is_key-lacks (pairs_of c.self.inside.lists.sets.items c.self.inside.lists.uptos.items c.self.inside.lists.helds.items) c.args.x c.in-Err.field-0 (lacks_keys c.self.inside.lists.sets.items c.self.inside.lists.uptos.items c.self.inside.lists.helds.items c.self.invariant.0 c.args.x c.as_slice.result.now c.in-Err.field-0 c.as_slice.ensures.value c.in-Err.ensures))
+    ∙ ap (λ ps. is_listed (cands ps) c.args.x) c.self.view_is
+
+pub returns-in-Ok-clause-list : goal.returns-in-Ok-clause-list
+returns-in-Ok-clause-list c =
+    let f : Mark → Mark = λ m. record { upto = max m.upto c.args.to; held = false } in
+    changed c.self.inside.lists.sets.items c.self.inside.lists.uptos.items c.self.inside.lists.helds.items c.self.invariant.0 c.self.invariant.1 c.args.x c.in-Ok.place c.index.result.now (stands_keys c.self.inside.lists.sets.items c.self.inside.lists.uptos.items c.self.inside.lists.helds.items c.self.invariant.0 c.args.x c.as_slice.result.now c.in-Ok.place c.as_slice.ensures.value c.in-Ok.ensures) c.index.ensures f c.later.result false (λ i. record { upto = c.later.ensures i; held = false })
+    ∙ ap (λ ps. marked (cands ps) c.args.x c.args.to) c.self.view_is
+
+pub returns-in-Err-clause-list : goal.returns-in-Err-clause-list
+returns-in-Err-clause-list c =
+    let g : Cand → Cand = λ c'. record { left = c.args.x; upto = max c'.upto c.args.to; held = false } in
+    ap cands (sym c.self.view_is) ∙ untouched g (pairs_of c.self.inside.lists.sets.items c.self.inside.lists.uptos.items c.self.inside.lists.helds.items) c.args.x (is_key-lacks (pairs_of c.self.inside.lists.sets.items c.self.inside.lists.uptos.items c.self.inside.lists.helds.items) c.args.x c.in-Err.field-0 (lacks_keys c.self.inside.lists.sets.items c.self.inside.lists.uptos.items c.self.inside.lists.helds.items c.self.invariant.0 c.args.x c.as_slice.result.now c.in-Err.field-0 c.as_slice.ensures.value c.in-Err.ensures))
+    ∙ ap (λ ps. marked (cands ps) c.args.x c.args.to) c.self.view_is
