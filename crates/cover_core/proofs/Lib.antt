@@ -7,6 +7,7 @@ pub mod Putting
 pub mod Measure
 pub mod Booking
 pub mod Refuting
+pub mod Together
 pub mod Calls
 pub mod Cursors
 pub mod Upto

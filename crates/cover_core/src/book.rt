@@ -5,7 +5,7 @@ ghost use Rattle.std.specs.List.{All};
 ghost use Rattle.col_set.specs.Target.{IsColumnTarget};
 ghost use Rattle.rel_base.specs.JobParts.{JobParts};
 ghost use Rattle.rel_base.specs.RowState.{opened, width};
-ghost use Rattle.rel_base.specs.Shows.{holds_in};
+ghost use Rattle.rel_base.specs.Shows.{Shows, holds_in};
 ghost use Rattle.rel_base.specs.Covers.{covers};
 ghost use Rattle.rel_base.specs.Batches.{IsAsWide};
 ghost use Rattle.rel_base.specs.Validity.{agree_of};
@@ -19,6 +19,7 @@ ghost use Rattle.cover_core.specs.Evidences.{IsEvidence, IsAllTold};
 ghost use Rattle.cover_core.specs.Judged.{IsHeld};
 ghost use Rattle.cover_core.specs.Past.{IsFirst};
 ghost use Rattle.cover_core.specs.Told.{IsTrueOf};
+ghost use Rattle.validator.specs.Stores.{AreOf};
 ghost use Rattle.cover_core.specs.Work.{Extends, work};
 ghost use Rattle.cover_core.specs.Replies.{reply_of_draw, reply_of_refutation, reply_of_mark, reply_of_release, reply_of_batch, reply_of_settle, IfJob, IfReady};
 
@@ -31,7 +32,6 @@ use crate::listed::listed;
 use crate::outdated::Outdated;
 use crate::parts::{put_all, specialised};
 use crate::renewal::renewed_after;
-use crate::sampling::sampled;
 use crate::searcher::Searcher;
 use crate::searching::{first_drawable, first_unfinished, move_both_back};
 use crate::waiting::{Sizes, Waiting, count, known_below, of_sizes, worth_comparing};
@@ -54,8 +54,8 @@ const FEW_ROWS: u32 = 1500;
 // Of so many candidates all that are unfinished are validated in one pass, 64 bytes each.
 const MOST_WAITING: usize = 1 << 20;
 
-// For so many candidates of a pass threads are worth their start.
-const LEAST_SHARED: usize = 2048;
+// For so much work threads are worth their start: rows of all verdicts of a pass, or looks at candidates.
+const LEAST_SHARED: u64 = 1 << 21;
 
 /// The rows of a relation, the witnesses that refute dependencies, and for each target the candidates that they leave.
 ///
@@ -108,11 +108,15 @@ impl Book {
     ) -> Result<Book, AllocError>
         ensures { IfOk result (λ book. book ≡ opened_core (opened nulls limits.rows relation)) }
     {
-        Book::of_rows(alloc, RowLog::open_with(alloc, relation, limits, nulls)?)
+        let rows = RowLog::open_with(alloc, relation, limits, nulls)?;
+        let snapshot = rows.snapshot(alloc)?;
+        let mut stores = Stores::of(alloc, &snapshot)?;
+        let order = Order::of(&stores.own.weights(alloc)?);
+        Book::of_rows(alloc, rows, snapshot, Searcher { stores, order })
     }
 
-    /// The book that `open_with` makes, whose columns are coded beside each other by so many workers at most; one worker is the thread
-    /// of the caller and no other.
+    /// The book that `open_with` makes, whose columns are coded, and then grouped, beside each other by so many workers at most; one
+    /// worker is the thread of the caller and no other.
     pub fn open_by<R: Threads + Sync>(
         rt: &R,
         alloc: Global,
@@ -124,20 +128,27 @@ impl Book {
         ensures { IfOk result (λ book. book ≡ opened_core (opened nulls limits.rows relation)) }
     {
         let rows = RowLog::open_by(rt, alloc, relation, limits, nulls, workers)?;
-        Book::of_rows(alloc, rows)
+        let snapshot = rows.snapshot(alloc)?;
+        let mut stores = Stores::of(alloc, &snapshot)?;
+        let order = Order::of(&stores.own.weights_by(rt, alloc, workers)?);
+        Book::of_rows(alloc, rows, snapshot, Searcher { stores, order })
     }
 
     // The book of these rows, with no witness, and for each target the empty set as its one candidate.
-    fn of_rows(alloc: Global, rows: RowLog) -> Result<Book, AllocError>
+    fn of_rows(
+        alloc: Global,
+        rows: RowLog,
+        snapshot: Arc<Snapshot>,
+        searcher: Searcher,
+    ) -> Result<Book, AllocError>
+        requires shows { Shows snapshot.value rows }
+        requires same { AreOf snapshot.value searcher.stores }
         ensures { IfOk result (λ book. book ≡ opened_core rows) }
     {
-        let snapshot = rows.snapshot(alloc)?;
         // `names` is called for its clause that the rows are a row state.
         let _names = rows.names();
         let candidates = CandidateCover::new(alloc, snapshot.columns())?;
-        let mut stores = Stores::of(alloc, &snapshot)?;
-        let order = Order::of(&stores.own.weights(alloc)?);
-        let searcher = Box::new(alloc, Searcher { stores, order })?;
+        let searcher = Box::new(alloc, searcher)?;
         let mut cursors = Cursors::start();
         let first = first_unfinished(&candidates, &mut cursors.unfinished, rows.next());
         Ok(Book {
@@ -372,11 +383,11 @@ impl Book {
     /// known of any, and none is held.
     ///
     /// So whoever draws the candidates finds most of them to be right, and knows most verdicts. It takes the time of `finish`, and a copy
-    /// of the candidates. The verdicts of a pass are made by so many workers at most beside each other, where the pass has many
-    /// candidates; one worker is the thread of the caller and no other. Each further worker has groups of rows of its own beside those
-    /// by one and two columns that were made before it came, for which there is once more the room of one store in all, and which stay
-    /// in the book. The gate is passed each time that
-    /// some thousands of verdicts were made.
+    /// of the candidates. The verdicts of a pass are made by so many workers at most beside each other, where that is much work; one
+    /// worker is the thread of the caller and no other. Each takes some candidates when it has done its last ones, so which evidence
+    /// is found depends on the schedule, and what is known in the end does not. Between two passes they share the groups of rows that
+    /// they made, for which there is once more the room of one store in all, and which stay in the book. The gate is passed each time
+    /// that some ten thousands of verdicts were made.
     ///
     /// After want of memory the rows are the same, and the book is sound, with all witnesses that were booked so far.
     pub fn seek<R: Threads + Sync, G: Gate>(
@@ -395,13 +406,13 @@ impl Book {
         self.seek_beside(rt, workers, gate, LEAST_SHARED)
     }
 
-    // What `seek` does, where this many candidates of a pass are worth threads.
+    // What `seek` does, where so much work is worth threads.
     pub(crate) fn seek_beside<R: Threads + Sync, G: Gate>(
         &mut self,
         rt: &R,
         workers: u8,
         gate: &G,
-        least: usize,
+        least: u64,
     ) -> Result<Known, AllocError>
         ensures known { IfOk result (IsTrueOf self.new.rows) }
         ensures unmarked { IfOk result (λ known. self.new.candidates ≡ refreshed_throughout known.candidates) }
@@ -490,7 +501,7 @@ impl Book {
             if self.rows.live_len() <= FEW_ROWS {
                 return self.compare_all(judges);
             }
-            let found = sampled(self.alloc, &self.rows, &self.snapshot)?;
+            let found = judges.sampled(self.alloc, &self.rows, &self.snapshot)?;
             self.book_all(judges, found)?;
         } else {
             self.compare_new(judges)?;

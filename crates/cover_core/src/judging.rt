@@ -1,6 +1,9 @@
 // Verdicts on the candidates of a pass, by one thread or by several beside each other.
-ghost use Rattle.std.specs.Prelude.{◌≡◌, ◌<◌, ◌≤◌, ◌++◌, length, IfOk, OnOk};
+ghost use Rattle.std.specs.Prelude.{◌≡◌, ◌<◌, ◌≤◌, ◌++◌, [], length, IfOk, OnOk};
 ghost use Rattle.std.specs.List.{All};
+ghost use Rattle.rel_base.specs.CodeTable.{CodeTable};
+ghost use Rattle.rel_base.specs.RowState.{RowState};
+ghost use Rattle.cover_core.specs.Evidences.{IsEvidence};
 ghost use Rattle.cover_core.specs.Judged.{IsAsked, AreVerdicts};
 ghost use Rattle.candidate_cover.specs.Cands.{width};
 ghost use Rattle.cover_core.specs.NewLists.{IsLeftBy};
@@ -9,15 +12,17 @@ ghost use denote.Param.Send.{IsSync};
 
 use crate::evidence::{Evidence, is_told, push_evidence};
 use crate::parts::{Parts, drafted, drafted_by};
-use crate::waiting::Waiting;
+use crate::sampling::{sampled, sampled_by};
+use crate::waiting::{Waiting, count};
 use candidate_cover::{CandidateCover, Draft};
 use ports::{Gate, Point};
-use rel_base::{Job, Snapshot};
+use rel_base::{ColSet, Job, Snapshot};
 use row_log::RowLog;
 use std::alloc::{AllocError, Global};
 use std::marker::Brand;
 use std::slice;
 use std::sync::Arc;
+use std::sync::atomic::{AtomicUsize, Ordering};
 use std::sync::ledger::Blank;
 use std::thread::{Threads, join_mut};
 use validator::{Store, Stores, violations};
@@ -26,10 +31,16 @@ use validator::{Store, Stores, violations};
 const MOST_VIOLATIONS: usize = 64;
 
 // So many candidates are validated between two passes of the gate, at most.
-const PART: usize = 1 << 14;
+const PART: usize = 1 << 16;
 
-// What a new agree set leaves is made in the time of so many verdicts.
-const VERDICTS_AN_AGREE_SET: usize = 8;
+// So many candidates at most are taken by a thread at once. They stand side by side, so they share groups of rows.
+const MOST_TAKEN: usize = 512;
+
+// So many times each thread takes candidates of a part, so that none waits long for the last one.
+const TURNS: usize = 8;
+
+// What a new agree set leaves takes a look at each candidate, and at so many at least.
+const LOOKS_AN_AGREE_SET: usize = 1 << 13;
 
 // The number of who seeks, at the gate.
 const SEEKER: u32 = 0;
@@ -39,6 +50,81 @@ const SEEKER: u32 = 0;
 pub(crate) struct Verdicts {
     pub(crate) held: Vec<Waiting>,
     pub(crate) found: Vec<Evidence>,
+}
+
+impl Verdicts {
+    fn none(alloc: Global) -> Verdicts
+        ensures held { result.held.items ≡ [] }
+        ensures found { result.found.items ≡ [] }
+    {
+        Verdicts {
+            held: Vec::new(alloc),
+            found: Vec::new(alloc),
+        }
+    }
+}
+
+// Candidates that threads take from, each some that stand side by side, until none is left.
+#[derive(Drop)]
+struct Queue<'a> {
+    list: &'a [Waiting],
+    taken: AtomicUsize,
+    size: usize,
+}
+
+impl<'a> Queue<'a> {
+    // Those of a list, for so many threads.
+    fn of(list: &'a [Waiting], threads: usize) -> Queue<'a>
+        ensures { result.list.now ≡ list.now }
+    {
+        let turns = threads.saturating_mul(TURNS).max(1);
+        Queue {
+            list,
+            taken: AtomicUsize::new(0),
+            size: (list.len() / turns).clamp(1, MOST_TAKEN),
+        }
+    }
+
+    // Some that no other thread has taken, or none where all are.
+    fn take(&self) -> &'a [Waiting]
+        ensures { (r : RowState) (table : CodeTable) → All (IsAsked r table) self.now.list.now → All (IsAsked r table) result.now }
+    {
+        let turn = self.taken.fetch_add(1, Ordering::SeqCst);
+        let low = turn.saturating_mul(self.size).min(self.list.len());
+        let high = low.saturating_add(self.size);
+        let (first, end) = (
+            cut(self.list, low, self.size),
+            cut(self.list, high, self.size),
+        );
+        let (_, rest) = self.list.split_at(first);
+        let (some, _) = rest.split_at(end.saturating_sub(first).min(rest.len()));
+        some
+    }
+}
+
+// Where to cut candidates behind this many: before the next one of which the first columns are others, unless that is so many further on.
+// Candidates with the same first columns share large groups of rows, which each thread would have to make.
+fn cut(list: &[Waiting], place: usize, most: usize) -> usize
+    ensures { result ≤ length list.now }
+{
+    let start = place.min(list.len());
+    for k in start..place.saturating_add(most).min(list.len()) {
+        if k == 0 || head(list[k].places) != head(list[k - 1].places) {
+            return k;
+        }
+    }
+    start
+}
+
+// The first two of some columns.
+fn head(columns: ColSet) -> ColSet {
+    let mut head = ColSet::empty();
+    for _ in 0..2 {
+        if let Some(column) = columns.minus(head).first() {
+            head = head.with(column);
+        }
+    }
+    head
 }
 
 // Who makes the verdicts of a pass.
@@ -60,6 +146,16 @@ pub(crate) trait Judges {
         requires asked { All (IsAsked rows.now snapshot.now.value) list.now }
         ensures verdicts { IfOk result (AreVerdicts rows.now snapshot.now.value) }
         ensures same { AreOf snapshot.now.value stores.new };
+
+    // What pairs of rows agree on that are compared before any candidate is validated.
+    fn sampled(
+        &self,
+        alloc: Global,
+        rows: &RowLog,
+        snapshot: &Snapshot,
+    ) -> Result<Vec<Evidence>, AllocError>
+        requires ready { ready }
+        ensures { IfOk result (λ found. All (IsEvidence rows.now) found.items) };
 
     // What a draft with so many new agree sets leaves of the candidates.
     fn drafted(
@@ -92,6 +188,15 @@ impl Judges for Alone {
         judged(alloc, rows, snapshot, list, &mut stores.own)
     }
 
+    fn sampled(
+        &self,
+        alloc: Global,
+        rows: &RowLog,
+        snapshot: &Snapshot,
+    ) -> Result<Vec<Evidence>, AllocError> {
+        sampled(alloc, rows, snapshot)
+    }
+
     fn drafted(
         &self,
         alloc: Global,
@@ -103,12 +208,12 @@ impl Judges for Alone {
     }
 }
 
-// So many threads at most beside each other, where there are so many candidates at least.
+// So many threads at most beside each other, where there is so much work at least: rows of all verdicts, or looks at candidates.
 #[derive(Drop)]
 pub(crate) struct Beside<'a, R> {
     pub(crate) rt: &'a R,
     pub(crate) workers: u8,
-    pub(crate) least: usize,
+    pub(crate) least: u64,
 }
 
 impl<'a, R: Threads + Sync> Judges for Beside<'a, R> {
@@ -122,20 +227,29 @@ impl<'a, R: Threads + Sync> Judges for Beside<'a, R> {
         list: &[Waiting],
         stores: &mut Stores,
     ) -> Result<Verdicts, AllocError> {
-        let least = self.least;
-        if list.len() >= least {
-            stores.spread(alloc, self.workers)?;
-        }
-        if stores.others.is_empty() || list.len() < least {
+        if (list.len() as u64).saturating_mul(snapshot.live_count().into()) < self.least {
             return judged(alloc, rows, snapshot, list, &mut stores.own);
         }
-        let count = stores.others.len().saturating_add(1);
-        let (low, high) = list.split_at(share(list.len(), count, 1));
+        stores.spread(alloc, self.workers)?;
+        if stores.others.is_empty() {
+            return judged(alloc, rows, snapshot, list, &mut stores.own);
+        }
+        let queue = Queue::of(list, stores.others.len().saturating_add(1));
         let own = slice::from_mut(&mut stores.own);
         let others = stores.others.as_mut_slice();
-        both_halves(
-            self.rt, alloc, rows, snapshot, least, low, own, high, others,
-        )
+        let verdicts = both_halves(self.rt, alloc, rows, snapshot, &queue, own, others)?;
+        // Stores that share less, for want of memory, are as right.
+        drop(stores.level());
+        Ok(verdicts)
+    }
+
+    fn sampled(
+        &self,
+        alloc: Global,
+        rows: &RowLog,
+        snapshot: &Snapshot,
+    ) -> Result<Vec<Evidence>, AllocError> {
+        sampled_by(self.rt, alloc, rows, snapshot, self.workers)
     }
 
     fn drafted(
@@ -145,7 +259,8 @@ impl<'a, R: Threads + Sync> Judges for Beside<'a, R> {
         draft: &Draft,
         news: usize,
     ) -> Result<Parts, AllocError> {
-        if news.saturating_mul(VERDICTS_AN_AGREE_SET) < self.least {
+        let looks = count(candidates).max(LOOKS_AN_AGREE_SET) as u64;
+        if (news as u64).saturating_mul(looks) < self.least {
             return drafted(alloc, candidates, draft);
         }
         drafted_by(self.rt, alloc, candidates, draft, self.workers)
@@ -168,10 +283,7 @@ pub(crate) fn judged_by_parts<J: Judges, G: Gate>(
     ensures verdicts { IfOk result (AreVerdicts rows.now snapshot.now.value) }
     ensures same { AreOf snapshot.now.value stores.new }
 {
-    let mut all = Verdicts {
-        held: Vec::new(alloc),
-        found: Vec::new(alloc),
-    };
+    let mut all = Verdicts::none(alloc);
     let mut rest = list;
     while !rest.is_empty() {
         let (part, later) = rest.split_at(rest.len().min(PART));
@@ -183,7 +295,7 @@ pub(crate) fn judged_by_parts<J: Judges, G: Gate>(
     Ok(all)
 }
 
-// Validates candidates one after another on a store of the snapshot, but for those that evidence just found refutes.
+// Validates candidates one after another on a store of the snapshot.
 fn judged(
     alloc: Global,
     rows: &RowLog,
@@ -196,14 +308,54 @@ fn judged(
     ensures verdicts { IfOk result (AreVerdicts rows.now snapshot.now.value) }
     ensures store { store.new ≡ store.old }
 {
-    let mut all = Verdicts {
-        held: Vec::new(alloc),
-        found: Vec::new(alloc),
-    };
+    let mut all = Verdicts::none(alloc);
+    judge_all(alloc, rows, snapshot, list, store, &mut all)?;
+    Ok(all)
+}
+
+// Validates candidates one after another, but for those that evidence just found refutes.
+fn judge_all(
+    alloc: Global,
+    rows: &RowLog,
+    snapshot: &Arc<Snapshot>,
+    list: &[Waiting],
+    store: &mut Store,
+    all: &mut Verdicts,
+) -> Result<(), AllocError>
+    requires same { store.old ≡ snapshot.now.value }
+    requires asked { All (IsAsked rows.now snapshot.now.value) list.now }
+    requires verdicts { AreVerdicts rows.now snapshot.now.value all.old }
+    ensures verdicts { OnOk result (AreVerdicts rows.now snapshot.now.value all.new) }
+    ensures store { store.new ≡ store.old }
+{
     for waiting in list {
         if !is_told(all.found.as_slice(), waiting.target, waiting.cand.left) {
-            judge(alloc, rows, snapshot, *waiting, store, &mut all)?;
+            judge(alloc, rows, snapshot, *waiting, store, all)?;
         }
+    }
+    Ok(())
+}
+
+// Validates candidates that it takes from a queue, until none is left.
+fn judged_in_turn(
+    alloc: Global,
+    rows: &RowLog,
+    snapshot: &Arc<Snapshot>,
+    queue: &Queue<'_>,
+    store: &mut Store,
+) -> Result<Verdicts, AllocError>
+    requires same { store.old ≡ snapshot.now.value }
+    requires asked { All (IsAsked rows.now snapshot.now.value) queue.now.list.now }
+    ensures verdicts { IfOk result (AreVerdicts rows.now snapshot.now.value) }
+    ensures store { store.new ≡ store.old }
+{
+    let mut all = Verdicts::none(alloc);
+    for _ in 0..queue.list.len() {
+        let some = queue.take();
+        if some.is_empty() {
+            break;
+        }
+        judge_all(alloc, rows, snapshot, some, store, &mut all)?;
     }
     Ok(all)
 }
@@ -239,40 +391,28 @@ fn judge(
     push_evidence(rows, pairs.as_slice(), &mut all.found)
 }
 
-// What `judged` does, by a thread for each store, where there are so many candidates at least. Each takes candidates that stand side
-// by side, and what they find is put together in the order of the candidates, so that it does not depend on which thread is first.
+// A thread for each store takes candidates from a queue. Which thread takes which is left to chance, and so is which evidence is found.
 #[cycle(halves)]
 fn judged_by<R: Threads + Sync>(
     rt: &R,
     alloc: Global,
     rows: &RowLog,
     snapshot: &Arc<Snapshot>,
-    least: usize,
-    list: &[Waiting],
+    queue: &Queue<'_>,
     stores: &mut [Store],
 ) -> Result<Verdicts, AllocError>
     requires some { 0 < length stores.old }
     requires same { All (λ store. store ≡ snapshot.now.value) stores.old }
-    requires asked { All (IsAsked rows.now snapshot.now.value) list.now }
+    requires asked { All (IsAsked rows.now snapshot.now.value) queue.now.list.now }
     ensures verdicts { IfOk result (AreVerdicts rows.now snapshot.now.value) }
     ensures same { All (λ store. store ≡ snapshot.now.value) stores.new }
 {
     let count = stores.len();
-    if count < 2 || list.len() < least {
-        return judged(alloc, rows, snapshot, list, &mut stores[0]);
+    if count < 2 {
+        return judged_in_turn(alloc, rows, snapshot, queue, &mut stores[0]);
     }
-    let few = count / 2;
-    let (low, high) = list.split_at(share(list.len(), count, few));
-    let (first, others) = stores.split_at_mut(few);
-    both_halves(rt, alloc, rows, snapshot, least, low, first, high, others)
-}
-
-// How many of these candidates some of the workers take.
-fn share(candidates: usize, workers: usize, some: usize) -> usize
-    requires { 0 < workers }
-    ensures { result ≤ candidates }
-{
-    (candidates / workers).saturating_mul(some).min(candidates)
+    let (first, others) = stores.split_at_mut(count / 2);
+    both_halves(rt, alloc, rows, snapshot, queue, first, others)
 }
 
 // A function of its own, so that what the closures require is what it is given.
@@ -282,32 +422,29 @@ fn both_halves<R: Threads + Sync>(
     alloc: Global,
     rows: &RowLog,
     snapshot: &Arc<Snapshot>,
-    least: usize,
-    low: &[Waiting],
+    queue: &Queue<'_>,
     few: &mut [Store],
-    high: &[Waiting],
     others: &mut [Store],
 ) -> Result<Verdicts, AllocError>
     requires some { 0 < length few.old }
     requires more { 0 < length others.old }
     requires few { All (λ store. store ≡ snapshot.now.value) few.old }
     requires others { All (λ store. store ≡ snapshot.now.value) others.old }
-    requires low { All (IsAsked rows.now snapshot.now.value) low.now }
-    requires high { All (IsAsked rows.now snapshot.now.value) high.now }
+    requires asked { All (IsAsked rows.now snapshot.now.value) queue.now.list.now }
     ensures verdicts { IfOk result (AreVerdicts rows.now snapshot.now.value) }
     ensures few { All (λ store. store ≡ snapshot.now.value) few.new }
     ensures others { All (λ store. store ≡ snapshot.now.value) others.new }
 {
     let mut first = || -> Result<Verdicts, AllocError>
-        requires { IsSync R.row × (0 < length few.now) × All (λ store. store ≡ snapshot.now.value) few.now × All (IsAsked rows.now snapshot.now.value) low.now }
+        requires { IsSync R.row × (0 < length few.now) × All (λ store. store ≡ snapshot.now.value) few.now × All (IsAsked rows.now snapshot.now.value) queue.now.list.now }
         ensures verdicts { IfOk result (AreVerdicts rows.entry.now snapshot.entry.now.value) }
         ensures same { All (λ store. store ≡ snapshot.entry.now.value) few.exit.now }
-    { judged_by(rt, alloc, rows, snapshot, least, low, few) };
+    { judged_by(rt, alloc, rows, snapshot, queue, few) };
     let mut second = || -> Result<Verdicts, AllocError>
-        requires { IsSync R.row × (0 < length others.now) × All (λ store. store ≡ snapshot.now.value) others.now × All (IsAsked rows.now snapshot.now.value) high.now }
+        requires { IsSync R.row × (0 < length others.now) × All (λ store. store ≡ snapshot.now.value) others.now × All (IsAsked rows.now snapshot.now.value) queue.now.list.now }
         ensures verdicts { IfOk result (AreVerdicts rows.entry.now snapshot.entry.now.value) }
         ensures same { All (λ store. store ≡ snapshot.entry.now.value) others.exit.now }
-    { judged_by(rt, alloc, rows, snapshot, least, high, others) };
+    { judged_by(rt, alloc, rows, snapshot, queue, others) };
     let (first, second) = join_mut(rt, &mut first, &mut second);
     let all = together(first?, second?)?;
     Ok(all)

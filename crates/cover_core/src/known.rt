@@ -1,11 +1,11 @@
 // Dependencies that were seen to hold.
-ghost use Rattle.std.specs.Prelude.{◌↔◌, IsTrue};
+ghost use Rattle.std.specs.Prelude.{◌↔◌, ◌≡◌, ◌<◌, ◌≤◌, false, length, IsTrue};
 ghost use Rattle.col_set.specs.Target.{IsColumnTarget};
-ghost use Rattle.candidate_cover.specs.Cands.{width};
+ghost use Rattle.candidate_cover.specs.Cands.{cands_of, width};
 ghost use Rattle.cover_core.specs.Told.{Answers};
 
 use candidate_cover::CandidateCover;
-use rel_base::{Job, RowNo};
+use rel_base::{Job, RowNo, Target};
 
 /// Dependencies and keys that were seen to hold in the rows that a book had, 21 bytes each (`Book::seek`). Threads share it by
 /// reference: it never changes.
@@ -33,5 +33,21 @@ impl Known {
             Some(upto) => self.next <= upto,
             None => false,
         }
+    }
+
+    /// Whether it lists more than so many left sides for some target. It takes a step a column.
+    pub fn is_long(&self, most: usize) -> bool
+        ensures long { IsTrue result → (t : Target) × IsColumnTarget (width self.now.candidates) t × (most < length (cands_of self.now.candidates t)) }
+        ensures short { result ≡ false → (t : Target) → IsColumnTarget (width self.now.candidates) t → length (cands_of self.now.candidates t) ≤ most }
+    {
+        if self.candidates.lefts(Target::RowId).len() > most {
+            return true;
+        }
+        for column in 0..self.candidates.columns() {
+            if self.candidates.lefts(Target::Col(column)).len() > most {
+                return true;
+            }
+        }
+        false
     }
 }

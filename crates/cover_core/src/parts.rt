@@ -180,6 +180,19 @@ fn targets_of(alloc: Global, columns: u8) -> Result<Vec<Target>, AllocError>
     Ok(found)
 }
 
+// How many items a thread takes at least. A list is halved as long as both halves have as many, so there are no more shares than workers,
+// and as many where these are a power of two.
+pub(crate) fn least_share(items: usize, workers: u8) -> usize {
+    let share = match workers {
+        0..=1 => items,
+        2..=3 => items / 2,
+        4..=7 => items / 4,
+        8..=15 => items / 8,
+        _ => items / 16,
+    };
+    share.max(2)
+}
+
 // What a draft leaves of the candidates of each of these targets, by so many threads at most, each of which takes targets that stand side
 // by side.
 fn drafted_parts<R: Threads + Sync>(
@@ -194,7 +207,7 @@ fn drafted_parts<R: Threads + Sync>(
     requires targets { All (IsColumnTarget (width candidates.now)) targets.now }
     ensures { IfOk result (λ parts. AllZip (IsPart (width candidates.now) draft.now.agree_sets candidates.now) targets.now parts.items) }
 {
-    let share = targets.len().div_ceil(workers.max(1) as usize);
+    let share = least_share(targets.len(), workers);
     let parts: Result<Vec<Option<Part>>, AllocError> = targets
         .par_iter()
         .with_min_len(share)

@@ -1,18 +1,37 @@
 // Pairs of rows that are compared before any candidate is validated.
-ghost use Rattle.std.specs.Prelude.{IfOk};
+ghost use Rattle.std.specs.Prelude.{◌<◌, length, IfOk};
 ghost use Rattle.std.specs.List.{All};
 ghost use Rattle.cover_core.specs.Evidences.{IsEvidence};
 
 use crate::evidence::{Evidence, push_evidence};
+use crate::parts::least_share;
+use rayon::prelude::*;
 use rel_base::Snapshot;
 use row_log::RowLog;
 use sampler::neighbours;
 use std::alloc::{AllocError, Global};
+use std::thread::Threads;
 
 // About so many pairs are for each column.
 const NEIGHBOURS: u32 = 1 << 13;
 
-// What pairs of rows agree on: neighbours in the groups by one column, spread over all of them.
+// What neighbours in the groups by a column agree on, spread over all of them.
+fn sampled_in(
+    alloc: Global,
+    rows: &RowLog,
+    snapshot: &Snapshot,
+    column: u8,
+) -> Result<Vec<Evidence>, AllocError>
+    requires { column < length snapshot.now.codes }
+    ensures { IfOk result (λ found. All (IsEvidence rows.now) found.items) }
+{
+    let mut found = Vec::new(alloc);
+    let pairs = neighbours(alloc, snapshot, column, NEIGHBOURS)?;
+    push_evidence(rows, pairs.as_slice(), &mut found)?;
+    Ok(found)
+}
+
+// What neighbours agree on in all columns.
 pub(crate) fn sampled(
     alloc: Global,
     rows: &RowLog,
@@ -20,10 +39,58 @@ pub(crate) fn sampled(
 ) -> Result<Vec<Evidence>, AllocError>
     ensures { IfOk result (λ found. All (IsEvidence rows.now) found.items) }
 {
-    let mut found = Vec::new(alloc);
+    let mut all = Vec::new(alloc);
     for column in 0..snapshot.columns() {
-        let pairs = neighbours(alloc, snapshot, column, NEIGHBOURS)?;
-        push_evidence(rows, pairs.as_slice(), &mut found)?;
+        let mut found = sampled_in(alloc, rows, snapshot, column)?;
+        all.append(&mut found)?;
     }
-    Ok(found)
+    Ok(all)
+}
+
+// What neighbours agree on in each of these columns, by so many threads at most, each of which takes columns that stand side by side.
+fn sampled_in_each<R: Threads + Sync>(
+    rt: &R,
+    alloc: Global,
+    rows: &RowLog,
+    snapshot: &Snapshot,
+    columns: &[u8],
+    workers: u8,
+) -> Result<Vec<Vec<Evidence>>, AllocError>
+    requires { All (λ column. column < length snapshot.now.codes) columns.now }
+    ensures { IfOk result (λ found. All (λ own. All (IsEvidence rows.now) own.items) found.items) }
+{
+    let share = least_share(columns.len(), workers);
+    let found: Result<Vec<Vec<Evidence>>, AllocError> = columns
+        .par_iter()
+        .with_min_len(share)
+        .map(
+            move |column: &u8| -> Result<Vec<Evidence>, AllocError>
+                requires { column.now < length snapshot.now.codes }
+                ensures { IfOk result (λ own. All (IsEvidence rows.entry.now) own.items) }
+            { sampled_in(alloc, rows, snapshot, *column) },
+        )
+        .collect(rt, alloc)?;
+    found
+}
+
+// What `sampled` finds, by so many threads at most.
+pub(crate) fn sampled_by<R: Threads + Sync>(
+    rt: &R,
+    alloc: Global,
+    rows: &RowLog,
+    snapshot: &Snapshot,
+    workers: u8,
+) -> Result<Vec<Evidence>, AllocError>
+    ensures { IfOk result (λ found. All (IsEvidence rows.now) found.items) }
+{
+    let mut columns = Vec::with_capacity(alloc, snapshot.columns() as usize)?;
+    for column in 0..snapshot.columns() {
+        columns.push(column)?;
+    }
+    let each = sampled_in_each(rt, alloc, rows, snapshot, columns.as_slice(), workers)?;
+    let mut all = Vec::new(alloc);
+    for own in each.as_slice() {
+        all.extend_from_slice(own.as_slice())?;
+    }
+    Ok(all)
 }

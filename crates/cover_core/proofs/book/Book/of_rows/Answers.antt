@@ -15,6 +15,6 @@ first_unfinished-first-requires c = to_search (record { rows = c.args.rows; witn
 
 pub invariant_of-result : goal.invariant_of-result
 invariant_of-result c =
-    let kept = subst (λ (ws : List Witness). IsBook (record { rows = c.args.rows; witnesses = ws; candidates = c.in_ok-candidates.candidates }) c.in_ok-snapshot.snapshot.value) (sym c.new-3.ensures) (IsBook-opened c.args.rows c.in_ok-candidates.candidates c.in_ok-snapshot.snapshot.value c.names-names.ensures.state (subst IsCodeTable c.deref.ensures c.columns.ensures.bounds) c.in_ok-snapshot.ensures (c.in_ok-candidates.ensures ∙ ap one_each (c.columns.ensures.value ∙ ap (λ (t : CodeTable). length t.codes) c.deref.ensures))) in
+    let kept = subst (λ (ws : List Witness). IsBook (record { rows = c.args.rows; witnesses = ws; candidates = c.in_ok-candidates.candidates }) c.args.snapshot.value) (sym c.new-3.ensures) (IsBook-opened c.args.rows c.in_ok-candidates.candidates c.args.snapshot.value c.names-names.ensures.state (subst IsCodeTable c.deref.ensures c.columns.ensures.bounds) c.requires.shows (c.in_ok-candidates.ensures ∙ ap one_each (c.columns.ensures.value ∙ ap (λ (t : CodeTable). length t.codes) c.deref.ensures))) in
     let w = searched (record { rows = c.args.rows; witnesses = c.new-3.result; candidates = c.in_ok-candidates.candidates }) _ kept c.next.result c.start-cursors.result c.first_unfinished-first.new.cursor c.first_unfinished-first.result c.next.ensures.value (past-both (record { rows = c.args.rows; witnesses = c.new-3.result; candidates = c.in_ok-candidates.candidates }) c.start-cursors.result c.start-cursors.ensures.unfinished c.start-cursors.ensures.drawable) c.first_unfinished-first.ensures.past c.first_unfinished-first.ensures.found in
-    (kept, subst (λ (stores : Stores). AreOf c.in_ok-snapshot.snapshot.value stores) (sym (ap (λ (s : Searcher). s.stores) c.in_ok-searcher.ensures.ok)) (record { own = c.weights.ensures.store ∙ c.in_ok-stores.ensures.own; others = c.in_ok-stores.ensures.others }), w.past, w.first)
+    (kept, subst (λ (stores : Stores). AreOf c.args.snapshot.value stores) (sym (ap (λ (s : Searcher). s.stores) c.in_ok-searcher.ensures.ok)) c.requires.same, w.past, w.first)
