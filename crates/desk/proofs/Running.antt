@@ -48,7 +48,7 @@ runs opened sound past x l = runs_from opened [] opened past x (sits_first opene
 pub turns_of-append : (es fs : History) → turns_of (es ++ fs) ≡ turns_of es ++ turns_of fs
 turns_of-append es fs = map-append turn_of es fs
 
--- the same, where the history stands in two parts
+-- a legal history in two parts is a list of steps
 runs_parts : (opened : Core) → Sound opened → (before later : History) (e : Entry Call Reply) (y : Core) → Legal booked allowed opened (before ++ e ∷ later) y → Runs [] opened (turns_of before ++ turn_of e ∷ turns_of later) y
 runs_parts opened sound before later e y l = subst (λ (ts : List Turn). Runs [] opened ts y) (turns_of-append before (e ∷ later)) (runs opened sound (before ++ e ∷ later) y l)
 

@@ -46,12 +46,12 @@ IsReadThrough false left = ⊤
 abbrev pub OnTold : Task → Limits → Option Files → Option (List ℕ) → (Option (List ℕ × ℕ × Why) → Written → Type 0) → Type 0
 OnTold task limits content input P = OnSources task content input (λ files bytes. P (refusal task limits files bytes) (written task limits files bytes))
 
--- the same where the files are accepted and hold these relations
+-- such a fact where the files are accepted and hold these relations
 abbrev pub OnRead : Task → Limits → List Content → Option (List ℕ) → (Option (List ℕ × ℕ × Why) → Written → Type 0) → Type 0
 OnRead task limits relations input P =
     OnInput task.reads_input input (λ bytes. P (input_refusal task.reads_input limits bytes) (task.writes limits relations bytes))
 
--- the same of what was made, where nothing is refused
+-- such a fact of what was made, where nothing is refused
 abbrev pub OnMade : Written → (Option (List ℕ × ℕ × Why) → Written → Type 0) → Type 0
 OnMade w P = P None w
 

@@ -25,7 +25,7 @@ other_keys r numbered = map (λ key. (numbered.0, key)) (filter (λ key. not (ke
 abbrev pub alternates : RowState → List Table → List (ℕ × Columns)
 alternates r tables = flat_map (other_keys r) (enumerate_from 1 tables)
 
--- the same by agree sets of n columns
+-- those that a table has besides its key, by agree sets of n columns
 abbrev pub other_keys_within : ℕ → List Columns → ℕ × Table → List (ℕ × Columns)
 other_keys_within n ws numbered = map (λ key. (numbered.0, key)) (filter (λ key. not (key == numbered.1.key)) (keys_within n ws numbered.1.columns))
 

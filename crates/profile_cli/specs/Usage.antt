@@ -1,4 +1,4 @@
--- The usage line.
+-- What is written where the words are no command.
 use Rattle.std.specs.Prelude.{ℕ, List, [], ◌∷◌, ◌++◌, codes}
 
 -- one line, ended by a line feed

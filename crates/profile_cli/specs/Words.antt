@@ -80,7 +80,7 @@ the_app = app_with (behind null_words) (behind null_words)
 abbrev pub AreNullWords : Bor (List (Bor Text)) → Type 0
 AreNullWords names = map (λ name. name.now) names.now ≡ null_words
 
--- The same command, wherever the words of `--nulls` stand in memory.
+-- the command that the words are read by, wherever the words of `--nulls` stand in memory
 pub record IsTheApp (a : App) : Type 0 where
   pub profile_names : Bor (List (Bor Text))
   pub session_names : Bor (List (Bor Text))

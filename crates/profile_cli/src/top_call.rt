@@ -1,4 +1,4 @@
-// The top call.
+// From words, files and input to the text that is written, and how the run ended.
 ghost use Rattle.std.specs.Prelude.{◌≡◌, ◌⊎◌, ◌<◌, ◌≤◌, ◌+◌, ℕ, List, Some, None, true, false, [], length, slice_index_or, IsSomeAnd, IfSome};
 ghost use Rattle.ports.specs.Faults.{SameFaults, Rose, RoseAt};
 ghost use Rattle.ports.specs.Files.{Nothing, Files};

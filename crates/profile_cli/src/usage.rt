@@ -1,4 +1,4 @@
-// The usage line.
+// What is written where the words are no command.
 ghost use Rattle.std.specs.Prelude.{◌≡◌};
 ghost use Rattle.profile_cli.specs.Usage.{usage_text};
 

@@ -34,7 +34,8 @@ pub struct Refined {
 ///
 /// Candidates that are held are let go of first. A book without witnesses seeks evidence before it is shared (`Book::seek`), so that
 /// what is drawn then mostly holds, and is known to. That takes nearly all the time where there are no batches; the workers divide the
-/// verdicts of its passes.
+/// verdicts of its passes, the pairs that it compares and the lists that it makes. What is left to draw takes no verdict, so where that
+/// is much and no batch comes, one of the workers draws it all: several would wait for one another at each turn.
 ///
 /// Then one thread feeds the batches, the workers are threads of their own, and where a thread can't be started its work is done by
 /// who would have started it. A batch that comes late makes candidates unfinished again, so where there are batches, as many

@@ -22,6 +22,9 @@ use std::sync::Wait;
 use std::thread::{Threads, join};
 use validator::Store;
 
+// With more left sides than these for some target, turns without verdicts are for one worker.
+const MANY_TURNS: usize = 64;
+
 // Lets the workers work beside the batches, and where there are any, lets as many go on after them. It ends with want of memory
 // where the feeder met it, or each worker of the last round.
 pub fn rounds<R: Threads + Wait + Sync, G: Gate + Sync>(
@@ -50,17 +53,10 @@ pub fn rounds<R: Threads + Wait + Sync, G: Gate + Sync>(
     ensures settled { OnDone result.ending (SettledLast (seen result.pass.pass)) }
 {
     if batches.is_empty() {
+        let hired = hands(workers, known);
+        let first = 2 * workers + 1 - hired;
         return last_round(
-            rt,
-            alloc,
-            desk,
-            feeder,
-            replies,
-            workers + 1,
-            workers,
-            gate,
-            known,
-            lent,
+            rt, alloc, desk, feeder, replies, first, hired, gate, known, lent,
         );
     }
     let fed = feeding_round(
@@ -84,6 +80,18 @@ pub fn rounds<R: Threads + Wait + Sync, G: Gate + Sync>(
             )
         }
         Ending::NoMemory => fed,
+    }
+}
+
+// How many of the workers are wanted where no batch comes. Where evidence was sought all verdicts are known, so what is left is turns
+// alone. Many of them are made in a tenth of the time by one worker than by several, who wait for one another at each.
+fn hands(workers: u32, known: Option<&Known>) -> u32
+    requires { 0 < workers }
+    ensures { (0 < result) × (result ≤ workers) }
+{
+    match known {
+        Some(known) if known.is_long(MANY_TURNS) => 1,
+        _ => workers,
     }
 }
 

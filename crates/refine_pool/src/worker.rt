@@ -181,6 +181,19 @@ fn judge(
     if is_known(known, job, &mut hand.near) {
         return Ok(Vec::new(alloc));
     }
+    validate(alloc, hand, job)
+}
+
+// Pairs of rows that break a job's dependency, by a search. It stays out of the loop over draws, most of which take no search: a bench is
+// moved here, which is large.
+#[inline(never)]
+fn validate(alloc: Global, hand: &mut Hand, job: &Job) -> Result<Vec<(RowNo, RowNo)>, AllocError>
+    requires fitting { IsFitting job.now }
+    requires serves { IfSome hand.old.bench (λ bench. Serves bench.job job.now) }
+    ensures pairs { IfOk result (λ pairs. AreDifferent pairs.items) }
+    ensures none { IfOk result (λ pairs. pairs.items ≡ [] → holds_in job.now.snapshot job.now.left job.now.target ≡ true) }
+    ensures bench { IfSome hand.new.bench (λ bench. (bench.job ≡ job.now) ⊎ HasJob hand.old.bench bench.job) }
+{
     let mut bench = Bench::for_job(alloc, hand.bench.take(), &mut hand.spare, job)?;
     let pairs = bench.violations(alloc, job);
     hand.bench = Some(bench);
