@@ -25,7 +25,8 @@ LeastMeans = (n : ℕ) (ws : List ℕ) (t : Target) (x : ℕ) → Contains (leas
 
 -- With a further agree set z that lacks t, each candidate inside z gives way to its extensions, and non-minimal sets are dropped.
 abbrev pub LeastAfterOneMore : Type 0
-LeastAfterOneMore = (n : ℕ) (ws : List ℕ) (t : Target) (z : ℕ) → has_target z t ≡ false → least n (ws ++ z ∷ []) t ≡ minimal_of n (replaced n t z (least n ws t))
+LeastAfterOneMore = (n : ℕ) (ws : List ℕ) (t : Target) (z : ℕ) → has_target z t ≡ false
+    → least n (ws ++ z ∷ []) t ≡ minimal_of n (replaced n t z (least n ws t))
 
 -- What is least depends on which agree sets there are, and not on their order or number.
 abbrev pub LeastOfTheSame : Type 0
@@ -40,7 +41,8 @@ pub record WithdrawnInside (gone : List ℕ) (t : Target) (x : ℕ) : Type 0 whe
 
 -- Where agree sets are withdrawn, what is least of the rest is least of all, or lies inside a withdrawn set that lacks t.
 abbrev pub LeastAfterFewer : Type 0
-LeastAfterFewer = (n : ℕ) (rest gone : List ℕ) (t : Target) (x : ℕ) → Contains (least n rest t) x → Contains (least n (rest ++ gone) t) x ⊎ WithdrawnInside gone t x
+LeastAfterFewer = (n : ℕ) (rest gone : List ℕ) (t : Target) (x : ℕ) → Contains (least n rest t) x → Contains (least n (rest ++ gone) t) x
+    ⊎ WithdrawnInside gone t x
 
 -- With no agree set the empty set is the one candidate.
 abbrev pub LeastOfNone : Type 0
