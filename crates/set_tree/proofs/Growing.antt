@@ -6,7 +6,7 @@ use Rattle.std.proofs.lemmas.Bool.{eqb-true, eq-eqb, true≢false}
 use Rattle.col_set.specs.ColSet.{has, with, empty}
 use Rattle.col_set.specs.declared.col_set.TheConstants.{MOST_COLUMNS}
 use Rattle.set_tree.specs.declared.node.Node.{Node}
-use Rattle.set_tree.specs.Tree.{Shape, tip, fork, look, root, Keep, Ascends, uses, spare, one, tall, IsTree, Stands, IsLocal, Becomes, IsLoose, but, revalued, Settles, Gives}
+use Rattle.set_tree.specs.Tree.{Shape, tip, fork, look, root, Keep, Ascends, uses, spare, one, tall, IsTree, Stands, IsLocal, Becomes, IsLoose, but, revalued, Retains, Gives}
 use Rattle.set_tree.proofs.Places.{one_same, one_cases}
 use Rattle.set_tree.proofs.Values.{look_absent, look_here, look_below, look_beside}
 
@@ -219,9 +219,9 @@ module _ {V : Type 0} where
   -- ---- a path gets another value
   module _ (ns ns1 ns2 : List (Node V)) (us us1 us2 : List ℕ) (place : ℕ) (node : Node V) (here : slice_get ns place ≡ Some node) (x : ℕ) (w : Option V) (to : Option ℕ) where
     pub changed_below : (first : ℕ) (child : Option ℕ) → node.column < first → x ≢ empty → has x node.column ≡ false
-        → Gives ns us node.child first ns1 us1 child x w → Settles ns1 us1 place (record { value = node.value; child = child; next = node.next; column = node.column }) ns2 us2 to
+        → Gives ns us node.child first ns1 us1 child x w → Retains ns1 us1 place (record { value = node.value; child = child; next = node.next; column = node.column }) ns2 us2 to
         → (from : ℕ) (t : Shape V) → IsTree ns us (Some place) from t → Becomes ns us from t ns2 us2 to (but t (with x node.column) w)
-    changed_below first child behind some lacks ih settles from t tree =
+    changed_below first child behind some lacks ih retains from t tree =
         let o = opened ns us from place node t here tree in
         let whole = subst (IsTree ns us (Some place) from) o.is tree in
         let b = ih (suc node.column) o.below o.below_tree (omega (arith, behind)) in
@@ -230,13 +230,13 @@ module _ {V : Type 0} where
         (becomes_then ns ns1 ns2 us us1 us2 from (fork place node.column node.value o.below o.beside) (fork place node.column node.value b.shape o.beside) to (but (fork place node.column node.value o.below o.beside) (with x node.column) w)
         (local_below ns ns1 us us1 place node.column node.value node.value o.below o.beside b.shape b.local)
         (look_below place node.column x node.value w o.below b.shape o.beside b.same some lacks)
-        (settles from b.shape o.beside b.starts o.beside_tree.starts
+        (retains from b.shape o.beside b.starts o.beside_tree.starts
         (loose_below ns ns1 us us1 place node.column node.value node.value o.below o.beside from b.shape whole b.local b.kept b.ascends within)))
 
     pub changed_beside : (first : ℕ) (next : Option ℕ) → node.column < first → has x node.column ≡ false
-        → Gives ns us node.next first ns1 us1 next x w → Settles ns1 us1 place (record { value = node.value; child = node.child; next = next; column = node.column }) ns2 us2 to
+        → Gives ns us node.next first ns1 us1 next x w → Retains ns1 us1 place (record { value = node.value; child = node.child; next = next; column = node.column }) ns2 us2 to
         → (from : ℕ) (t : Shape V) → IsTree ns us (Some place) from t → Becomes ns us from t ns2 us2 to (but t x w)
-    changed_beside first next behind lacks ih settles from t tree =
+    changed_beside first next behind lacks ih retains from t tree =
         let o = opened ns us from place node t here tree in
         let whole = subst (IsTree ns us (Some place) from) o.is tree in
         let b = ih (suc node.column) o.beside o.beside_tree (omega (arith, behind)) in
@@ -245,21 +245,21 @@ module _ {V : Type 0} where
         (becomes_then ns ns1 ns2 us us1 us2 from (fork place node.column node.value o.below o.beside) (fork place node.column node.value o.below b.shape) to (but (fork place node.column node.value o.below o.beside) x w)
         (local_beside ns ns1 us us1 place node.column node.value node.value o.below o.beside b.shape b.local)
         (look_beside place node.column x node.value w o.below o.beside b.shape b.same lacks)
-        (settles from o.below b.shape o.below_tree.starts b.starts
+        (retains from o.below b.shape o.below_tree.starts b.starts
         (loose_beside ns ns1 us us1 place node.column node.value node.value o.below o.beside from b.shape whole b.local b.kept b.ascends within)))
 
   pub changed_here : (ns new : List (Node V)) (us waiting : List ℕ) (place : ℕ) (node : Node V) (w : Option V) (to : Option ℕ) → slice_get ns place ≡ Some node
-      → Settles ns us place (record { value = w; child = node.child; next = node.next; column = node.column }) new waiting to
+      → Retains ns us place (record { value = w; child = node.child; next = node.next; column = node.column }) new waiting to
       → (from : ℕ) (t : Shape V) → IsTree ns us (Some place) from t → Becomes ns us from t new waiting to (but t (with empty node.column) w)
   unfolding uses Ascends
-  changed_here ns new us waiting place node w to here settles from t tree =
+  changed_here ns new us waiting place node w to here retains from t tree =
       let o = opened ns us from place node t here tree in
       let whole = subst (IsTree ns us (Some place) from) o.is tree in
       subst (λ (u : Shape V). Becomes ns us from u new waiting to (but u (with empty node.column) w)) (sym o.is)
       (becomes_then ns ns new us us waiting from (fork place node.column node.value o.below o.beside) (fork place node.column w o.below o.beside) to (but (fork place node.column node.value o.below o.beside) (with empty node.column) w)
       (record { fewer = λ k. omega arith; same = λ k z. refl })
       (look_here place node.column node.value w o.below o.beside)
-      (settles from o.below o.beside o.below_tree.starts o.beside_tree.starts (record {
+      (retains from o.below o.beside o.below_tree.starts o.beside_tree.starts (record {
         within = o.within;
         kept_below = o.below_tree.kept;
         kept_beside = o.beside_tree.kept;

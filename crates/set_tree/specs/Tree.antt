@@ -87,7 +87,8 @@ module _ {V : Type 0} where
     pub same : (k : ℕ) → uses t k + spare (length ns) us k ≡ 0 → slice_get new k ≡ slice_get ns k
 
   -- a tree at a link that a tree became, of these values
-  pub record Becomes (ns : List (Node V)) (us : List ℕ) (from : ℕ) (t : Shape V) (new : List (Node V)) (waiting : List ℕ) (link : Option ℕ) (values : Columns → Option V) : Type 0 where
+  pub record Becomes (ns : List (Node V)) (us : List ℕ) (from : ℕ) (t : Shape V) (new : List (Node V)) (waiting : List ℕ)
+      (link : Option ℕ) (values : Columns → Option V) : Type 0 where
     pub shape : Shape V
     pub starts : link ≡ root shape
     pub kept : Keep new shape
@@ -109,13 +110,15 @@ module _ {V : Type 0} where
 
 module _ {V : Type 0} where
   -- keeping the node at the place makes a tree at the link of what stands below it and beside it
-  abbrev pub Settles : List (Node V) → List ℕ → ℕ → Node V → List (Node V) → List ℕ → Option ℕ → Type 0
-  Settles ns us place node new waiting link = (from : ℕ) (below beside : Shape V) → node.child ≡ root below → node.next ≡ root beside → IsLoose ns us place from node.column node.value below beside
+  abbrev pub Retains : List (Node V) → List ℕ → ℕ → Node V → List (Node V) → List ℕ → Option ℕ → Type 0
+  Retains ns us place node new waiting link = (from : ℕ) (below beside : Shape V) → node.child ≡ root below → node.next ≡ root beside
+      → IsLoose ns us place from node.column node.value below beside
       → Becomes ns us from (fork place node.column node.value below beside) new waiting link (look (fork place node.column node.value below beside))
 
   -- a path at the link got this value
   abbrev pub Gives : List (Node V) → List ℕ → Option ℕ → ℕ → List (Node V) → List ℕ → Option ℕ → Columns → Option V → Type 0
-  Gives ns us link column new waiting to x value = (from : ℕ) (t : Shape V) → IsTree ns us link from t → from ≤ column → Becomes ns us from t new waiting to (but t x value)
+  Gives ns us link column new waiting to x value = (from : ℕ) (t : Shape V) → IsTree ns us link from t → from ≤ column
+      → Becomes ns us from t new waiting to (but t x value)
 
 -- the columns of a path behind its first one
 abbrev pub AreBehind : ℕ → Columns → Type 0

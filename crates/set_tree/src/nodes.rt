@@ -1,9 +1,9 @@
-// The nodes of a tree.
+// All nodes in one list, where a link is a place, and the calls that go down from a link.
 ghost use Rattle.std.specs.Prelude.{◌≡◌, ◌<◌, ◌≤◌, ◌+◌, ◌++◌, ◌∷◌, [], ℕ, suc, None, Some, Option, length, slice_get, IfOk, IfSome, IsNone, IsTrue, false, OnOk, OnErr};
 ghost use Rattle.std.specs.Option.{is_some};
 ghost use Rattle.col_set.specs.ColSet.{with};
 ghost use Rattle.col_set.specs.declared.col_set.TheConstants.{MOST_COLUMNS};
-ghost use Rattle.set_tree.specs.Tree.{Shape, tip, fork, root, Keep, Ascends, uses, spare, one, times, IsTree, Stands, IsLocal, Becomes, AreBehind, Settles, Gives, but, look, revalued};
+ghost use Rattle.set_tree.specs.Tree.{Shape, tip, fork, root, Keep, Ascends, uses, spare, one, times, IsTree, Stands, IsLocal, Becomes, AreBehind, Retains, Gives, but, look, revalued};
 ghost use Rattle.set_tree.specs.Walks.{Reads, Rooted};
 
 use crate::node::Node;
@@ -269,7 +269,7 @@ impl<V: Copy> Nodes<V> {
     // Keeps a node where a path ends at it or goes on below it, and answers where the columns from there on begin.
     fn keep(&mut self, place: u32, node: Node<V>) -> Option<u32>
         requires { place < length self.old.list.items }
-        ensures { Settles self.old.list.items self.old.unused.items place node self.new.list.items self.new.unused.items result }
+        ensures { Retains self.old.list.items self.old.unused.items place node self.new.list.items self.new.unused.items result }
     {
         if node.value.is_none() && node.child.is_none() {
             self.give_up(place);
