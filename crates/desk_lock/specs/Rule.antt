@@ -30,7 +30,8 @@ module _ {C : Type 0} where
   takes_state (Some call) = true
 
 module _ {C R : Type 0} where
-  -- A ticket that is out is one from the word served to below the next ticket, and its seat's alone. The first of them may be served: then its pass has seen the whole history, and the state is out with it if it makes a call
+  -- A ticket that is out is one from the word served to below the next ticket, and its seat's alone.
+  -- The first of them may be served: then its pass has seen the whole history, and the state is out with it if it makes a call
   abbrev pub Stands : List (Entry C R) → ℕ → Bool → (ℕ → ℕ) → ℕ → List (Entry C R) → Stage C → Type 0
   Stands history drawn away owner seat seen Idle = Unit {0}
   Stands history drawn away owner seat seen (Drawn t call) = (length history ≤ t) × (t < drawn) × (owner t ≡ seat) × (t ≡ length history → away ≡ false)

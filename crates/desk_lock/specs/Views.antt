@@ -81,19 +81,24 @@ module _ {T C R : Type 0} where
   module _ (step : T → C → R → T → Type 0) (may : T → ℕ → List (Entry C R) → C → Type 0) where
     -- the whole history was seen, which leaves x, and x was taken if there is a call
     abbrev pub Took : ℕ → Option C → Sat T C R → Sat T C R → Type 0
-    Took t call m n = (more : List (Entry C R)) × (x : T) × (n ≡ (seeing more (at_stage (Served t call) m.0), with_state call x m.1)) × NoneIn (InHome m.0) more × ((o : T) → m.0.opened ≡ Some o → Legal step may o (m.0.seen ++ more) x)
+    Took t call m n = (more : List (Entry C R)) × (x : T) × (n ≡ (seeing more (at_stage (Served t call) m.0), with_state call x m.1))
+        × NoneIn (InHome m.0) more × ((o : T) → m.0.opened ≡ Some o → Legal step may o (m.0.seen ++ more) x)
 
     -- where the word served is the ticket, it is served; else nothing changed
     abbrev pub reached : At T → Sat T C R → ℕ → Sat T C R → Type 0
-    reached st m r n = (t : ℕ) (call : Option C) → m.0.stage ≡ Drawn t call → (r ≡ t % 18446744073709551616 → Took t call m n) × (r ≢ t % 18446744073709551616 → n ≡ m)
+    reached st m r n = (t : ℕ) (call : Option C) → m.0.stage ≡ Drawn t call
+        → (r ≡ t % 18446744073709551616 → Took t call m n) × (r ≢ t % 18446744073709551616 → n ≡ m)
 
-    -- the call was made: the history that is now seen is legal, begins with all that was seen and ends with this call, and between them nobody of the home made one
+    -- the call was made: the history that is now seen is legal, begins with all that was seen and ends with this call,
+    -- and between them nobody of the home made one
     abbrev pub Turned : T → View T C R → C → R → View T C R → Type 0
-    Turned opened v call reply w = (between : List (Entry C R)) × (x : T) × (w ≡ seeing (between ++ entry v.low call reply ∷ []) v) × NoneIn (InHome v) between × Legal step may opened w.seen x
+    Turned opened v call reply w = (between : List (Entry C R)) × (x : T) × (w ≡ seeing (between ++ entry v.low call reply ∷ []) v)
+        × NoneIn (InHome v) between × Legal step may opened w.seen x
 
   -- the state was given back, and the history has this entry more
   abbrev pub left : Option R → At T → Sat T C R → ℕ → Sat T C R → Type 0
-  left said st m r n = (t : ℕ) (call : C) (reply : R) → m.0.stage ≡ Served t (Some call) → said ≡ Some reply → n ≡ (seeing (entry m.0.low call reply ∷ []) (at_stage Idle m.0), rest m.1)
+  left said st m r n = (t : ℕ) (call : C) (reply : R) → m.0.stage ≡ Served t (Some call) → said ≡ Some reply
+      → n ≡ (seeing (entry m.0.low call reply ∷ []) (at_stage Idle m.0), rest m.1)
 
   -- what was heard is seen now, and both goes on from what either had seen
   abbrev pub Listens : Sat T C R → Sat T C R → Type 0

@@ -1,4 +1,4 @@
-// The desk: a ticket lock over two words and one slot.
+// A ticket lock over two words and one slot.
 ghost use Rattle.std.specs.Prelude.{◌≡◌};
 
 use crate::rule::Orderly;

@@ -1,4 +1,4 @@
-// The calls.
+// Opening a desk, and what whoever holds a pass does: draw a ticket, take a turn, give the pass back.
 ghost use Rattle.std.specs.Prelude.{◌≡◌, ℕ, ◌<◌, ◌≤◌, List, [], ◌++◌, Some, IfOk, IfErr};
 ghost use Rattle.desk_lock.specs.declared.history.Entry.{Entry};
 ghost use Rattle.desk_lock.specs.History.{NoneIn, GoesOn};
