@@ -1,4 +1,4 @@
-// The dictionary.
+// Codes for cells, and the cells by their codes: what is known stands in a map, what was coded lately is guessed first.
 ghost use Rattle.std.specs.Prelude.{◌≡◌, ◌<◌, [], None, Some, true, false, IfOk, IfSome, OnOk, OnErr, length, slice_get, take};
 ghost use Rattle.column_dict.specs.Coding.{IsCoding, IsCodeOf, coded, is_new};
 
