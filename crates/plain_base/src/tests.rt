@@ -5,8 +5,9 @@ use crate::{
     least_covers, least_sets, minimal_sets, refutes, relation_of, specialise,
 };
 use col_set::{ColSet, MOST_COLUMNS, Target};
-use rel_base::{Batch, Fd, Limits, MOST_ROWS, Nulls, Op, Relation, Row, RowNo, Why};
+use rel_base::{Batch, Covers, Fd, Limits, MOST_ROWS, Nulls, Op, Relation, Row, RowNo, Why};
 use std::alloc::{AllocError, Global};
+use std::process::Abort;
 use std::test::Fail;
 
 fn one(column: u8) -> ColSet
@@ -92,44 +93,69 @@ fn two_letters_agree_on_their_keys(rt: HostRuntime) -> Result<(), Fail> {
     Ok(())
 }
 
-#[test]
-fn letters_have_one_key_and_one_dependency(rt: HostRuntime) -> Result<(), Fail> {
-    let alloc = rt.alloc();
-    let relation = letters(alloc)?.ok_or("no relation")?;
-    let found = covers(alloc, Nulls::Equal, &relation)?;
-    let keys = [one(1)];
+// Whether these are the covers of `letters`.
+fn are_covers_of_letters(found: &Covers) -> bool {
     let fds = [Fd {
         left: one(1),
         right: 0,
     }];
-    assert!(rt; found.keys() == keys.as_slice() && found.fds() == fds.as_slice());
-    let again = least_covers(alloc, 2, &[one(0), ColSet::empty()])?;
-    assert!(rt; again.keys() == keys.as_slice() && again.fds() == fds.as_slice());
+    found.keys() == [one(1)].as_slice() && found.fds() == fds.as_slice()
+}
+
+#[test]
+fn letters_have_one_key_and_one_dependency(rt: HostRuntime) -> Result<(), Fail> {
+    let relation = letters(rt.alloc())?.ok_or("no relation")?;
+    let found = covers(rt.alloc(), Nulls::Equal, &relation)?;
+    assert!(rt; are_covers_of_letters(&found));
     Ok(())
 }
 
 #[test]
-fn inclusions_of_three_columns(rt: HostRuntime) -> Result<(), Fail> {
-    let alloc = rt.alloc();
-    let columns = vec![in alloc;
+fn agree_sets_of_letters_have_their_covers(rt: HostRuntime) -> Result<(), Fail> {
+    let found = least_covers(rt.alloc(), 2, &[one(0), ColSet::empty()])?;
+    assert!(rt; are_covers_of_letters(&found));
+    Ok(())
+}
+
+// A column of two cells, one NULL, a column of that one's other cell and a further one, and a column of no cells.
+fn three_columns(alloc: Global) -> Result<Vec<Row>, AllocError> {
+    Ok(vec![in alloc;
         two(alloc, b"a", b"")?,
         two(alloc, b"b", b"a")?,
         Row::copied(alloc, &[])?,
-    ]?;
-    let pairs = inclusions(alloc, &columns)?;
-    assert!(rt; pairs.as_slice() == [(0, 1), (2, 0), (2, 1)].as_slice());
+    ]?)
+}
+
+// Asserts which of the first two of the columns is included in the other.
+fn first_is_included_in_second(rt: &impl Abort, columns: &[Row]) {
     assert!(rt; columns.len() == 3);
-    assert!(rt; is_included(&columns, 0, 1) && !is_included(&columns, 1, 0));
+    assert!(rt; is_included(columns, 0, 1));
+    assert!(rt; !is_included(columns, 1, 0));
+}
+
+#[test]
+fn inclusions_of_three_columns(rt: HostRuntime) -> Result<(), Fail> {
+    let columns = three_columns(rt.alloc())?;
+    let pairs = inclusions(rt.alloc(), &columns)?;
+    assert!(rt; pairs.as_slice() == [(0, 1), (2, 0), (2, 1)].as_slice());
+    first_is_included_in_second(&rt, &columns);
     Ok(())
+}
+
+// Asserts that these are the keys of `letters`.
+fn are_keys_of_letters(rt: &impl Abort, keys: &[Row]) {
+    assert!(rt; keys.len() == 2);
+    assert!(rt; keys[0].len() == 1);
+    assert!(rt; keys[1].len() == 1);
+    assert!(rt; keys[0].cell(0) == b"1".as_slice());
+    assert!(rt; keys[1].cell(0) == b"2".as_slice());
 }
 
 #[test]
 fn parts_are_kept_once(rt: HostRuntime) -> Result<(), Fail> {
     let rows = letter_rows(rt.alloc(), 9)?;
     assert!(rt; rows.names().len() == 2);
-    let keys = rows.projection(rt.alloc(), ColSet::of_bits(1))?;
-    assert!(rt; keys.len() == 2 && keys[0].len() == 1 && keys[1].len() == 1);
-    assert!(rt; keys[0].cell(0) == b"1".as_slice() && keys[1].cell(0) == b"2".as_slice());
+    are_keys_of_letters(&rt, &rows.projection(rt.alloc(), ColSet::of_bits(1))?);
     Ok(())
 }
 
@@ -149,12 +175,16 @@ fn one_row_has_any_key(rt: HostRuntime) -> Result<(), Fail> {
     Ok(())
 }
 
+// Whether the rows have the one key of `letters`.
+fn has_key_of_letters(alloc: Global, rows: &PlainRows) -> Result<bool, AllocError> {
+    Ok(rows.covers(alloc)?.keys() == [one(1)].as_slice())
+}
+
 #[test]
 fn covers_of_fewer_rows(rt: HostRuntime) -> Result<(), Fail> {
     let rows = letter_rows(rt.alloc(), 9)?.below(rt.alloc(), 3)?;
     assert!(rt; rows.live() == [1u32, 2].as_slice());
-    let found = rows.covers(rt.alloc())?;
-    assert!(rt; found.keys() == [one(1)].as_slice());
+    assert!(rt; has_key_of_letters(rt.alloc(), &rows)?);
     Ok(())
 }
 
@@ -170,12 +200,22 @@ fn changes(alloc: Global, updated: u32, deleted: u32) -> Result<Batch, AllocErro
     Ok(Batch::of(ops))
 }
 
+// What becomes of these rows by a batch of two columns.
+fn outcome(
+    rt: &impl Abort,
+    alloc: Global,
+    rows: &PlainRows,
+    batch: &Batch,
+) -> Result<Result<PlainRows, (usize, Why)>, AllocError> {
+    assert!(rt; are_as_wide(batch, rows.names().len()));
+    rows.after(alloc, batch)
+}
+
 #[test]
 fn a_batch_is_applied(rt: HostRuntime) -> Result<(), Fail> {
     let rows = letter_rows(rt.alloc(), 9)?;
     let batch = changes(rt.alloc(), 2, 1)?;
-    assert!(rt; are_as_wide(&batch, rows.names().len()));
-    let Ok(after) = rows.after(rt.alloc(), &batch)? else {
+    let Ok(after) = outcome(&rt, rt.alloc(), &rows, &batch)? else {
         return Err("refused".into());
     };
     assert!(rt; after.live() == [3u32, 4, 5].as_slice() && after.given().len() == 5);
@@ -183,15 +223,20 @@ fn a_batch_is_applied(rt: HostRuntime) -> Result<(), Fail> {
     Ok(())
 }
 
+// Whether it is the second operation that refuses a batch, since its row is missing.
+fn is_second_missing(refusal: (usize, Why)) -> bool {
+    refusal.0 == 2 && refusal.1 == Why::Missing
+}
+
 #[test]
 fn the_first_failure_refuses_a_batch(rt: HostRuntime) -> Result<(), Fail> {
     let rows = letter_rows(rt.alloc(), 4)?;
     let batch = changes(rt.alloc(), 2, 9)?;
-    assert!(rt; are_as_wide(&batch, rows.names().len()));
-    let Err((at, why)) = rows.after(rt.alloc(), &batch)? else {
+    let Err(refusal) = outcome(&rt, rt.alloc(), &rows, &batch)? else {
         return Err("applied".into());
     };
-    assert!(rt; at == 2 && why == Why::Missing && rows.live().len() == 3);
+    assert!(rt; is_second_missing(refusal));
+    assert!(rt; rows.live().len() == 3);
     Ok(())
 }
 
