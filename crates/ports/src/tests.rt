@@ -82,6 +82,9 @@ fn copy_surely(
 
 const R: &str = "id,city,zip\n1,Berlin,10115\n2,Berlin,10115\n3,Potsdam,14467\n";
 
+// Its first 40 bytes.
+const R_FIRST: &str = "id,city,zip\n1,Berlin,10115\n2,Berlin,1011";
+
 fn name(alloc: Global, word: &str) -> Result<Name, AllocError> {
     Ok(Name::of(String::from_str(alloc, word)?))
 }
@@ -89,6 +92,27 @@ fn name(alloc: Global, word: &str) -> Result<Name, AllocError> {
 // The bytes of R.
 fn text(alloc: Global) -> Result<Vec<u8>, AllocError> {
     R.as_bytes().to_vec(alloc)
+}
+
+// Whether the bytes are those of this text.
+fn is_same(bytes: &[u8], text: &str) -> bool {
+    bytes == text.as_bytes()
+}
+
+// Whether R was loaded.
+fn is_text(loading: &Loading) -> bool {
+    match loading {
+        Loading::Loaded(bytes) => is_same(bytes, R),
+        Loading::TooLong | Loading::Failed | Loading::NoMemory => false,
+    }
+}
+
+// What loading R comes to from a source whose reads move at most so many bytes.
+fn load_text(alloc: Global, limit: u64, largest: usize) -> Result<Loading, AllocError>
+    requires { 0 < largest }
+{
+    let mut source = MemSource::of(text(alloc)?, Vec::new(alloc), largest);
+    Ok(load(alloc, &mut source, limit))
 }
 
 // A file `r.csv` that holds R.
@@ -104,52 +128,109 @@ fn shelf(alloc: Global, fails: Vec<(Kind, u64)>, largest: usize) -> Result<MemSh
     MemShelf::with(alloc, files(alloc)?, 2, 58, fails, largest)
 }
 
-// Loads the file of this name from a shelf.
-fn loaded(
+// Such a shelf of which one call fails.
+fn failing_shelf(
+    alloc: Global,
+    kind: Kind,
+    number: u64,
+    largest: usize,
+) -> Result<MemShelf, AllocError>
+    requires { 0 < largest }
+    ensures { IfOk result (λ shelf. shelf.opened ≡ Nothing) }
+{
+    shelf(alloc, vec![in alloc; (kind, number)]?, largest)
+}
+
+// Whether loading the file of this name answers so.
+fn loads(
     alloc: Global,
     shelf: &mut MemShelf,
     word: &str,
     limit: u64,
-) -> Result<Loading, AllocError>
+    answer: &Loading,
+) -> Result<bool, AllocError>
     requires { shelf.old.opened ≡ Nothing }
     ensures { shelf.new.opened ≡ Nothing }
 {
-    Ok(load_file(alloc, shelf, name(alloc, word)?, limit))
+    Ok(load_file(alloc, shelf, name(alloc, word)?, limit) == *answer)
 }
 
-// Stores R under this name, and gives the answer beside what the file then holds.
-fn stored(
+// Whether loading the file of this name gives R.
+fn loads_text(
     alloc: Global,
     shelf: &mut MemShelf,
     word: &str,
-) -> Result<(Storing, Option<Vec<u8>>), AllocError>
+    limit: u64,
+) -> Result<bool, AllocError>
     requires { shelf.old.opened ≡ Nothing }
     ensures { shelf.new.opened ≡ Nothing }
 {
-    let answer = store_file(shelf, name(alloc, word)?, R.as_bytes());
-    let held = match shelf.file(&name(alloc, word)?) {
-        Some(bytes) => Some(bytes.to_vec(alloc)?),
-        None => None,
-    };
-    Ok((answer, held))
+    Ok(is_text(&load_file(alloc, shelf, name(alloc, word)?, limit)))
 }
 
-fn first(alloc: Global, count: usize) -> Result<Option<Vec<u8>>, AllocError> {
-    let front = R.as_bytes().get(..count).unwrap_or(&[]);
-    Ok(Some(front.to_vec(alloc)?))
+// Stores R under this name.
+fn stored(alloc: Global, shelf: &mut MemShelf, word: &str) -> Result<Storing, AllocError>
+    requires { shelf.old.opened ≡ Nothing }
+    ensures { shelf.new.opened ≡ Nothing }
+{
+    Ok(store_file(shelf, name(alloc, word)?, R.as_bytes()))
+}
+
+// Whether the file of this name holds this text.
+fn holds(alloc: Global, shelf: &MemShelf, word: &str, text: &str) -> Result<bool, AllocError> {
+    let name = name(alloc, word)?;
+    Ok(match shelf.file(&name) {
+        Some(bytes) => is_same(bytes, text),
+        None => false,
+    })
+}
+
+// Whether no file has this name.
+fn is_absent(alloc: Global, shelf: &MemShelf, word: &str) -> Result<bool, AllocError> {
+    let name = name(alloc, word)?;
+    Ok(shelf.file(&name).is_none())
+}
+
+// Whether R is stored under this name, and is there then.
+fn stores(alloc: Global, shelf: &mut MemShelf, word: &str) -> Result<bool, AllocError>
+    requires { shelf.old.opened ≡ Nothing }
+    ensures { shelf.new.opened ≡ Nothing }
+{
+    let answer = stored(alloc, shelf, word)?;
+    Ok(answer == Storing::Stored && holds(alloc, shelf, word, R)?)
+}
+
+// Whether storing R under this name fails, and this text of it is there then, or no file for None.
+fn fails_with(
+    alloc: Global,
+    shelf: &mut MemShelf,
+    word: &str,
+    held: Option<&str>,
+) -> Result<bool, AllocError>
+    requires { shelf.old.opened ≡ Nothing }
+    ensures { shelf.new.opened ≡ Nothing }
+{
+    let answer = stored(alloc, shelf, word)?;
+    let same = match held {
+        Some(text) => holds(alloc, shelf, word, text)?,
+        None => is_absent(alloc, shelf, word)?,
+    };
+    Ok(answer == Storing::Failed && same)
 }
 
 #[test]
 fn a_text_is_loaded_up_to_the_limit(rt: HostRuntime) -> Result<(), Fail> {
-    let alloc = rt.alloc();
     for largest in [1, 7, 58, 100] {
-        let mut source = MemSource::of(text(alloc)?, Vec::new(alloc), largest);
-        assert!(rt; load(alloc, &mut source, 58) == Loading::Loaded(text(alloc)?));
-        let mut source = MemSource::of(text(alloc)?, Vec::new(alloc), largest);
-        assert!(rt; load(alloc, &mut source, 57) == Loading::TooLong);
+        assert!(rt; is_text(&load_text(rt.alloc(), 58, largest)?));
+        assert!(rt; load_text(rt.alloc(), 57, largest)? == Loading::TooLong);
     }
-    let mut source = SureSource::of(text(alloc)?);
-    assert!(rt; load(alloc, &mut source, u64::MAX) == Loading::Loaded(text(alloc)?));
+    Ok(())
+}
+
+#[test]
+fn a_sure_source_is_loaded_to_its_end(rt: HostRuntime) -> Result<(), Fail> {
+    let mut source = SureSource::of(text(rt.alloc())?);
+    assert!(rt; is_text(&load(rt.alloc(), &mut source, u64::MAX)));
     assert!(rt; source.left().len() == 0);
     Ok(())
 }
@@ -171,7 +252,7 @@ fn a_sure_sink_takes_what_it_has_room_for(rt: HostRuntime) -> Result<(), Fail> {
     assert!(rt; sink.bytes().len() == 0);
     assert!(rt; put_all(&mut sink, R.as_bytes()) == Putting::Put);
     assert!(rt; put_all(&mut sink, b"more") == Putting::Failed);
-    assert!(rt; sink.bytes() == R.as_bytes());
+    assert!(rt; is_same(sink.bytes(), R));
     assert!(rt; sink.faults() == 1);
     Ok(())
 }
@@ -188,15 +269,23 @@ fn a_listed_write_fails_and_is_counted(rt: HostRuntime) -> Result<(), Fail> {
 }
 
 #[test]
-fn each_write_is_handed_all_that_is_left(rt: HostRuntime) -> Result<(), Fail> {
+fn each_write_to_a_sink_is_handed_all_that_is_left(rt: HostRuntime) -> Result<(), Fail> {
     let alloc = rt.alloc();
     let mut sink = MemSink::with_room(alloc, 58, vec![in alloc; 2]?, 58)?;
     assert!(rt;
         put_all(&mut sink, R.as_bytes()) == Putting::Put,
         "there is no second write"
     );
-    let mut shelf = shelf(alloc, vec![in alloc; (Kind::Write, 2)]?, 58)?;
-    assert!(rt; stored(alloc, &mut shelf, "t.csv")? == (Storing::Stored, first(alloc, 58)?));
+    Ok(())
+}
+
+#[test]
+fn each_write_to_a_file_is_handed_all_that_is_left(rt: HostRuntime) -> Result<(), Fail> {
+    let mut shelf = failing_shelf(rt.alloc(), Kind::Write, 2, 58)?;
+    assert!(rt;
+        stores(rt.alloc(), &mut shelf, "t.csv")?,
+        "there is no second write"
+    );
     Ok(())
 }
 
@@ -205,10 +294,10 @@ fn a_shelf_begins_with_its_files(rt: HostRuntime) -> Result<(), Fail> {
     let alloc = rt.alloc();
     let mut shelf = shelf(alloc, Vec::new(alloc), 58)?;
     assert!(rt; shelf.len() == 1);
-    assert!(rt; loaded(alloc, &mut shelf, "r.csv", 58)? == Loading::Loaded(text(alloc)?));
-    assert!(rt; loaded(alloc, &mut shelf, "r.csv", 57)? == Loading::TooLong);
+    assert!(rt; loads_text(alloc, &mut shelf, "r.csv", 58)?);
+    assert!(rt; loads(alloc, &mut shelf, "r.csv", 57, &Loading::TooLong)?);
     assert!(rt;
-        loaded(alloc, &mut shelf, "t.csv", 58)? == Loading::Failed,
+        loads(alloc, &mut shelf, "t.csv", 58, &Loading::Failed)?,
         "it is not there"
     );
     assert!(rt; shelf.read_faults() == 1);
@@ -219,9 +308,9 @@ fn a_shelf_begins_with_its_files(rt: HostRuntime) -> Result<(), Fail> {
 fn a_shelf_has_room_for_two_files_more(rt: HostRuntime) -> Result<(), Fail> {
     let alloc = rt.alloc();
     let mut shelf = shelf(alloc, Vec::new(alloc), 1)?;
-    assert!(rt; stored(alloc, &mut shelf, "t.csv")? == (Storing::Stored, first(alloc, 58)?));
-    assert!(rt; stored(alloc, &mut shelf, "t.csv")? == (Storing::Stored, first(alloc, 58)?));
-    assert!(rt; stored(alloc, &mut shelf, "u.csv")? == (Storing::Failed, None));
+    assert!(rt; stores(alloc, &mut shelf, "t.csv")?);
+    assert!(rt; stores(alloc, &mut shelf, "t.csv")?);
+    assert!(rt; fails_with(alloc, &mut shelf, "u.csv", None)?);
     assert!(rt; shelf.len() == 2);
     assert!(rt; shelf.write_faults() == 1);
     Ok(())
@@ -229,11 +318,10 @@ fn a_shelf_has_room_for_two_files_more(rt: HostRuntime) -> Result<(), Fail> {
 
 #[test]
 fn a_listed_call_of_a_load_fails(rt: HostRuntime) -> Result<(), Fail> {
-    let alloc = rt.alloc();
     for (kind, number) in [(Kind::Open, 1), (Kind::Read, 2), (Kind::Close, 1)] {
-        let mut shelf = shelf(alloc, vec![in alloc; (kind, number)]?, 20)?;
+        let mut shelf = failing_shelf(rt.alloc(), kind, number, 20)?;
         assert!(rt;
-            loaded(alloc, &mut shelf, "r.csv", 58)? == Loading::Failed,
+            loads(rt.alloc(), &mut shelf, "r.csv", 58, &Loading::Failed)?,
             "{kind:?}"
         );
         assert!(rt; shelf.read_last() == Some(b"r.csv".as_slice()));
@@ -243,16 +331,15 @@ fn a_listed_call_of_a_load_fails(rt: HostRuntime) -> Result<(), Fail> {
 
 #[test]
 fn a_listed_call_of_a_store_fails(rt: HostRuntime) -> Result<(), Fail> {
-    let alloc = rt.alloc();
     for (kind, number, held) in [
         (Kind::Create, 1, None),
-        (Kind::Write, 1, first(alloc, 0)?),
-        (Kind::Write, 3, first(alloc, 40)?),
-        (Kind::Close, 1, first(alloc, 58)?),
+        (Kind::Write, 1, Some("")),
+        (Kind::Write, 3, Some(R_FIRST)),
+        (Kind::Close, 1, Some(R)),
     ] {
-        let mut shelf = shelf(alloc, vec![in alloc; (kind, number)]?, 20)?;
+        let mut shelf = failing_shelf(rt.alloc(), kind, number, 20)?;
         assert!(rt;
-            stored(alloc, &mut shelf, "t.csv")? == (Storing::Failed, held),
+            fails_with(rt.alloc(), &mut shelf, "t.csv", held)?,
             "{kind:?}"
         );
         assert!(rt; shelf.write_last() == Some(b"t.csv".as_slice()));
@@ -267,7 +354,7 @@ fn a_sure_shelf_reads_what_it_has(rt: HostRuntime) -> Result<(), Fail> {
     let mut sink = SureSink::with_room(alloc, 100)?;
     assert!(rt; copy_file(alloc, &mut shelf, &mut sink, name(alloc, "r.csv")?, 58) == Copied::Done);
     assert!(rt; copy_file(alloc, &mut shelf, &mut sink, name(alloc, "none")?, 0) == Copied::Done);
-    assert!(rt; sink.bytes() == R.as_bytes());
+    assert!(rt; is_same(sink.bytes(), R));
     assert!(rt; store_file(&mut shelf, name(alloc, "t.csv")?, b"") == Storing::Failed);
     OpenGate.at(0, Point::Fed);
     Ok(())
