@@ -5,5 +5,5 @@ pub mod Merging
 pub mod Meeting
 pub mod Advancing
 pub mod Pairing
-pub mod Settling
+pub mod Spent
 pub mod Prefixes

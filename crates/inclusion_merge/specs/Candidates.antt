@@ -12,13 +12,13 @@ abbrev pub may : Candidates → ℕ → ℕ → Bool
 may c dependent referenced = has_wide (drop (dependent * c.parts) c.kept.items) referenced
 
 -- what is left of a column's list tells nothing more: the column is included in no other, and nothing is left of those that may be included in it
-abbrev pub IsSettled : Candidates → List (List Cell) → ℕ → Type 0
-IsSettled c rests column = (other : ℕ) → other < c.columns → other ≢ column → (may c column other ≡ false)
+abbrev pub IsSpent : Candidates → List (List Cell) → ℕ → Type 0
+IsSpent c rests column = (other : ℕ) → other < c.columns → other ≢ column → (may c column other ≡ false)
     × ((may c other column ≡ false) ⊎ (list_at rests other ≡ []))
 
--- a column's list stays as it was, or nothing is left of it and the column is settled
-abbrev pub IsSameOrSettled : Candidates → List (List Cell) → ℕ → List Cell → List Cell → Type 0
-IsSameOrSettled c rests column old new = (new ≡ old) ⊎ ((new ≡ []) × IsSettled c rests column)
+-- a column's list stays as it was, or nothing is left of it and the column is spent
+abbrev pub IsSameOrSpent : Candidates → List (List Cell) → ℕ → List Cell → List Cell → Type 0
+IsSameOrSpent c rests column old new = (new ≡ old) ⊎ ((new ≡ []) × IsSpent c rests column)
 
 -- whether two columns differ, and the first may still be included in the second
 abbrev pub is_left : Candidates → ℕ × ℕ → Bool

@@ -1,7 +1,7 @@
 // Lists of values merged, all at once.
 ghost use Rattle.std.specs.Prelude.{◌≡◌, ◌<◌, ◌≤◌, ◌+◌, ◌*◌, ◌&&◌, ◌⊎◌, if◌then◌else◌, ℕ, Bool, [], true, false, length, map, slice_index_or, IfOk, IsTrue, MatchBool, vec_len};
 ghost use Rattle.std.specs.Prelude.{drop};
-ghost use Rattle.inclusion_merge.specs.Candidates.{IsSameOrSettled, IsSettled, may};
+ghost use Rattle.inclusion_merge.specs.Candidates.{IsSameOrSpent, IsSpent, may};
 ghost use Rattle.inclusion_merge.specs.WideSet.{has_wide};
 ghost use Rattle.inclusion_merge.specs.Sharing.{AllRise, AllEnded, IsFirstOf, LeastSoFar, SharesLeast, TellsParts, list_at, lists_of, values_behind};
 
@@ -38,7 +38,7 @@ fn pass(rests: &mut [&[Value]], shared: &mut [ColSet], kept: &mut Candidates)
     let mut turns = Turns { left: 1, next: 1 };
     while mark_least(rests, shared) {
         advance(rests, shared, kept);
-        settle(rests, kept, &mut turns);
+        drop_spent(rests, kept, &mut turns);
     }
 }
 
@@ -63,10 +63,10 @@ impl Turns {
 }
 
 // Where it is time, takes all that is left off the lists that are no longer needed.
-fn settle(rests: &mut [&[Value]], kept: &Candidates, turns: &mut Turns)
+fn drop_spent(rests: &mut [&[Value]], kept: &Candidates, turns: &mut Turns)
     requires { kept.now.columns ≡ length rests.old }
     ensures { (place : ℕ) → place < length rests.old
-        → IsSameOrSettled kept.now (lists_of rests.new) place (list_at (lists_of rests.old) place) (list_at (lists_of rests.new) place) }
+        → IsSameOrSpent kept.now (lists_of rests.new) place (list_at (lists_of rests.old) place) (list_at (lists_of rests.new) place) }
 {
     if turns.is_due() {
         for place in 0..rests.len() {
@@ -82,10 +82,10 @@ fn rest_if_needed<'a, 'b>(
 ) -> &'a [Value<'b>]
     requires columns { kept.now.columns ≡ length rests.now }
     requires place { place < kept.now.columns }
-    ensures { IsSameOrSettled kept.now (lists_of rests.now) place (list_at (lists_of rests.now) place) result.now }
+    ensures { IsSameOrSpent kept.now (lists_of rests.now) place (list_at (lists_of rests.now) place) result.now }
 {
     let rest = rests[place];
-    if !rest.is_empty() && is_settled(rests, kept, place) {
+    if !rest.is_empty() && is_spent(rests, kept, place) {
         &rest[..0]
     } else {
         rest
@@ -93,10 +93,10 @@ fn rest_if_needed<'a, 'b>(
 }
 
 // Whether the values that are left of a list tell nothing more: it is a part of no other list, and those that may be a part of it have ended.
-fn is_settled(rests: &[&[Value]], kept: &Candidates, place: usize) -> bool
+fn is_spent(rests: &[&[Value]], kept: &Candidates, place: usize) -> bool
     requires columns { kept.now.columns ≡ length rests.now }
     requires place { place < kept.now.columns }
-    ensures { IsTrue result → IsSettled kept.now (lists_of rests.now) place }
+    ensures { IsTrue result → IsSpent kept.now (lists_of rests.now) place }
 {
     for other in 0..rests.len() {
         if other != place && is_open(rests, kept, place, other) {

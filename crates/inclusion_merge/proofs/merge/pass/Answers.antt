@@ -3,7 +3,7 @@ use Rattle.inclusion_merge.specs.Candidates.{may}
 use Rattle.inclusion_merge.specs.WideSet.{has_wide}
 use Rattle.inclusion_merge.specs.Sharing.{AllEnded, IsLeastFirst, SharesLeast, lists_of}
 use Rattle.inclusion_merge.proofs.Merging.{Merged-all, Merged-more, Merged-none, total, total_falls}
-use Rattle.inclusion_merge.proofs.Settling.{Merged-settled, total_settled}
+use Rattle.inclusion_merge.proofs.Spent.{Merged-spent, total_spent}
 use Rattle.inclusion_merge.proofs.Places.{length-lists_of}
 use Rattle.inclusion_merge.proofs.merge.pass.Goals as goal
 
@@ -23,23 +23,23 @@ pub loop-turns-smaller : goal.loop-turns-smaller
 loop-turns-smaller c =
     let long = length-lists_of c.loop-turns.rests in
     let long' = length-lists_of c.advance.new.rests in
-    let long'' = length-lists_of c.settle.new.rests in
+    let long'' = length-lists_of c.drop_spent.new.rests in
     let found : SharesLeast (has_wide c.mark_least.new.shared) (lists_of c.loop-turns.rests) (length c.loop-turns.rests) = c.loop-turns-test.ensures in
     let fewer : total (lists_of c.advance.new.rests) < total (lists_of c.loop-turns.rests) =
     total_falls (lists_of c.loop-turns.rests) (lists_of c.advance.new.rests) (λ k. has_wide c.mark_least.new.shared k) found.value (omega arith)
     (subst (λ (n : ℕ). IsLeastFirst found.value (lists_of c.loop-turns.rests) n) (sym long) found.first)
     (λ k l. found.marked.done k (omega arith))
     (λ k l. c.advance.ensures.rests k (omega arith)) in
-    let no_more : total (lists_of c.settle.new.rests) ≤ total (lists_of c.advance.new.rests) =
-    total_settled c.advance.new.kept (lists_of c.advance.new.rests) (lists_of c.settle.new.rests) (omega arith) (λ k l. c.settle.ensures k (omega arith)) in
-    smaller (total (lists_of c.settle.new.rests)) (total (lists_of c.advance.new.rests)) (total (lists_of c.loop-turns.rests)) no_more fewer
+    let no_more : total (lists_of c.drop_spent.new.rests) ≤ total (lists_of c.advance.new.rests) =
+    total_spent c.advance.new.kept (lists_of c.advance.new.rests) (lists_of c.drop_spent.new.rests) (omega arith) (λ k l. c.drop_spent.ensures k (omega arith)) in
+    smaller (total (lists_of c.drop_spent.new.rests)) (total (lists_of c.advance.new.rests)) (total (lists_of c.loop-turns.rests)) no_more fewer
 
 pub loop-turns-preserved : goal.loop-turns-preserved
 loop-turns-preserved c =
     let first = length-lists_of c.args.rests.now in
     let long = length-lists_of c.loop-turns.rests in
     let long' = length-lists_of c.advance.new.rests in
-    let long'' = length-lists_of c.settle.new.rests in
+    let long'' = length-lists_of c.drop_spent.new.rests in
     let columns = c.loop-turns.invariant.columns in
     let columns' = c.advance.ensures.columns in
     let wide = c.requires.columns in
@@ -56,8 +56,8 @@ loop-turns-preserved c =
       columns = c.advance.ensures.columns ∙ columns;
       parts = c.advance.ensures.parts ∙ c.loop-turns.invariant.parts;
       merged =
-          Merged-settled (lists_of c.args.rests.now) (lists_of c.advance.new.rests) (lists_of c.settle.new.rests) c.advance.new.kept (omega arith) merged (omega arith)
-          (λ k l. c.settle.ensures k (omega arith));
+          Merged-spent (lists_of c.args.rests.now) (lists_of c.advance.new.rests) (lists_of c.drop_spent.new.rests) c.advance.new.kept (omega arith) merged (omega arith)
+          (λ k l. c.drop_spent.ensures k (omega arith));
     }
 
 pub returns-clause-tells : goal.returns-clause-tells

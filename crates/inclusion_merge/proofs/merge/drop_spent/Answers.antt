@@ -3,8 +3,8 @@ use Rattle.std.specs.Borrow.{Bor}
 use Rattle.std.proofs.lemmas.List.{map-set}
 use Rattle.inclusion_merge.specs.Sharing.{lists_of}
 use Rattle.inclusion_merge.proofs.Places.{length-lists_of}
-use Rattle.inclusion_merge.proofs.Settling.{Settled-more}
-use Rattle.inclusion_merge.proofs.merge.settle.Goals as goal
+use Rattle.inclusion_merge.proofs.Spent.{Spent-more}
+use Rattle.inclusion_merge.proofs.merge.drop_spent.Goals as goal
 
 pub loop-place-preserved : goal.loop-place-preserved
 loop-place-preserved c =
@@ -12,6 +12,6 @@ loop-place-preserved c =
     let i = c.loop-place.place in
     let rest = c.rest_if_needed.result in
     let long = length-lists_of c.loop-place.rests in
-    Settled-more c.args.kept.now (lists_of c.args.rests.now) now i c.loop-place.invariant _ rest.now (omega arith)
+    Spent-more c.args.kept.now (lists_of c.args.rests.now) now i c.loop-place.invariant _ rest.now (omega arith)
     (map-set (λ (slice : Bor (List (List ℕ))). slice.now) c.loop-place.rests i rest)
     c.rest_if_needed.ensures
