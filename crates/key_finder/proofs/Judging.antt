@@ -317,9 +317,9 @@ standing-less t n s ws keys (w ∷ news) more e a some m =
     x (all_sets n) (Listed-all_sets n x k.0) k.2.passes (ap not told)
 
 -- where all candidates are unique they are the keys
-pub settled_keys : (t : CodeTable) (n s : ℕ) (ws keys : List ℕ) → s < 2 ^ n → keys ≡ keys_within n ws s → All (λ (w : ℕ). Listed w (code_agree_sets t)) ws → AreUnique t s keys → keys ≡ keys_within n (code_agree_sets t) s
+pub finished_keys : (t : CodeTable) (n s : ℕ) (ws keys : List ℕ) → s < 2 ^ n → keys ≡ keys_within n ws s → All (λ (w : ℕ). Listed w (code_agree_sets t)) ws → AreUnique t s keys → keys ≡ keys_within n (code_agree_sets t) s
 unfolding keys_within
-settled_keys t n s ws keys bound e a u = e ∙ filter_same _ _ (all_sets n) (λ x l. same_test _ _
+finished_keys t n s ws keys bound e a u = e ∙ filter_same _ _ (all_sets n) (λ x l. same_test _ _
     (λ h. let k = key-parts n s x ws (Listed-filter (λ x. subset x s && is_minimal n (λ y. not (told_apart ws s y)) x) x (all_sets n) l h) in
     (Listed-filter_parts (λ x. subset x s && is_minimal n (λ y. not (told_apart (code_agree_sets t) s y)) x) x (all_sets n) (key-from n s x (code_agree_sets t) k.0 k.1 (onto x k.0 k.1 k.2))).1)
     (λ h. let k = key-parts n s x (code_agree_sets t) (Listed-filter (λ x. subset x s && is_minimal n (λ y. not (told_apart (code_agree_sets t) s y)) x) x (all_sets n) l h) in

@@ -15,7 +15,7 @@ abbrev pub AgreeSetsTellKeys : Type 0
 AgreeSetsTellKeys = (r : RowState) (s : Columns) → IsRowState r → r.nulls ≡ Equal → s < 2 ^ width r
     → projection_keys r s ≡ keys_within (width r) (agree_sets r) s
 
--- They are those by any agree sets that leave the relation's covers, as the witnesses of a settled search do.
+-- They are those by any agree sets that leave the relation's covers, as the witnesses of a finished search do.
 abbrev pub EvidenceTellsKeys : Type 0
 EvidenceTellsKeys = (r : RowState) (ws : List Columns) (s : Columns) → IsRowState r → r.nulls ≡ Equal → s < 2 ^ width r
     → covers r ≡ least_covers (width r) ws → projection_keys r s ≡ keys_within (width r) ws s

@@ -128,7 +128,7 @@ fn judged(
 ///
 /// It goes by rounds, as HyFD's search does (Papenbrock and Naumann, 2016). The candidates of a round are the keys that the agree
 /// sets found so far leave; each that fails gives agree sets of two rows that agree on it and not on the table; the last round is
-/// the one in which all hold. It makes the groups of rows that agree on a candidate anew in each call: where a settled search has
+/// the one in which all hold. It makes the groups of rows that agree on a candidate anew in each call: where a finished search has
 /// its witnesses at hand, `table_keys_of` is faster by far.
 pub fn table_keys(
     alloc: Global,

@@ -39,7 +39,7 @@ fn missed_columns(
 }
 
 /// The minimal keys of the table of these columns, in report order, by agree sets that leave the relation's covers, as the
-/// witnesses of a settled search do. The rows are not looked at.
+/// witnesses of a finished search do. The rows are not looked at.
 ///
 /// The agree sets are cut to the columns, and the keys are the minimal hitting sets of what they leave (Demetrovics and Thi, 1987).
 /// The time grows with the number of different agree sets inside the columns and that of the keys.
