@@ -10,8 +10,8 @@ use Rattle.rel_base.specs.declared.why.Why.{Why}
 use Rattle.rel_base.specs.declared.why.Why.TheVariants.{NoHeader, Columns, Fields, Cell, Rows, Bytes}
 use Rattle.rel_base.specs.Cells.{Row}
 use Rattle.rel_base.specs.Relation.{Content, IsContent}
-use Rattle.csv_load.specs.declared.load.Reading.TheVariants.{Read, Refused}
-use Rattle.csv_load.specs.Reading.{ReadsAs}
+use Rattle.csv_load.specs.declared.load.Loaded.TheVariants.{Read, Refused}
+use Rattle.csv_load.specs.Loaded.{ReadsAs}
 use Rattle.csv_load.specs.Header.{IsWideHeader}
 use Rattle.csv_load.specs.Records.{records_of}
 use Rattle.csv_load.specs.Laws.{IsFirstRefused, RefusedAtTheFirst}

@@ -2,5 +2,5 @@ pub mod Records
 pub mod Header
 pub mod Refusal
 pub mod Unread
-pub mod Reading
+pub mod Loaded
 pub mod Laws

@@ -10,6 +10,6 @@ mod refusal;
 #[cfg(test)]
 mod tests;
 
-pub use load::{Reading, read_relation, records};
+pub use load::{Loaded, read_relation, records};
 pub use record_reader::RecordReader;
 pub use refusal::has_long_cell;

@@ -1,7 +1,7 @@
 // A file's records, and its relation.
 ghost use Rattle.std.specs.Prelude.{◌≡◌, IfOk};
 ghost use Rattle.csv_load.specs.Records.{records_of};
-ghost use Rattle.csv_load.specs.Reading.{ReadsAs};
+ghost use Rattle.csv_load.specs.Loaded.{ReadsAs};
 
 use crate::header_width::has_wide_header;
 use crate::record_reader::RecordReader;
@@ -27,7 +27,7 @@ pub fn records(alloc: Global, bytes: &[u8]) -> Result<Vec<Row>, AllocError>
 
 /// What reading a relation comes to.
 #[derive(Drop)]
-pub enum Reading {
+pub enum Loaded {
     /// The relation.
     Read(Relation),
     /// The file is refused at this record, counted from 1, for this cause. Record 0 is the file as a whole.
@@ -39,22 +39,22 @@ pub enum Reading {
 /// The relation of a file: record 1 is its header, and each later record a row.
 ///
 /// It is read once, up to the first record that a rule refuses. The limit of bytes is for the caller to watch.
-pub fn read_relation(alloc: Global, bytes: &[u8], limits: &Limits) -> Reading
+pub fn read_relation(alloc: Global, bytes: &[u8], limits: &Limits) -> Loaded
     ensures { ReadsAs limits.now (records_of bytes.now) result }
 {
     match try_read(alloc, bytes, limits) {
         Ok(reading) => reading,
-        Err(AllocError) => Reading::NoMemory,
+        Err(AllocError) => Loaded::NoMemory,
     }
 }
 
 // What `read_relation` answers, with want of memory as an error.
-fn try_read(alloc: Global, bytes: &[u8], limits: &Limits) -> Result<Reading, AllocError>
+fn try_read(alloc: Global, bytes: &[u8], limits: &Limits) -> Result<Loaded, AllocError>
     ensures { IfOk result (ReadsAs limits.now (records_of bytes.now)) }
 {
     // A header that is too wide is refused before its fields take memory.
     if has_wide_header(bytes, limits.columns as usize) {
-        return Ok(Reading::Refused {
+        return Ok(Loaded::Refused {
             rec: 1,
             why: Why::Columns,
         });
@@ -62,23 +62,23 @@ fn try_read(alloc: Global, bytes: &[u8], limits: &Limits) -> Result<Reading, All
     let mut reader = RecordReader::new(alloc, bytes);
     let mut record = ByteRecord::new(alloc);
     if !reader.next(&mut record)? {
-        return Ok(Reading::Refused {
+        return Ok(Loaded::Refused {
             rec: 0,
             why: Why::NoHeader,
         });
     }
     let width = record.len();
     if let Some(why) = header_refusal(limits, &record) {
-        return Ok(Reading::Refused { rec: 1, why });
+        return Ok(Loaded::Refused { rec: 1, why });
     }
     let names = Row::of(record.clone()?);
     let mut rows = Vec::new(alloc);
     while reader.next(&mut record)? {
         let rec = rows.len() as u64 + 2;
         if let Some(why) = row_refusal(limits, width, rec, &record) {
-            return Ok(Reading::Refused { rec, why });
+            return Ok(Loaded::Refused { rec, why });
         }
         rows.push(Row::of(record.clone()?))?;
     }
-    Ok(Reading::Read(Relation::of(names, rows)))
+    Ok(Loaded::Read(Relation::of(names, rows)))
 }

@@ -1,5 +1,5 @@
 // Where an allocation fails, a call is made once more, so that these tests also pass where any one fails.
-use crate::{Reading, RecordReader, read_relation, records};
+use crate::{Loaded, RecordReader, read_relation, records};
 use csv::ByteRecord;
 use rel_base::{Limits, MOST_CELL_BYTES, MOST_COLUMNS, MOST_ROWS, Row};
 use std::alloc::{AllocError, Global};
@@ -23,17 +23,17 @@ fn show_row(out: &mut Vec<u8>, row: &Row) -> Result<(), AllocError> {
 fn shown_once(alloc: Global, bytes: &[u8], limits: &Limits) -> Result<Vec<u8>, AllocError> {
     let mut out = Vec::new(alloc);
     match read_relation(alloc, bytes, limits) {
-        Reading::Read(relation) => {
+        Loaded::Read(relation) => {
             show_row(&mut out, relation.names())?;
             for row in relation.rows() {
                 show_row(&mut out, row)?;
             }
         }
-        Reading::Refused { rec, why } => {
+        Loaded::Refused { rec, why } => {
             let text = format!(in alloc; "{rec} {why:?}")?;
             out.extend_from_slice(text.as_bytes())?;
         }
-        Reading::NoMemory => return Err(AllocError),
+        Loaded::NoMemory => return Err(AllocError),
     }
     Ok(out)
 }

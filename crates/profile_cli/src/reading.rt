@@ -5,7 +5,7 @@ ghost use Rattle.ports.specs.Files.{Nothing, bytes_of};
 ghost use Rattle.ports.specs.Whole.{Loads, load_failed};
 ghost use Rattle.profile_cli.specs.FilesRead.{faulted, Understands, any_faulted, fault_name, most_opened, IsOfFiles, UnderstandsAll};
 
-use csv_load::{Reading, read_relation};
+use csv_load::{Loaded, read_relation};
 use ports::{Loading, Shelf, load_file};
 use rel_base::{Limits, Name, Relation, Why};
 use std::alloc::Global;
@@ -40,9 +40,9 @@ fn understood(alloc: Global, loading: Loading, limits: &Limits) -> FileRead
 {
     match loading {
         Loading::Loaded(bytes) => match read_relation(alloc, bytes.as_slice(), limits) {
-            Reading::Read(relation) => FileRead::Read(relation),
-            Reading::Refused { rec, why } => FileRead::Refused { rec, why },
-            Reading::NoMemory => FileRead::NoMemory,
+            Loaded::Read(relation) => FileRead::Read(relation),
+            Loaded::Refused { rec, why } => FileRead::Refused { rec, why },
+            Loaded::NoMemory => FileRead::NoMemory,
         },
         Loading::TooLong => FileRead::Refused {
             rec: 0,

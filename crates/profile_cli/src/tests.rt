@@ -59,12 +59,36 @@ pub const SURE: Outside = Outside {
     room: 10_000,
 };
 
-// What a run came to.
+// What a run reads and writes.
+#[derive(Drop)]
+struct Sides {
+    shelf: MemShelf,
+    input: MemSource,
+    out: MemSink,
+}
+
+// What a run came to, and what stands on its sides then.
 #[derive(Drop)]
 pub struct Ran {
     outcome: Outcome,
-    text: Vec<u8>,
-    shelf: MemShelf,
+    sides: Sides,
+}
+
+impl Ran {
+    // The status that the run ended with.
+    fn status(&self) -> u8 {
+        self.outcome.status()
+    }
+
+    // What the run wrote.
+    fn text(&self) -> &[u8] {
+        self.sides.out.bytes()
+    }
+
+    // The files as the run left them.
+    fn shelf(&self) -> &MemShelf {
+        &self.sides.shelf
+    }
 }
 
 // How much is there of what is wanted.
@@ -85,6 +109,24 @@ fn words_of(alloc: Global, words: &[&str]) -> Result<Vec<String>, AllocError> {
     Ok(own)
 }
 
+fn name_of(alloc: Global, name: &str) -> Result<Name, AllocError> {
+    Ok(Name::of(String::from_str(alloc, name)?))
+}
+
+// A file of this name with this text.
+fn file_of(alloc: Global, name: &str, text: &str) -> Result<(Name, Text), AllocError> {
+    let name = name_of(alloc, name)?;
+    Ok((name, Text::of(Vec::from_slice(alloc, text.as_bytes())?)))
+}
+
+fn files_of(alloc: Global, files: &[(&str, &str)]) -> Result<Vec<(Name, Text)>, AllocError> {
+    let mut held = Vec::new(alloc);
+    for (name, text) in files {
+        held.push(file_of(alloc, name, text)?)?;
+    }
+    Ok(held)
+}
+
 // A shelf with these files, and with room for twelve more.
 fn shelf_of(
     alloc: Global,
@@ -94,17 +136,38 @@ fn shelf_of(
     requires { 0 < outside.now.largest }
     ensures { IfOk result (λ shelf. shelf.opened ≡ Nothing) }
 {
-    let mut held = Vec::new(alloc);
-    for (name, text) in files {
-        let name = Name::of(String::from_str(alloc, name)?);
-        let text = Text::of(Vec::from_slice(alloc, text.as_bytes())?);
-        held.push((name, text))?;
-    }
+    let files = files_of(alloc, files)?;
     let fails = vec![in alloc; outside.call]?;
-    MemShelf::with(alloc, held, 12, outside.room, fails, outside.largest)
+    MemShelf::with(alloc, files, 12, outside.room, fails, outside.largest)
 }
 
-// A run of these words by this gate, what it came to, and what it wrote. The case gives its files and its input.
+fn input_of(alloc: Global, text: &str, outside: &Outside) -> Result<MemSource, AllocError>
+    requires { 0 < outside.now.largest }
+{
+    let bytes = Vec::from_slice(alloc, text.as_bytes())?;
+    let fails = vec![in alloc; outside.read]?;
+    Ok(MemSource::of(bytes, fails, outside.largest))
+}
+
+fn sink_of(alloc: Global, outside: &Outside) -> Result<MemSink, AllocError>
+    requires { 0 < outside.now.largest }
+{
+    let fails = vec![in alloc; outside.write]?;
+    MemSink::with_room(alloc, outside.room, fails, outside.largest)
+}
+
+// The files and the input of a case, and an empty sink.
+fn sides_of(alloc: Global, case: &Case<'_>, outside: &Outside) -> Result<Sides, AllocError>
+    requires { 0 < outside.now.largest }
+    ensures { IfOk result (λ sides. sides.shelf.opened ≡ Nothing) }
+{
+    let shelf = shelf_of(alloc, case.files, outside)?;
+    let input = input_of(alloc, case.input, outside)?;
+    let out = sink_of(alloc, outside)?;
+    Ok(Sides { shelf, input, out })
+}
+
+// A run of these words by this gate, and what it came to. The case gives its files and its input.
 fn run_by<R: Threads + Wait + Sync, G: Gate + Sync>(
     rt: &R,
     alloc: Global,
@@ -116,24 +179,21 @@ fn run_by<R: Threads + Wait + Sync, G: Gate + Sync>(
 ) -> Result<Ran, AllocError>
     requires { 0 < outside.now.largest }
 {
-    let largest = outside.largest;
-    let mut shelf = shelf_of(alloc, case.files, outside)?;
-    let bytes = Vec::from_slice(alloc, case.input.as_bytes())?;
-    let mut input = MemSource::of(bytes, vec![in alloc; outside.read]?, largest);
-    let fails = vec![in alloc; outside.write]?;
-    let mut out = MemSink::with_room(alloc, outside.room, fails, largest)?;
+    let mut sides = sides_of(alloc, case, outside)?;
     let outcome = run(
-        rt, alloc, words, &mut shelf, &mut input, &mut out, gate, limits,
+        rt,
+        alloc,
+        words,
+        &mut sides.shelf,
+        &mut sides.input,
+        &mut sides.out,
+        gate,
+        limits,
     );
-    let text = Vec::from_slice(alloc, out.bytes())?;
-    Ok(Ran {
-        outcome,
-        text,
-        shelf,
-    })
+    Ok(Ran { outcome, sides })
 }
 
-// A run, what it came to, and what it wrote.
+// A run, and what it came to.
 fn run_of<R: Threads + Wait + Sync>(
     rt: &R,
     alloc: Global,
@@ -145,6 +205,11 @@ fn run_of<R: Threads + Wait + Sync>(
 {
     let words = words_of(alloc, case.words)?;
     run_by(rt, alloc, words, case, outside, &OpenGate, limits)
+}
+
+// Whether the bytes are those of this text.
+fn is_same(bytes: &[u8], text: &str) -> bool {
+    bytes == text.as_bytes()
 }
 
 // How much of these pieces, one after another, the text is.
@@ -164,6 +229,29 @@ fn extent_of(text: &[u8], pieces: &[&str]) -> Extent {
     }
 }
 
+// How much of this text the file of this name holds, where there is one.
+fn extent_in(
+    alloc: Global,
+    shelf: &MemShelf,
+    name: &str,
+    text: &str,
+) -> Result<Option<Extent>, AllocError> {
+    let name = name_of(alloc, name)?;
+    Ok(match shelf.file(&name) {
+        Some(bytes) => Some(extent_of(bytes, &[text])),
+        None => None,
+    })
+}
+
+// How much is there of some files and of one behind them, of which so much is there.
+fn extent_with(before: Extent, last: Option<Extent>) -> Extent {
+    match (before, last) {
+        (Extent::Whole, Some(extent)) => extent,
+        (Extent::Whole | Extent::First, None) => Extent::First,
+        _ => Extent::Other,
+    }
+}
+
 // How much of these files is there: all of them whole, or the first ones whole, then one with some first bytes or none, and none behind it.
 fn extent_on(
     alloc: Global,
@@ -172,23 +260,29 @@ fn extent_on(
 ) -> Result<Extent, AllocError> {
     let mut extent = Extent::Whole;
     for (name, text) in files {
-        let name = Name::of(String::from_str(alloc, name)?);
-        extent = match (extent, shelf.file(&name)) {
-            (Extent::Whole, Some(bytes)) => extent_of(bytes, &[*text]),
-            (Extent::Whole | Extent::First, None) => Extent::First,
-            _ => Extent::Other,
-        };
+        extent = extent_with(extent, extent_in(alloc, shelf, name, text)?);
     }
     Ok(extent)
 }
 
 // Whether a run wrote all that it is to.
 fn is_whole(alloc: Global, case: &Case<'_>, done: &Ran) -> Result<bool, AllocError> {
+    let tables = extent_on(alloc, done.shelf(), case.tables)?;
     Ok(
-        done.outcome.status() == case.status
-            && extent_of(&done.text, case.text) == Extent::Whole
-            && extent_on(alloc, &done.shelf, case.tables)? == Extent::Whole,
+        done.status() == case.status
+            && extent_of(done.text(), case.text) == Extent::Whole
+            && tables == Extent::Whole,
     )
+}
+
+// Whether a run writes what it is to.
+fn writes_all<R: Threads + Wait + Sync>(
+    rt: &R,
+    alloc: Global,
+    case: &Case<'_>,
+) -> Result<bool, AllocError> {
+    let done = run_of(rt, alloc, case, &SURE, Limits::standard())?;
+    is_whole(alloc, case, &done)
 }
 
 // Asserts that a run writes what it is to.
@@ -196,26 +290,30 @@ fn expect<R: Threads + Wait + Sync + Abort>(
     rt: &R,
     alloc: Global,
     case: &Case<'_>,
-    limits: Limits,
 ) -> Result<(), AllocError> {
-    let done = run_of(rt, alloc, case, &SURE, limits)?;
-    let whole = is_whole(alloc, case, &done)?;
+    let whole = writes_all(rt, alloc, case)?;
     assert!(rt; whole, "{:?} {}", case.words, case.input);
+    Ok(())
+}
+
+// Asserts that each of these runs writes what it is to.
+fn expect_all<R: Threads + Wait + Sync + Abort>(
+    rt: &R,
+    alloc: Global,
+    cases: &[Case<'_>],
+) -> Result<(), AllocError> {
+    for case in cases {
+        expect(rt, alloc, case)?;
+    }
     Ok(())
 }
 
 #[test]
 fn runs_write_what_they_are_to(rt: HostRuntime) -> Result<(), Fail> {
-    for cases in [
-        &ONE_FILE[..],
-        &FILES_IN_ORDER[..],
-        &BATCHES[..],
-        &REPORTS[..],
-        &NORMALIZED[..],
-    ] {
-        for case in cases {
-            expect(&rt, rt.alloc(), case, Limits::standard())?;
-        }
-    }
+    expect_all(&rt, rt.alloc(), &ONE_FILE)?;
+    expect_all(&rt, rt.alloc(), &FILES_IN_ORDER)?;
+    expect_all(&rt, rt.alloc(), &BATCHES)?;
+    expect_all(&rt, rt.alloc(), &REPORTS)?;
+    expect_all(&rt, rt.alloc(), &NORMALIZED)?;
     Ok(())
 }

@@ -15,17 +15,39 @@ use std::thread::Threads;
 
 const WORKERS: [&str; 3] = ["1", "2", "16"];
 
+fn push_word(alloc: Global, words: &mut Vec<String>, word: &str) -> Result<(), AllocError> {
+    words.push(String::from_str(alloc, word)?)?;
+    Ok(())
+}
+
 // A text for each of these words, and for `--workers` with this number behind the command.
 fn words_with(alloc: Global, words: &[&str], workers: &str) -> Result<Vec<String>, AllocError> {
     let mut own = Vec::new(alloc);
     for (place, word) in words.iter().enumerate() {
-        own.push(String::from_str(alloc, *word)?)?;
+        push_word(alloc, &mut own, word)?;
         if place == 1 {
-            own.push(String::from_str(alloc, "--workers")?)?;
-            own.push(String::from_str(alloc, workers)?)?;
+            push_word(alloc, &mut own, "--workers")?;
+            push_word(alloc, &mut own, workers)?;
         }
     }
     Ok(own)
+}
+
+// Whether a run writes what it is to, beside so many workers and by this gate.
+fn writes_by<R: Threads + Wait + Sync, G: Gate + Sync>(
+    rt: &R,
+    alloc: Global,
+    workers: &str,
+    case: &Case<'_>,
+    outside: &Outside,
+    gate: &G,
+    limits: Limits,
+) -> Result<bool, AllocError>
+    requires { 0 < outside.now.largest }
+{
+    let words = words_with(alloc, case.words, workers)?;
+    let done = run_by(rt, alloc, words, case, outside, gate, limits)?;
+    is_whole(alloc, case, &done)
 }
 
 // Asserts that a run writes what it is to, beside so many workers and by this gate.
@@ -40,9 +62,7 @@ fn expect_by<R: Threads + Wait + Sync + Abort, G: Gate + Sync>(
 ) -> Result<(), AllocError>
     requires { 0 < outside.now.largest }
 {
-    let words = words_with(alloc, case.words, workers)?;
-    let done = run_by(rt, alloc, words, case, outside, gate, limits)?;
-    let whole = is_whole(alloc, case, &done)?;
+    let whole = writes_by(rt, alloc, workers, case, outside, gate, limits)?;
     assert!(rt; whole, "{workers} workers: {:?} {}", case.words, case.input);
     Ok(())
 }
@@ -66,18 +86,26 @@ pub fn expect_by_any<R: Threads + Wait + Sync + Abort>(
 // A byte a call of the input, of the files and of the output.
 const ONE_BYTE: Outside = Outside { largest: 1, ..SURE };
 
+// Asserts that each of these runs writes what it is to, beside any number of workers.
+fn expect_all_by_any<R: Threads + Wait + Sync + Abort>(
+    rt: &R,
+    alloc: Global,
+    cases: &[Case<'_>],
+    outside: &Outside,
+) -> Result<(), AllocError>
+    requires { 0 < outside.now.largest }
+{
+    for case in cases {
+        expect_by_any(rt, alloc, case, outside, Limits::standard())?;
+    }
+    Ok(())
+}
+
 #[test]
 fn any_number_of_workers_writes_the_same(rt: HostRuntime) -> Result<(), Fail> {
-    for (cases, outside) in [
-        (&ONE_FILE[..1], &ONE_BYTE),
-        (&BATCHES[..], &SURE),
-        (&REPORTS[..], &ONE_BYTE),
-    ] {
-        for case in cases {
-            assert!(rt; 0 < outside.largest);
-            expect_by_any(&rt, rt.alloc(), case, outside, Limits::standard())?;
-        }
-    }
+    expect_by_any(&rt, rt.alloc(), &ONE_FILE[0], &ONE_BYTE, Limits::standard())?;
+    expect_all_by_any(&rt, rt.alloc(), &BATCHES, &SURE)?;
+    expect_all_by_any(&rt, rt.alloc(), &REPORTS, &ONE_BYTE)?;
     Ok(())
 }
 
@@ -133,21 +161,31 @@ static PARTED: Case<'static> = Case {
     status: 0,
 };
 
+// Asserts that beside so many workers the last report draws two candidates, where the first one draws some.
+fn expect_two_since<R: Threads + Wait + Sync + Abort>(
+    rt: &R,
+    alloc: Global,
+    workers: &str,
+) -> Result<(), AllocError> {
+    let gate = NotingGate::new();
+    expect_by(
+        rt,
+        alloc,
+        workers,
+        &PARTED,
+        &SURE,
+        &gate,
+        Limits::standard(),
+    )?;
+    assert!(rt; 0 < gate.before.load(Ordering::SeqCst));
+    assert!(rt; gate.since.load(Ordering::SeqCst) == 2);
+    Ok(())
+}
+
 #[test]
 fn a_report_goes_on_from_what_the_one_before_it_knew(rt: HostRuntime) -> Result<(), Fail> {
     for workers in &WORKERS {
-        let gate = NotingGate::new();
-        expect_by(
-            &rt,
-            rt.alloc(),
-            workers,
-            &PARTED,
-            &SURE,
-            &gate,
-            Limits::standard(),
-        )?;
-        assert!(rt; 0 < gate.before.load(Ordering::SeqCst));
-        assert!(rt; gate.since.load(Ordering::SeqCst) == 2);
+        expect_two_since(&rt, rt.alloc(), workers)?;
     }
     Ok(())
 }

@@ -1,15 +1,15 @@
 // Runs of which one call fails, whichever it is.
-ghost use Rattle.std.specs.Prelude.{◌<◌};
+ghost use Rattle.std.specs.Prelude.{◌≡◌, ◌<◌};
 
 use super::sessions::K;
 use super::tables::{R_TABLE_LINES, R_TABLES};
 use super::words::USAGE;
 use super::{
-    Case, Extent, Outside, R, R_REPORT, Ran, SURE, extent_of, extent_on, is_whole, run_of,
+    Case, Extent, Outside, R, R_REPORT, Ran, SURE, extent_of, extent_on, is_whole, name_of, run_of,
 };
 use crate::Outcome;
 use ports::Kind;
-use rel_base::{Limits, Name, Why};
+use rel_base::{Limits, Why};
 use std::alloc::{AllocError, Global};
 use std::process::Abort;
 use std::sync::Wait;
@@ -31,6 +31,36 @@ struct Hostile {
     ends: &'static [(Failing, u8, u8)],
 }
 
+// The outside where the call of this kind and number fails.
+fn outside_of(failing: Failing, number: u64, largest: usize) -> Outside
+    ensures { result.largest ≡ largest }
+{
+    let sure = Outside { largest, ..SURE };
+    match failing {
+        Failing::Shelf(kind) => Outside {
+            call: (kind, number),
+            ..sure
+        },
+        Failing::Input => Outside {
+            read: number,
+            ..sure
+        },
+        Failing::Sink => Outside {
+            write: number,
+            ..sure
+        },
+    }
+}
+
+// Whether what stands after a failed call on the shelf is as it is to be.
+fn is_cut_at_shelf(hostile: &Hostile, tables: Extent, done: &Ran) -> bool {
+    if done.status() == 4 {
+        return extent_of(done.text(), hostile.fault) == Extent::Whole
+            && done.shelf().len() == hostile.case.files.len();
+    }
+    done.text().is_empty() && tables != Extent::Other
+}
+
 // Whether what stands after a failed call is as it is to be.
 fn is_cut(
     alloc: Global,
@@ -38,19 +68,56 @@ fn is_cut(
     failing: Failing,
     done: &Ran,
 ) -> Result<bool, AllocError> {
-    let case = &hostile.case;
-    let tables = extent_on(alloc, &done.shelf, case.tables)?;
+    let tables = extent_on(alloc, done.shelf(), hostile.case.tables)?;
     Ok(match failing {
-        Failing::Input => extent_of(&done.text, &["fault,read,-\n"]) == Extent::Whole,
+        Failing::Input => extent_of(done.text(), &["fault,read,-\n"]) == Extent::Whole,
         Failing::Sink => {
-            extent_of(&done.text, case.text) != Extent::Other && tables == Extent::Whole
+            extent_of(done.text(), hostile.case.text) != Extent::Other && tables == Extent::Whole
         }
-        Failing::Shelf(_) if done.outcome.status() == 4 => {
-            extent_of(&done.text, hostile.fault) == Extent::Whole
-                && done.shelf.len() == case.files.len()
-        }
-        Failing::Shelf(_) => done.text.is_empty() && tables != Extent::Other,
+        Failing::Shelf(_) => is_cut_at_shelf(hostile, tables, done),
     })
+}
+
+// How a run goes of which a call is to fail.
+#[derive(Clone, Copy)]
+enum Course {
+    // There was no such call, and the run wrote all that it is to.
+    Whole,
+    // What it wrote, and its status, are those of a run that was cut.
+    Cut,
+    Wrong,
+}
+
+// How this run went, which is to end with this status where it was cut.
+fn course_of(
+    alloc: Global,
+    hostile: &Hostile,
+    failing: Failing,
+    wanted: u8,
+    done: &Ran,
+) -> Result<Course, AllocError> {
+    if is_whole(alloc, &hostile.case, done)? {
+        return Ok(Course::Whole);
+    }
+    if done.status() == wanted && is_cut(alloc, hostile, failing, done)? {
+        return Ok(Course::Cut);
+    }
+    Ok(Course::Wrong)
+}
+
+// How the run goes where the call of this kind and number fails.
+fn run_cut<R: Threads + Wait + Sync>(
+    rt: &R,
+    alloc: Global,
+    hostile: &Hostile,
+    failing: Failing,
+    wanted: u8,
+    outside: &Outside,
+) -> Result<Course, AllocError>
+    requires { 0 < outside.now.largest }
+{
+    let done = run_of(rt, alloc, &hostile.case, outside, Limits::standard())?;
+    course_of(alloc, hostile, failing, wanted, &done)
 }
 
 // Lets one call of this kind after another fail, until none does. The status is this one at the first call, and that one at later ones.
@@ -66,28 +133,14 @@ fn expect_cuts<R: Threads + Wait + Sync + Abort>(
     let (failing, first, later) = end;
     let mut wanted = first;
     for number in 1..10_000u64 {
-        let sure = Outside { largest, ..SURE };
-        let outside = match failing {
-            Failing::Shelf(kind) => Outside {
-                call: (kind, number),
-                ..sure
-            },
-            Failing::Input => Outside {
-                read: number,
-                ..sure
-            },
-            Failing::Sink => Outside {
-                write: number,
-                ..sure
-            },
-        };
-        let done = run_of(rt, alloc, &hostile.case, &outside, Limits::standard())?;
-        if is_whole(alloc, &hostile.case, &done)? {
-            return Ok(());
+        let outside = outside_of(failing, number, largest);
+        match run_cut(rt, alloc, hostile, failing, wanted, &outside)? {
+            Course::Whole => return Ok(()),
+            Course::Cut => wanted = later,
+            Course::Wrong => {
+                assert!(rt; false, "call {number} of {:?}", hostile.case.words);
+            }
         }
-        let right = done.outcome.status() == wanted && is_cut(alloc, hostile, failing, &done)?;
-        assert!(rt; right, "call {number} of {:?}", hostile.case.words);
-        wanted = later;
     }
     assert!(rt; false, "a call failed each time");
     Ok(())
@@ -190,13 +243,23 @@ static HOSTILE: [Hostile; 6] = [
     },
 ];
 
+// Lets each call of a run fail, where calls move all that there is, and where they move a byte.
+fn expect_all_cuts<R: Threads + Wait + Sync + Abort>(
+    rt: &R,
+    alloc: Global,
+    hostile: &Hostile,
+) -> Result<(), AllocError> {
+    for end in hostile.ends {
+        expect_cuts(rt, alloc, hostile, *end, usize::MAX)?;
+        expect_cuts(rt, alloc, hostile, *end, 1)?;
+    }
+    Ok(())
+}
+
 #[test]
 fn whichever_call_fails_is_told_and_leaves_first_bytes(rt: HostRuntime) -> Result<(), Fail> {
     for hostile in &HOSTILE {
-        for end in hostile.ends {
-            expect_cuts(&rt, rt.alloc(), hostile, *end, usize::MAX)?;
-            expect_cuts(&rt, rt.alloc(), hostile, *end, 1)?;
-        }
+        expect_all_cuts(&rt, rt.alloc(), hostile)?;
     }
     Ok(())
 }
@@ -223,32 +286,62 @@ static ENDS: [(&[&str], End, u64); 3] = [
     (&["depprof", "demo", "x"], End::Usage, 0),
 ];
 
+// What a run with this end comes to.
+fn outcome_of(alloc: Global, end: &End) -> Result<Outcome, AllocError> {
+    Ok(match end {
+        End::Refused(file, rec, why) => Outcome::Refused {
+            file: name_of(alloc, file)?,
+            rec: *rec,
+            why: *why,
+        },
+        End::Fault(file) => Outcome::ReadFault {
+            file: name_of(alloc, file)?,
+        },
+        End::Usage => Outcome::Usage,
+    })
+}
+
+// What these words come to beside a file that is right and one that is refused.
+fn run_beside_refused<R: Threads + Wait + Sync>(
+    rt: &R,
+    alloc: Global,
+    words: &[&str],
+) -> Result<Ran, AllocError> {
+    let case = Case {
+        words,
+        files: &[("r.csv", R), ("s.csv", "a,b\n1,x\n2\n")],
+        input: "",
+        text: &[],
+        tables: &[],
+        status: 0,
+    };
+    run_of(rt, alloc, &case, &SURE, Limits::standard())
+}
+
+// Whether a run came to this, with so many files opened.
+fn is_end(done: &Ran, wanted: &Outcome, opens: u64) -> bool {
+    done.outcome == *wanted && done.shelf().opens() == opens
+}
+
+// Whether the run of these words ends so, and opens so many files.
+fn ends_so<R: Threads + Wait + Sync>(
+    rt: &R,
+    alloc: Global,
+    words: &[&str],
+    end: &End,
+    opens: u64,
+) -> Result<bool, AllocError> {
+    let wanted = outcome_of(alloc, end)?;
+    let done = run_beside_refused(rt, alloc, words)?;
+    Ok(is_end(&done, &wanted, opens))
+}
+
 #[test]
 fn an_end_has_its_file_record_and_cause_and_opens_none_behind_it(
     rt: HostRuntime,
 ) -> Result<(), Fail> {
     for (words, end, opens) in &ENDS {
-        let wanted = match end {
-            End::Refused(file, rec, why) => Outcome::Refused {
-                file: Name::of(String::from_str(rt.alloc(), *file)?),
-                rec: *rec,
-                why: *why,
-            },
-            End::Fault(file) => Outcome::ReadFault {
-                file: Name::of(String::from_str(rt.alloc(), *file)?),
-            },
-            End::Usage => Outcome::Usage,
-        };
-        let case = Case {
-            words,
-            files: &[("r.csv", R), ("s.csv", "a,b\n1,x\n2\n")],
-            input: "",
-            text: &[],
-            tables: &[],
-            status: 0,
-        };
-        let done = run_of(&rt, rt.alloc(), &case, &SURE, Limits::standard())?;
-        assert!(rt; done.outcome == wanted && done.shelf.opens() == *opens);
+        assert!(rt; ends_so(&rt, rt.alloc(), words, end, *opens)?, "{words:?}");
     }
     Ok(())
 }

@@ -1,9 +1,10 @@
 // Inputs at the limits and beyond them.
 use super::beside::expect_by_any;
 use super::sessions::K;
-use super::{Case, Outside, R, R_REPORT, Ran, SURE, run_of};
+use super::{Case, Outside, R, R_REPORT, Ran, SURE, is_same, run_of};
 use rel_base::{Limits, MOST_BYTES, MOST_CELL_BYTES, MOST_COLUMNS, MOST_ROWS};
 use std::alloc::{AllocError, Global};
+use std::process::Abort;
 use std::sync::Wait;
 use std::test::Fail;
 use std::thread::Threads;
@@ -173,13 +174,21 @@ static LIMITED: [Limited; 14] = [
     },
 ];
 
+// The limits of a run, which are to be no larger than the standard ones.
+fn limits_of<R: Abort>(rt: &R, limited: &Limited) -> Limits {
+    let (columns, rows, cell, bytes) = limited.limits;
+    assert!(rt; 0 < columns);
+    assert!(rt; columns <= MOST_COLUMNS);
+    assert!(rt; rows <= MOST_ROWS);
+    assert!(rt; cell <= MOST_CELL_BYTES);
+    assert!(rt; bytes <= MOST_BYTES);
+    Limits::smaller(columns, rows, cell, bytes)
+}
+
 #[test]
 fn limits_hold(rt: HostRuntime) -> Result<(), Fail> {
     for limited in &LIMITED {
-        let (columns, rows, cell, bytes) = limited.limits;
-        assert!(rt; 0 < columns && columns <= MOST_COLUMNS && rows <= MOST_ROWS);
-        assert!(rt; cell <= MOST_CELL_BYTES && bytes <= MOST_BYTES);
-        let limits = Limits::smaller(columns, rows, cell, bytes);
+        let limits = limits_of(&rt, limited);
         expect_by_any(&rt, rt.alloc(), &limited.case, &SURE, limits)?;
     }
     Ok(())
@@ -246,25 +255,55 @@ fn profiled<H: Threads + Wait + Sync>(
     run_of(rt, alloc, &case, &outside, Limits::standard())
 }
 
+// How many lines `profile` writes over a header of so many columns and these rows, and its status.
+fn lines_of_wide<H: Threads + Wait + Sync>(
+    rt: &H,
+    alloc: Global,
+    columns: u8,
+    rows: &[char],
+) -> Result<(usize, u8), AllocError> {
+    let text = wide(alloc, columns, rows)?;
+    let done = profiled(rt, alloc, &text)?;
+    let lines = done.text().iter().filter(|byte| **byte == b'\n').count();
+    Ok((lines, done.status()))
+}
+
 #[test]
-fn widths_and_cells_up_to_the_limit_are_reported(rt: HostRuntime) -> Result<(), Fail> {
-    for (columns, rows, lines, wanted) in &WIDTHS {
-        let text = wide(rt.alloc(), *columns, rows)?;
-        let done = profiled(&rt, rt.alloc(), &text)?;
-        let written = done.text.iter().filter(|byte| **byte == b'\n').count();
-        assert!(rt;
-            written == *lines && done.outcome.status() == *wanted,
-            "{columns} columns"
-        );
+fn widths_up_to_the_limit_are_reported(rt: HostRuntime) -> Result<(), Fail> {
+    for (columns, rows, lines, status) in &WIDTHS {
+        let came = lines_of_wide(&rt, rt.alloc(), *columns, rows)?;
+        assert!(rt; came == (*lines, *status), "{columns} columns");
     }
-    for (header, length, wanted) in &CELLS {
-        let mut text = String::from_str(rt.alloc(), *header)?;
-        for _ in 0..*length {
-            text.push('x')?;
-        }
-        let done = profiled(&rt, rt.alloc(), &text)?;
+    Ok(())
+}
+
+// This header, and a cell of so many bytes behind it.
+fn with_cell(alloc: Global, header: &str, length: usize) -> Result<String, AllocError> {
+    let mut text = String::from_str(alloc, header)?;
+    for _ in 0..length {
+        text.push('x')?;
+    }
+    Ok(text)
+}
+
+// Whether `profile` reports this of a header and a cell of so many bytes behind it.
+fn reports_cell<H: Threads + Wait + Sync>(
+    rt: &H,
+    alloc: Global,
+    header: &str,
+    length: usize,
+    report: &str,
+) -> Result<bool, AllocError> {
+    let text = with_cell(alloc, header, length)?;
+    let done = profiled(rt, alloc, &text)?;
+    Ok(is_same(done.text(), report))
+}
+
+#[test]
+fn cells_up_to_the_limit_are_reported(rt: HostRuntime) -> Result<(), Fail> {
+    for (header, length, report) in &CELLS {
         assert!(rt;
-            done.text.as_slice() == wanted.as_bytes(),
+            reports_cell(&rt, rt.alloc(), header, *length, report)?,
             "a cell of {length} bytes"
         );
     }

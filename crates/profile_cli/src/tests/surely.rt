@@ -1,5 +1,5 @@
 // Runs over a source and a shelf that never fail, and a sink with more room than the text.
-ghost use Rattle.std.specs.Prelude.{◌≡◌, ◌<◌, ℕ, List, [], Some, None, false, length};
+ghost use Rattle.std.specs.Prelude.{◌≡◌, ◌<◌, ℕ, List, [], Some, None, false, length, IfOk};
 ghost use Rattle.ports.specs.Files.{Nothing};
 ghost use Rattle.ports.specs.Lists.{look_up};
 ghost use Rattle.profile_cli.specs.Command as words_of;
@@ -10,11 +10,11 @@ ghost use Rattle.profile_cli.specs.Outcomes.{IsDoneOrNoMemory, OnDone};
 ghost use Rattle.profile_cli.specs.Task.{task_of};
 ghost use Rattle.profile_cli.specs.declared.request.Request.{Request};
 
-use super::words_of;
+use super::{file_of, is_same, words_of};
 use crate::{Outcome, run};
-use ports::{OpenGate, SureShelf, SureSink, SureSource, Text};
-use rel_base::{Limits, Name};
-use std::alloc::Global;
+use ports::{OpenGate, SureShelf, SureSink, SureSource};
+use rel_base::Limits;
+use std::alloc::{AllocError, Global};
 use std::process::Abort;
 use std::sync::Wait;
 use std::test::Fail;
@@ -49,31 +49,51 @@ fn run_surely<R: Threads + Wait + Sync>(
 
 const N: &str = "a,b\n,1\n,2\n";
 
-#[test]
-fn a_run_with_room_is_done(rt: HostRuntime) -> Result<(), Fail> {
-    let alloc = rt.alloc();
-    let text = concat!(
-        "relation,n.csv,2,2\ncolumn,1,a\ncolumn,2,b\nkey,2\nfd,,1\n",
-        "relation,n.csv,2,2\ncolumn,1,a\ncolumn,2,b\nkey,2\nfd,,1\n",
-        "ind,1.1,1.2\nind,1.1,2.1\nind,1.1,2.2\nind,1.2,2.2\n",
-        "ind,2.1,1.1\nind,2.1,1.2\nind,2.1,2.2\nind,2.2,1.2\n",
-    );
+// What `profile` writes of a file with N that is named twice.
+const N_REPORT: &str = concat!(
+    "relation,n.csv,2,2\ncolumn,1,a\ncolumn,2,b\nkey,2\nfd,,1\n",
+    "relation,n.csv,2,2\ncolumn,1,a\ncolumn,2,b\nkey,2\nfd,,1\n",
+    "ind,1.1,1.2\nind,1.1,2.1\nind,1.1,2.2\nind,1.2,2.2\n",
+    "ind,2.1,1.1\nind,2.1,1.2\nind,2.1,2.2\nind,2.2,1.2\n",
+);
+
+// A shelf with a file `n.csv` that holds N.
+fn shelf_of_n(alloc: Global) -> Result<SureShelf, AllocError>
+    ensures { IfOk result (λ shelf. shelf.opened ≡ Nothing) }
+{
+    let file = file_of(alloc, "n.csv", N)?;
+    Ok(SureShelf::of(vec![in alloc; file]?))
+}
+
+// What `profile` over that file, named twice, comes to with this sink, which is empty.
+fn profile_n<R: Threads + Wait + Sync>(
+    rt: &R,
+    alloc: Global,
+    out: &mut SureSink,
+) -> Result<Outcome, AllocError>
+    requires empty { out.old.store.held ≡ [] }
+    requires no_fault { out.old.faults ≡ 0 }
+{
     let words = words_of(alloc, &["depprof", "profile", "n.csv", "n.csv"])?;
-    let name = Name::of(String::from_str(alloc, "n.csv")?);
-    let bytes = Text::of(Vec::from_slice(alloc, N.as_bytes())?);
-    let mut shelf = SureShelf::of(vec![in alloc; (name, bytes)]?);
+    let mut shelf = shelf_of_n(alloc)?;
     let mut input = SureSource::of(Vec::new(alloc));
-    let mut out = SureSink::with_room(alloc, text.len().saturating_add(1))?;
-    let outcome = run_surely(
-        &rt,
+    Ok(run_surely(
+        rt,
         alloc,
         words,
         &mut shelf,
         &mut input,
-        &mut out,
+        out,
         Limits::standard(),
-    );
+    ))
+}
+
+#[test]
+fn a_run_with_room_is_done(rt: HostRuntime) -> Result<(), Fail> {
+    let room = N_REPORT.len().saturating_add(1);
+    let mut out = SureSink::with_room(rt.alloc(), room)?;
+    let outcome = profile_n(&rt, rt.alloc(), &mut out)?;
     assert!(rt; outcome.status() == 0);
-    assert!(rt; out.bytes() == text.as_bytes());
+    assert!(rt; is_same(out.bytes(), N_REPORT));
     Ok(())
 }

@@ -1,10 +1,14 @@
 // What `normalize` writes, and that `demo` counts it.
-use super::{Case, Outside, R, R_REPORT, SURE, run_of};
+use super::{Case, Outside, R, R_REPORT, Ran, SURE, is_same, run_of};
 use crate::demo_relation;
 use rel_base::Limits;
 use report_text::table_file;
+use std::alloc::{AllocError, Global};
+use std::process::Abort;
 use std::str;
+use std::sync::Wait;
 use std::test::Fail;
+use std::thread::Threads;
 
 pub const R_TABLES: &[(&str, &str)] = &[
     ("t1.csv", "id,city\n1,Berlin\n2,Berlin\n3,Potsdam\n"),
@@ -94,46 +98,93 @@ fn lines_of(text: &[u8], kind: &[u8]) -> usize {
 }
 
 // The words of `normalize` over the relation of the seed 1, and those of its `demo` with one worker and more.
-static OF_SEED: [&[&str]; 4] = [
-    &["depprof", "normalize", "--out", "t", "d.csv"],
+const NORMALIZE: &[&str] = &["depprof", "normalize", "--out", "t", "d.csv"];
+
+static DEMOS: [&[&str]; 3] = [
     &["depprof", "demo", "--workers", "1", "1"],
     &["depprof", "demo", "--workers", "2", "1"],
     &["depprof", "demo", "--workers", "16", "1"],
 ];
 
-#[test]
-fn demo_counts_what_normalize_writes(rt: HostRuntime) -> Result<(), Fail> {
-    let alloc = rt.alloc();
+// A file of the relation of the seed 1.
+fn demo_file(alloc: Global) -> Result<Vec<u8>, AllocError> {
     let relation = demo_relation(alloc, 1)?;
-    let bytes = table_file(alloc, relation.names(), relation.rows())?;
-    let file = str::from_utf8(&bytes)?;
-    let head = "c1,c2,c3,c4,c5,c6,c7,c8,c9,c10,c11,c12\n1,8,18,13,15,51,9,5,0,1,45,1\n";
-    assert!(rt; file.starts_with(head));
+    table_file(alloc, relation.names(), relation.rows())
+}
+
+// What these words come to beside these files.
+fn run_beside<'a, H: Threads + Wait + Sync>(
+    rt: &H,
+    alloc: Global,
+    words: &'a [&'a str],
+    files: &'a [(&'a str, &'a str)],
+) -> Result<Ran, AllocError> {
+    let case = Case {
+        words,
+        files,
+        input: "",
+        text: &[],
+        tables: &[],
+        status: 0,
+    };
     let wide = Outside {
         room: 1_000_000,
         ..SURE
     };
-    let mut wanted = String::new(alloc);
-    for words in &OF_SEED {
-        let case = Case {
-            words,
-            files: &[("d.csv", file)],
-            input: "",
-            text: &[],
-            tables: &[],
-            status: 0,
-        };
-        let done = run_of(&rt, alloc, &case, &wide, Limits::standard())?;
-        if wanted.is_empty() {
-            let keys = lines_of(&done.text, b"key,");
-            let fds = lines_of(&done.text, b"fd,");
-            let inds = lines_of(&done.text, b"ind,");
-            let tables = lines_of(&done.text, b"table,");
-            assert!(rt; tables > 0);
-            wanted = format!(in alloc; "demo,1,12,5000,{keys},{fds},{inds},{tables}\n")?;
-        } else {
-            assert!(rt; done.text.as_slice() == wanted.as_bytes());
-        }
+    run_of(rt, alloc, &case, &wide, Limits::standard())
+}
+
+// The line that `demo` is to write, where `normalize` wrote this.
+fn counts_in(alloc: Global, text: &[u8]) -> Result<String, AllocError> {
+    let keys = lines_of(text, b"key,");
+    let fds = lines_of(text, b"fd,");
+    let inds = lines_of(text, b"ind,");
+    let tables = lines_of(text, b"table,");
+    format!(in alloc; "demo,1,12,5000,{keys},{fds},{inds},{tables}\n")
+}
+
+// Whether these words write this text beside the files.
+fn writes<'a, H: Threads + Wait + Sync>(
+    rt: &H,
+    alloc: Global,
+    words: &'a [&'a str],
+    files: &'a [(&'a str, &'a str)],
+    wanted: &str,
+) -> Result<bool, AllocError> {
+    let done = run_beside(rt, alloc, words, files)?;
+    Ok(is_same(done.text(), wanted))
+}
+
+// The line that `demo` is to write, by what `normalize` writes of these files, which has some tables.
+fn wanted_line<H: Threads + Wait + Sync + Abort>(
+    rt: &H,
+    alloc: Global,
+    files: &[(&str, &str)],
+) -> Result<String, AllocError> {
+    let done = run_beside(rt, alloc, NORMALIZE, files)?;
+    assert!(rt; lines_of(done.text(), b"table,") > 0);
+    counts_in(alloc, done.text())
+}
+
+// Asserts that `demo` counts what `normalize` writes of these files.
+fn expect_counts<H: Threads + Wait + Sync + Abort>(
+    rt: &H,
+    alloc: Global,
+    files: &[(&str, &str)],
+) -> Result<(), AllocError> {
+    let wanted = wanted_line(rt, alloc, files)?;
+    for words in &DEMOS {
+        assert!(rt; writes(rt, alloc, words, files, &wanted)?, "{words:?}");
     }
+    Ok(())
+}
+
+#[test]
+fn demo_counts_what_normalize_writes(rt: HostRuntime) -> Result<(), Fail> {
+    let bytes = demo_file(rt.alloc())?;
+    let file = str::from_utf8(&bytes)?;
+    let head = "c1,c2,c3,c4,c5,c6,c7,c8,c9,c10,c11,c12\n1,8,18,13,15,51,9,5,0,1,45,1\n";
+    assert!(rt; file.starts_with(head));
+    expect_counts(&rt, rt.alloc(), &[("d.csv", file)])?;
     Ok(())
 }

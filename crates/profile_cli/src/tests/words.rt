@@ -1,8 +1,11 @@
 // Words that are a command, in each of their forms, and words that are none.
-use super::{Case, R, R_REPORT, expect};
+use super::{Case, R, R_REPORT, expect, is_same};
 use crate::usage_line;
-use rel_base::Limits;
+use std::alloc::{AllocError, Global};
+use std::process::Abort;
+use std::sync::Wait;
 use std::test::Fail;
+use std::thread::Threads;
 
 pub const USAGE: &str =
     "usage: depprof profile [--workers N] [--nulls equal|distinct] FILE.. | normalize [--workers N] --out PREFIX FILE | session [--workers N] [--nulls equal|distinct] FILE | demo [--workers N] SEED\n";
@@ -75,23 +78,34 @@ static OPTIONS: [&[&str]; 8] = [
     &["", "profile", "--", "r.csv"],
 ];
 
+// Asserts that each of these runs of words writes this text and ends with this status.
+fn expect_forms<H: Threads + Wait + Sync + Abort>(
+    rt: &H,
+    alloc: Global,
+    forms: &[&[&str]],
+    text: &str,
+    status: u8,
+) -> Result<(), AllocError> {
+    for words in forms {
+        let case = Case {
+            words,
+            files: &[("r.csv", R)],
+            input: "",
+            text: &[text],
+            tables: &[],
+            status,
+        };
+        expect(rt, alloc, &case)?;
+    }
+    Ok(())
+}
+
 #[test]
 fn words_are_read_in_each_of_their_forms_and_others_answered_by_the_usage_line(
     rt: HostRuntime,
 ) -> Result<(), Fail> {
-    for (forms, text, status) in [(&NO_COMMAND[..], USAGE, 2), (&OPTIONS[..], R_REPORT, 0)] {
-        for words in forms {
-            let case = Case {
-                words,
-                files: &[("r.csv", R)],
-                input: "",
-                text: &[text],
-                tables: &[],
-                status,
-            };
-            expect(&rt, rt.alloc(), &case, Limits::standard())?;
-        }
-    }
-    assert!(rt; usage_line() == USAGE.as_bytes());
+    expect_forms(&rt, rt.alloc(), &NO_COMMAND, USAGE, 2)?;
+    expect_forms(&rt, rt.alloc(), &OPTIONS, R_REPORT, 0)?;
+    assert!(rt; is_same(usage_line(), USAGE));
     Ok(())
 }
