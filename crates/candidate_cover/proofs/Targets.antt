@@ -1,4 +1,4 @@
--- A target's list of candidates after a part was put, and in a new cover.
+-- A target's list of candidates after a new list was put, and in a new cover.
 use Rattle.std.proofs.Common.{inl, inr, ◌≡◌, ℕ, ◌+◌, ◌<◌, refl, sym, ap, ◌∙◌, subst, List, [], ◌∷◌, ◌++◌, length, get_or, take, replicate, append_assoc, append-nil}
 use Rattle.std.proofs.lemmas.List.{length-replicate, length-set, get_or-set_same, get_or-replicate, take_more}
 use Rattle.col_set.specs.declared.target.Target.{Target}
@@ -47,12 +47,12 @@ pub record HasBooked (t : Target) (sets : List ℕ) (old new : CandLists) : Type
 pub booked_none : (t : Target) (c : CandLists) → HasBooked t [] c c
 booked_none t c = record { wide = refl; booked = λ ws e. e ∙ ap (λ vs. least (width c) vs t) (sym (append-nil ws)) }
 
-pub booked_more : (t : Target) (sets : List ℕ) (i z : ℕ) → i < length sets → z ≡ get_or sets i z → (old now : CandLists) → IsColumnTarget (width old) t → HasBooked t (take i sets) old now → (part : List Cand)
-    → ((ws : List ℕ) → lefts (cands_of now t) ≡ least (width now) ws t → lefts part ≡ least (width now) (ws ++ z ∷ []) t) → HasBooked t (take (i + 1) sets) old (with_list now t part)
-booked_more t sets i z l is old now h b part made = record {
-  wide = width-with_list now t part ∙ b.wide;
+pub booked_more : (t : Target) (sets : List ℕ) (i z : ℕ) → i < length sets → z ≡ get_or sets i z → (old now : CandLists) → IsColumnTarget (width old) t → HasBooked t (take i sets) old now → (new_list : List Cand)
+    → ((ws : List ℕ) → lefts (cands_of now t) ≡ least (width now) ws t → lefts new_list ≡ least (width now) (ws ++ z ∷ []) t) → HasBooked t (take (i + 1) sets) old (with_list now t new_list)
+booked_more t sets i z l is old now h b new_list made = record {
+  wide = width-with_list now t new_list ∙ b.wide;
   booked = λ ws e.
-      ap lefts (cands_of-with_list now t part (subst (λ (n : ℕ). IsColumnTarget n t) (sym b.wide) h))
+      ap lefts (cands_of-with_list now t new_list (subst (λ (n : ℕ). IsColumnTarget n t) (sym b.wide) h))
       ∙ made (ws ++ take i sets) (b.booked ws e ∙ ap (λ (n : ℕ). least n (ws ++ take i sets) t) (sym b.wide))
       ∙ ap (λ (n : ℕ). least n ((ws ++ take i sets) ++ z ∷ []) t) b.wide
       ∙ ap (λ vs. least (width old) vs t) (append_assoc ws (take i sets) (z ∷ []) ∙ ap (λ vs. ws ++ vs) (sym (take_more sets i z l ∙ ap (λ (y : ℕ). take i sets ++ y ∷ []) (sym is))));

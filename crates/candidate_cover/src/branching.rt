@@ -7,7 +7,7 @@ ghost use Rattle.col_set.specs.Lists.{Listed};
 ghost use Rattle.candidate_cover.specs.Branches.{covered, lacking, sees, part, parts, join, IsWithin, AreWithin, IsEntered, IsCut, IsOwned, IsBranch, HasBranched, HasEnded, pruned};
 ghost use Rattle.candidate_cover.specs.Growth.{having, ListsLeast};
 
-use crate::part::sorted;
+use crate::new_list::sorted;
 use rel_base::{ColSet, MOST_COLUMNS, Target};
 use std::alloc::{AllocError, Global};
 

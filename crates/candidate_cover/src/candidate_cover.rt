@@ -20,9 +20,9 @@ use crate::draft::Draft;
 use crate::explore::explored;
 use crate::filing::Filing;
 use crate::growth::choices;
+use crate::new_list::{NewList, generalised, specialised};
 use crate::old_list::OldList;
 use crate::order::in_order;
-use crate::part::{Part, generalised, specialised};
 use rel_base::{ColSet, MOST_COLUMNS, RowNo, Steps, Target};
 use std::alloc::{AllocError, Global};
 use std::marker::Model;
@@ -80,12 +80,17 @@ impl CandidateCover {
     /// The candidates of a target in report order, with a further agree set z.
     ///
     /// Those inside z give way to their extensions by one column outside z and other than the target, of which the minimal ones
-    /// are kept (Papenbrock and Naumann, 2016). Nothing changes here; `put` makes the part the target's list. It copies the
+    /// are kept (Papenbrock and Naumann, 2016). Nothing changes here; `put` makes the new list the target's. It copies the
     /// target's list, and takes in addition the number of candidates inside z times that of those with one column outside it.
-    pub fn specialise(&self, alloc: Global, target: Target, z: ColSet) -> Result<Part, AllocError>
+    pub fn specialise(
+        &self,
+        alloc: Global,
+        target: Target,
+        z: ColSet,
+    ) -> Result<NewList, AllocError>
         requires { IsColumnTarget (width self.now) target }
-        ensures least { IfOk result (λ part. (ws : List ℕ) → lefts (cands_of self.now target) ≡ least (width self.now) ws target → lefts part ≡ least (width self.now) (ws ++ z ∷ []) target) }
-        ensures marks { IfOk result (λ part. part ≡ map (kept_or_fresh (cands_of self.now target)) (lefts part)) }
+        ensures least { IfOk result (λ new_list. (ws : List ℕ) → lefts (cands_of self.now target) ≡ least (width self.now) ws target → lefts new_list ≡ least (width self.now) (ws ++ z ∷ []) target) }
+        ensures marks { IfOk result (λ new_list. new_list ≡ map (kept_or_fresh (cands_of self.now target)) (lefts new_list)) }
     {
         let columns = self.columns();
         let list = self.cand_list(target);
@@ -94,13 +99,13 @@ impl CandidateCover {
         } else {
             specialised(alloc, columns, target, z, list)?
         };
-        Ok(Part::of(made))
+        Ok(NewList::of(made))
     }
 
     /// The candidates of a target in report order, where the withdrawn agree sets have left the rest.
     ///
     /// What comes back lies inside a withdrawn set that lacks the target and inside no such set of the rest; candidates that
-    /// contain one of these are dropped. Nothing changes here; `put` makes the part the target's list. It copies the target's list,
+    /// contain one of these are dropped. Nothing changes here; `put` makes the new list the target's. It copies the target's list,
     /// compares it with each set that comes back, and takes for each withdrawn set that lies inside no other a pass over the rest,
     /// where a step is one test against an agree set; what comes back is found by branches, in a microsecond or so each.
     pub fn generalise<L: Ledger>(
@@ -110,18 +115,18 @@ impl CandidateCover {
         rest: &[ColSet],
         withdrawn: &[ColSet],
         steps: &mut Steps<L>,
-    ) -> Result<Part, AllocError>
+    ) -> Result<NewList, AllocError>
         requires target { IsColumnTarget (width self.now) target }
         requires least { lefts (cands_of self.now target) ≡ least (width self.now) (rest.now ++ withdrawn.now) target }
-        ensures least { IfOk result (λ part. lefts part ≡ least (width self.now) rest.now target) }
-        ensures marks { IfOk result (λ part. part ≡ map (kept_or_fresh (cands_of self.now target)) (lefts part)) }
+        ensures least { IfOk result (λ new_list. lefts new_list ≡ least (width self.now) rest.now target) }
+        ensures marks { IfOk result (λ new_list. new_list ≡ map (kept_or_fresh (cands_of self.now target)) (lefts new_list)) }
         ensures idle { All (λ w. has_target w target ≡ true) withdrawn.now → steps.new ≡ steps.old }
     {
         let columns = self.columns();
         let choices = choices(columns, target);
         let sets = explored(alloc, choices, target, rest, withdrawn, steps)?;
         let made = generalised(alloc, sets, self.cand_list(target))?;
-        Ok(Part::of(made))
+        Ok(NewList::of(made))
     }
 
     /// A draft that begins with the agree sets that have left these candidates: a copy of their left sides, and lists of the agree
@@ -143,7 +148,7 @@ impl CandidateCover {
     /// The candidates of a target in report order that a draft leaves, or none where these are the ones that there are. Those
     /// that stay keep their marks.
     ///
-    /// Nothing changes here; `put` makes the part the target's list. The left sides are made here, from the agree sets that the
+    /// Nothing changes here; `put` makes the new list the target's. The left sides are made here, from the agree sets that the
     /// draft has noted. Where they are the ones that there were, that is all; else they are sorted, and each is looked up
     /// among the candidates.
     pub fn drafted(
@@ -151,12 +156,12 @@ impl CandidateCover {
         alloc: Global,
         draft: &Draft,
         target: Target,
-    ) -> Result<Option<Part>, AllocError>
+    ) -> Result<Option<NewList>, AllocError>
         requires target { IsColumnTarget (width self.now) target }
         requires width { draft.now.width ≡ width self.now }
-        ensures same { IfOk result (λ part. part ≡ None → lefts (cands_of self.now target) ≡ least (width self.now) draft.now.agree_sets target) }
-        ensures least { IfOk result (λ part. IfSome part (λ cands. lefts cands ≡ least (width self.now) draft.now.agree_sets target)) }
-        ensures marks { IfOk result (λ part. IfSome part (λ cands. cands ≡ map (kept_or_fresh (cands_of self.now target)) (lefts cands))) }
+        ensures same { IfOk result (λ new_list. new_list ≡ None → lefts (cands_of self.now target) ≡ least (width self.now) draft.now.agree_sets target) }
+        ensures least { IfOk result (λ new_list. IfSome new_list (λ cands. lefts cands ≡ least (width self.now) draft.now.agree_sets target)) }
+        ensures marks { IfOk result (λ new_list. IfSome new_list (λ cands. cands ≡ map (kept_or_fresh (cands_of self.now target)) (lefts cands))) }
     {
         let list = self.cand_list(target);
         let sets = draft.left_sides(alloc, target)?;
@@ -164,15 +169,15 @@ impl CandidateCover {
             return Ok(None);
         }
         let made = list.with_lefts(alloc, in_order(alloc, sets)?)?;
-        Ok(Some(Part::of(made)))
+        Ok(Some(NewList::of(made)))
     }
 
-    /// Makes the part the target's list, and hands out the one that stood there, so that its caller chooses when to let go of it.
-    pub fn put(&mut self, target: Target, part: Part) -> OldList
+    /// Makes the new list the target's, and hands out the one that stood there, so that its caller chooses when to let go of it.
+    pub fn put(&mut self, target: Target, new_list: NewList) -> OldList
         requires { IsColumnTarget (width self.old) target }
-        ensures { self.new ≡ with_list self.old target part }
+        ensures { self.new ≡ with_list self.old target new_list }
     {
-        let list = part.into_list();
+        let list = new_list.into_list();
         match target {
             Target::Col(column) => {
                 OldList::of(mem::replace(&mut self.columns[column as usize], list))

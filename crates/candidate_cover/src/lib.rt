@@ -10,9 +10,9 @@ mod draft;
 mod explore;
 mod filing;
 mod growth;
+mod new_list;
 mod old_list;
 mod order;
-mod part;
 mod place;
 #[cfg(test)]
 mod tests;
@@ -20,5 +20,5 @@ mod tests;
 pub use cand::{Cand, Marking};
 pub use candidate_cover::CandidateCover;
 pub use draft::Draft;
+pub use new_list::NewList;
 pub use old_list::OldList;
-pub use part::Part;

@@ -2,9 +2,9 @@
 use crate::cand_list::CandList;
 use std::marker::Model;
 
-/// The list that a target had before a part was put in its place.
+/// The list that a target had before a new one was put in its place.
 ///
-/// There is nothing to be done with it but to let go of it, which takes time by its length: whoever put the part can do that when
+/// There is nothing to be done with it but to let go of it, which takes time by its length: whoever put the new list can do that when
 /// nobody waits. Contracts see nothing of it.
 #[derive(Drop)]
 pub struct OldList {

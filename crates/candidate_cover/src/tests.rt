@@ -6,8 +6,8 @@ ghost use Rattle.candidate_cover.specs.Cands.{width, cands_of, lefts, kept_or_fr
 
 use crate::branching::least as least_by_branches;
 use crate::growth::choices;
-use crate::part::sorted;
-use crate::{Cand, CandidateCover, Draft, Marking, Part};
+use crate::new_list::sorted;
+use crate::{Cand, CandidateCover, Draft, Marking, NewList};
 use plain_base::least_sets;
 use rel_base::{ColSet, MOST_COLUMNS, RowNo, Steps, Target};
 use std::alloc::{AllocError, Global};
@@ -44,12 +44,12 @@ fn specialised(
     cover: &CandidateCover,
     target: Target,
     z: ColSet,
-) -> Result<Part, AllocError>
+) -> Result<NewList, AllocError>
     requires { IsColumnTarget (width cover.now) target }
-    ensures { IfOk result (λ part. (ws : List ℕ) → lefts (cands_of cover.now target) ≡ least (width cover.now) ws target → lefts part ≡ least (width cover.now) (ws ++ z ∷ []) target) }
+    ensures { IfOk result (λ new_list. (ws : List ℕ) → lefts (cands_of cover.now target) ≡ least (width cover.now) ws target → lefts new_list ≡ least (width cover.now) (ws ++ z ∷ []) target) }
 {
     match cover.specialise(alloc, target, z) {
-        Ok(part) => Ok(part),
+        Ok(new_list) => Ok(new_list),
         Err(_) => cover.specialise(alloc, target, z),
     }
 }
@@ -66,8 +66,8 @@ fn book(
     ensures least { OnOk result ((ws : List ℕ) → lefts (cands_of cover.old target) ≡ least (width cover.old) ws target → lefts (cands_of cover.new target) ≡ least (width cover.old) (ws ++ sets.now) target) }
 {
     for z in sets {
-        let part = specialised(alloc, cover, target, *z)?;
-        drop(cover.put(target, part));
+        let new_list = specialised(alloc, cover, target, *z)?;
+        drop(cover.put(target, new_list));
     }
     Ok(())
 }
@@ -96,7 +96,7 @@ fn generalised<L: Ledger>(
     rest: &[ColSet],
     gone: &[ColSet],
     blank: Blank,
-) -> Result<Part, AllocError>
+) -> Result<NewList, AllocError>
     requires name { blank.name ≡ L.name }
     requires parts { blank.parts ≡ L.parts }
     requires some { 0 < L.parts }
@@ -105,7 +105,7 @@ fn generalised<L: Ledger>(
 {
     let mut steps = Steps::<L>::none(blank);
     match cover.generalise(alloc, target, rest, gone, &mut steps) {
-        Ok(part) => Ok(part),
+        Ok(new_list) => Ok(new_list),
         Err(_) => cover.generalise(alloc, target, rest, gone, &mut steps),
     }
 }
@@ -124,8 +124,8 @@ fn regained(
 {
     let mut cover = booked(alloc, columns, target, gone)?;
     book(alloc, &mut cover, target, rest)?;
-    let part = generalised::<Brand>(alloc, &cover, target, rest, gone, Blank::new(1))?;
-    drop(cover.put(target, part));
+    let new_list = generalised::<Brand>(alloc, &cover, target, rest, gone, Blank::new(1))?;
+    drop(cover.put(target, new_list));
     Ok(cover)
 }
 
@@ -259,13 +259,13 @@ fn draft_of(alloc: Global, columns: u8, sets: &[ColSet]) -> Result<Draft, AllocE
 }
 
 // What these sets leave of a target's candidates in a new cover, all at once.
-fn drafted_part(
+fn drafted_list(
     alloc: Global,
     cover: &CandidateCover,
     columns: u8,
     target: Target,
     sets: &[ColSet],
-) -> Result<Option<Part>, AllocError>
+) -> Result<Option<NewList>, AllocError>
     requires columns { columns ≤ MOST_COLUMNS }
     requires width { width cover.now ≡ columns }
     requires target { IsColumnTarget columns target }
@@ -286,8 +286,8 @@ fn drafted(
     ensures { IfOk result (λ cover. width cover ≡ columns) }
 {
     let mut cover = CandidateCover::new(alloc, columns)?;
-    if let Some(part) = drafted_part(alloc, &cover, columns, target, sets)? {
-        drop(cover.put(target, part));
+    if let Some(new_list) = drafted_list(alloc, &cover, columns, target, sets)? {
+        drop(cover.put(target, new_list));
     }
     Ok(cover)
 }
@@ -360,17 +360,17 @@ fn second_and_third(alloc: Global) -> Result<CandidateCover, AllocError>
 }
 
 #[test]
-fn a_part_tells_its_first_fresh_left_side(rt: HostRuntime) -> Result<(), Fail> {
+fn a_new_list_tells_its_first_fresh_left_side(rt: HostRuntime) -> Result<(), Fail> {
     let alloc = rt.alloc();
     let mut cover = second_and_third(alloc)?;
     let four = RowNo::of(4);
     assert!(rt; cover.mark(Target::RowId, set(&[1]), four) == Marking::Marked);
     assert!(rt; cover.hold(Target::RowId, set(&[2]), true));
-    let part = specialised(alloc, &cover, Target::RowId, set(&[2]))?;
-    assert!(rt; part.first_fresh() == Some(set(&[0, 2])));
+    let new_list = specialised(alloc, &cover, Target::RowId, set(&[2]))?;
+    assert!(rt; new_list.first_fresh() == Some(set(&[0, 2])));
     cover.free();
-    let part = specialised(alloc, &cover, Target::RowId, ColSet::empty())?;
-    assert!(rt; part.first_fresh() == Some(set(&[2])));
+    let new_list = specialised(alloc, &cover, Target::RowId, ColSet::empty())?;
+    assert!(rt; new_list.first_fresh() == Some(set(&[2])));
     Ok(())
 }
 
@@ -381,8 +381,8 @@ fn marks_stay_with_their_candidates(rt: HostRuntime) -> Result<(), Fail> {
     let four = RowNo::of(4);
     assert!(rt; cover.mark(Target::RowId, set(&[2]), four) == Marking::Marked);
     assert!(rt; cover.mark(Target::RowId, set(&[0]), four) == Marking::Dropped);
-    let part = specialised(alloc, &cover, Target::RowId, set(&[1]))?;
-    drop(cover.put(Target::RowId, part));
+    let new_list = specialised(alloc, &cover, Target::RowId, set(&[1]))?;
+    drop(cover.put(Target::RowId, new_list));
     let list = cover.list(alloc, Target::RowId)?;
     assert!(rt; list.len() == 2);
     let third = Cand {

@@ -16,7 +16,7 @@ use Rattle.candidate_cover.proofs.Growing.{upto_more}
 use Rattle.candidate_cover.specs.declared.cand.Cand.{Cand}
 use Rattle.candidate_cover.specs.Lists.{CandLists}
 use Rattle.cover_steps.specs.Core.{targets}
-use Rattle.cover_core.specs.NewLists.{IsPart, AreParts}
+use Rattle.cover_core.specs.NewLists.{IsNewList, AreNewLists}
 
 pub targets_more : (n : ℕ) → targets (n + 1) ≡ targets n ++ Col n ∷ []
 targets_more n =
@@ -33,9 +33,9 @@ targets_fit n = All-from (IsColumnTarget n) (targets n) (λ t h. at t h)
 -- ---- all or an error
 module _ (P : Target → Option (List Cand) → Type 0) where
   abbrev oks : List (Option (List Cand)) → List (Result (Option (List Cand)) AllocError)
-  oks parts = map (λ part. Ok part) parts
+  oks new_lists = map (λ new_list. Ok new_list) new_lists
 
-  parts_zip : (ts : List Target) (parts : List (Option (List Cand))) → AllZip (λ t r. IfOk r (P t)) ts (oks parts) → AllZip P ts parts
+  parts_zip : (ts : List Target) (new_lists : List (Option (List Cand))) → AllZip (λ t r. IfOk r (P t)) ts (oks new_lists) → AllZip P ts new_lists
   parts_zip [] [] h = tt
   parts_zip [] (p ∷ ps) h = absurd h
   parts_zip (t ∷ ts) [] h = absurd h
@@ -43,40 +43,40 @@ module _ (P : Target → Option (List Cand) → Type 0) where
 
   pub parts_made : (ts : List Target) (made : List (Result (Option (List Cand)) AllocError)) (r : Result (Vec (Option (List Cand)) Global) AllocError)
       → AllZip (λ t r. IfOk r (P t)) ts made
-      → MatchResult r (λ v. (parts : List (Option (List Cand))) × (made ≡ oks parts) × (v.items ≡ parts)) (λ e. Contains made (Err e)) → IfOk r (λ v. AllZip P ts v.items)
+      → MatchResult r (λ v. (new_lists : List (Option (List Cand))) × (made ≡ oks new_lists) × (v.items ≡ new_lists)) (λ e. Contains made (Err e)) → IfOk r (λ v. AllZip P ts v.items)
   parts_made ts made (Ok v) all h = subst (AllZip P ts) (sym h.2) (parts_zip ts h.0 (subst (λ (rs : List (Result (Option (List Cand)) AllocError)). AllZip (λ t r. IfOk r (P t)) ts rs) h.1 all))
   parts_made ts made (Err e) all h = tt
 
--- ---- the parts in order of the targets
+-- ---- the new lists in order of the targets
 module _ (n : ℕ) (ws : List ℕ) (c : CandLists) where
-  long : (ts : List Target) (parts : List (Option (List Cand))) → AllZip (IsPart n ws c) ts parts → length parts ≡ length ts
+  long : (ts : List Target) (new_lists : List (Option (List Cand))) → AllZip (IsNewList n ws c) ts new_lists → length new_lists ≡ length ts
   long [] [] h = refl
   long [] (p ∷ ps) h = absurd h
   long (t ∷ ts) [] h = absurd h
   long (t ∷ ts) (p ∷ ps) h = ap suc (long ts ps h.1)
 
-  at_columns : (m k : ℕ) (parts : List (Option (List Cand))) → AllZip (IsPart n ws c) (map (λ a. Col a) (range_with_len k m)) parts → (a : ℕ) → a < m → IsPart n ws c (Col (k + a)) (get_or parts a None)
-  at_columns zero k parts h a l = absurd (omega arith)
+  at_columns : (m k : ℕ) (new_lists : List (Option (List Cand))) → AllZip (IsNewList n ws c) (map (λ a. Col a) (range_with_len k m)) new_lists → (a : ℕ) → a < m → IsNewList n ws c (Col (k + a)) (get_or new_lists a None)
+  at_columns zero k new_lists h a l = absurd (omega arith)
   at_columns (suc m) k [] h a l = absurd h
-  at_columns (suc m) k (p ∷ ps) h zero l = let e : k + 0 ≡ k = omega arith in subst (λ (i : ℕ). IsPart n ws c (Col i) p) (sym e) h.0
+  at_columns (suc m) k (p ∷ ps) h zero l = let e : k + 0 ≡ k = omega arith in subst (λ (i : ℕ). IsNewList n ws c (Col i) p) (sym e) h.0
   at_columns (suc m) k (p ∷ ps) h (suc a) l =
       let e : k + 1 + a ≡ k + suc a = omega arith in
       let less : a < m = omega arith in
-      subst (λ (i : ℕ). IsPart n ws c (Col i) (get_or ps a None)) e (at_columns m (k + 1) ps h.1 a less)
+      subst (λ (i : ℕ). IsNewList n ws c (Col i) (get_or ps a None)) e (at_columns m (k + 1) ps h.1 a less)
 
-  pub are_parts : (parts : List (Option (List Cand))) (first : Option (List Cand)) (others : List (Option (List Cand))) → AllZip (IsPart n ws c) (targets n) parts → parts ≡ first ∷ others → AreParts n ws c first others
-  are_parts parts first others h e =
-      let all : AllZip (IsPart n ws c) (targets n) (first ∷ others) = subst (AllZip (IsPart n ws c) (targets n)) e h in
+  pub are_parts : (new_lists : List (Option (List Cand))) (first : Option (List Cand)) (others : List (Option (List Cand))) → AllZip (IsNewList n ws c) (targets n) new_lists → new_lists ≡ first ∷ others → AreNewLists n ws c first others
+  are_parts new_lists first others h e =
+      let all : AllZip (IsNewList n ws c) (targets n) (first ∷ others) = subst (AllZip (IsNewList n ws c) (targets n)) e h in
       record {
         row_id = all.0;
         count = long (map (λ a. Col a) (upto n)) others all.1 ∙ length-map (upto n) (λ a. Col a) ∙ length-range_with_len 0 n;
-        columns = λ a l. let z : 0 + a ≡ a = omega arith in subst (λ (i : ℕ). IsPart n ws c (Col i) (get_or others a None)) z (at_columns n 0 others all.1 a l);
+        columns = λ a l. let z : 0 + a ≡ a = omega arith in subst (λ (i : ℕ). IsNewList n ws c (Col i) (get_or others a None)) z (at_columns n 0 others all.1 a l);
       }
 
-  pub some_parts : (parts : List (Option (List Cand))) → AllZip (IsPart n ws c) (targets n) parts → 0 < length parts
-  some_parts parts h = let l = long (targets n) parts h in omega arith
+  pub some_parts : (new_lists : List (Option (List Cand))) → AllZip (IsNewList n ws c) (targets n) new_lists → 0 < length new_lists
+  some_parts new_lists h = let l = long (targets n) new_lists h in omega arith
 
-  -- the first part taken off the others
-  pub parts_are : (parts : List (Option (List Cand))) (first : Option (List Cand)) (others : List (Option (List Cand))) → AllZip (IsPart n ws c) (targets n) parts → first ≡ get_or parts 0 first → others ≡ remove parts 0 → AreParts n ws c first others
+  -- the first new list taken off the others
+  pub parts_are : (new_lists : List (Option (List Cand))) (first : Option (List Cand)) (others : List (Option (List Cand))) → AllZip (IsNewList n ws c) (targets n) new_lists → first ≡ get_or new_lists 0 first → others ≡ remove new_lists 0 → AreNewLists n ws c first others
   parts_are [] first others h e f = absurd h
   parts_are (p ∷ ps) first others h e f = are_parts (p ∷ ps) first others h (ap (λ (x : Option (List Cand)). x ∷ ps) (sym e) ∙ ap (λ (xs : List (Option (List Cand))). first ∷ xs) (sym f))

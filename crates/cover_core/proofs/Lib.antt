@@ -10,6 +10,7 @@ pub mod Refuting
 pub mod Together
 pub mod Calls
 pub mod Cursors
+pub mod Holding
 pub mod Upto
 pub mod Whole
 pub mod Turn

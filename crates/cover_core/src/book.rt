@@ -29,8 +29,8 @@ use crate::evidence::{Evidence, news_of};
 use crate::judging::{Alone, Beside, Judges, judged_by_parts};
 use crate::known::Known;
 use crate::listed::listed;
+use crate::new_lists::{put_all, specialised};
 use crate::outdated::Outdated;
-use crate::parts::{put_all, specialised};
 use crate::renewal::renewed_after;
 use crate::searcher::Searcher;
 use crate::searching::{first_drawable, first_unfinished, move_both_back};
@@ -183,8 +183,8 @@ impl Book {
         match first_drawable(&self.candidates, &mut self.cursors.drawable, next) {
             Some((target, cand)) => {
                 let snapshot = self.snapshot.clone()?;
+                // It is unfinished still, so the first unfinished candidate stays the same.
                 self.candidates.hold(target, cand.left, true);
-                self.first = first_unfinished(&self.candidates, &mut self.cursors.unfinished, next);
                 let job = Job::of(target, cand.left, cand.upto, next, snapshot);
                 Ok(Draw::Job(job))
             }
@@ -222,9 +222,9 @@ impl Book {
         if concerned.is_none() {
             return Ok(Refutation::Known);
         }
-        let parts = specialised(self.alloc, &self.candidates, agree, &concerned)?;
+        let new_lists = specialised(self.alloc, &self.candidates, agree, &concerned)?;
         self.witnesses.add(Witness { i, j, agree })?;
-        self.outdated = Outdated::of(put_all(&mut self.candidates, parts), None);
+        self.outdated = Outdated::of(put_all(&mut self.candidates, new_lists), None);
         let next = self.rows.next();
         move_both_back(&self.candidates, &concerned, &mut self.cursors, next);
         self.first = first_unfinished(&self.candidates, &mut self.cursors.unfinished, next);
@@ -265,8 +265,6 @@ impl Book {
             return Release::Dropped;
         }
         self.cursors.let_go(true, target, left);
-        let next = self.rows.next();
-        self.first = first_unfinished(&self.candidates, &mut self.cursors.unfinished, next);
         Release::Released
     }
 
@@ -296,7 +294,7 @@ impl Book {
         match made {
             Ok(made) => {
                 self.witnesses.withdraw(made.dead.as_slice());
-                let lists = put_all(&mut self.candidates, made.parts);
+                let lists = put_all(&mut self.candidates, made.new_lists);
                 let snapshot = mem::replace(&mut self.snapshot, made.snapshot);
                 let groups = self.searcher.stores.renew(self.alloc, made.shared);
                 self.outdated = Outdated::of(lists, Some((groups, snapshot)));
@@ -662,9 +660,9 @@ impl Book {
         }
         let news = news_of(alloc, &self.witnesses, &self.candidates, found)?;
         let count = news.witnesses.len();
-        let parts = judges.drafted(alloc, &self.candidates, &news.draft, count)?;
+        let new_lists = judges.drafted(alloc, &self.candidates, &news.draft, count)?;
         self.witnesses.add_all(news.witnesses.as_slice())?;
-        drop(put_all(&mut self.candidates, parts));
+        drop(put_all(&mut self.candidates, new_lists));
         self.cursors = Cursors::start();
         let next = self.rows.next();
         self.first = first_unfinished(&self.candidates, &mut self.cursors.unfinished, next);

@@ -11,7 +11,7 @@ ghost use Rattle.validator.specs.Stores.{AreOf};
 ghost use denote.Param.Send.{IsSync};
 
 use crate::evidence::{Evidence, is_told, push_evidence};
-use crate::parts::{Parts, drafted, drafted_by};
+use crate::new_lists::{NewLists, drafted, drafted_by};
 use crate::sampling::{sampled, sampled_by};
 use crate::waiting::{Waiting, count};
 use candidate_cover::{CandidateCover, Draft};
@@ -164,7 +164,7 @@ pub(crate) trait Judges {
         candidates: &CandidateCover,
         draft: &Draft,
         news: usize,
-    ) -> Result<Parts, AllocError>
+    ) -> Result<NewLists, AllocError>
         requires ready { ready }
         requires width { draft.now.width ≡ width candidates.now }
         ensures { IfOk result (IsLeftBy candidates.now draft.now.agree_sets) };
@@ -203,7 +203,7 @@ impl Judges for Alone {
         candidates: &CandidateCover,
         draft: &Draft,
         _news: usize,
-    ) -> Result<Parts, AllocError> {
+    ) -> Result<NewLists, AllocError> {
         drafted(alloc, candidates, draft)
     }
 }
@@ -258,7 +258,7 @@ impl<'a, R: Threads + Sync> Judges for Beside<'a, R> {
         candidates: &CandidateCover,
         draft: &Draft,
         news: usize,
-    ) -> Result<Parts, AllocError> {
+    ) -> Result<NewLists, AllocError> {
         let looks = count(candidates).max(LOOKS_AN_AGREE_SET) as u64;
         if (news as u64).saturating_mul(looks) < self.least {
             return drafted(alloc, candidates, draft);

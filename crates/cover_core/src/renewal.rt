@@ -8,7 +8,7 @@ ghost use Rattle.negative_cover.specs.EndedRows as rows_of;
 ghost use Rattle.candidate_cover.specs.Drafts.{AreLeast};
 ghost use Rattle.cover_core.specs.NewLists.{IsLeftBy};
 
-use crate::parts::{Parts, generalised};
+use crate::new_lists::{NewLists, generalised};
 use candidate_cover::CandidateCover;
 use negative_cover::{NegativeCover, ended};
 use rel_base::{Batch, RowNo, Snapshot, Steps};
@@ -23,7 +23,7 @@ pub(crate) struct Renewal {
     pub(crate) snapshot: Arc<Snapshot>,
     pub(crate) shared: Arc<Snapshot>,
     pub(crate) dead: Vec<RowNo>,
-    pub(crate) parts: Parts,
+    pub(crate) new_lists: NewLists,
 }
 
 // What is to be put in place where these are the rows after the batch.
@@ -43,19 +43,19 @@ pub(crate) fn renewed_after<L: Ledger>(
     ensures table { IfOk result (λ made. IsCodeTable made.snapshot.value) }
     ensures shared { IfOk result (λ made. made.shared.value ≡ made.snapshot.value) }
     ensures dead { IfOk result (λ made. IsPermutation (rows_of.ended batch.now) made.dead.items) }
-    ensures parts { IfOk result (λ made. IsLeftBy candidates.now (sets_of (live_of (rows_of.ended batch.now) witnesses.now)) made.parts) }
+    ensures new_lists { IfOk result (λ made. IsLeftBy candidates.now (sets_of (live_of (rows_of.ended batch.now) witnesses.now)) made.new_lists) }
 {
     let snapshot = rows.snapshot(alloc)?;
     // `columns` is called for its clause on the snapshot's lists.
     let _count = snapshot.columns();
     let dead = ended(alloc, batch)?;
-    let parted = witnesses.parted(alloc, dead.as_slice())?;
+    let withdrawal = witnesses.withdrawal(alloc, dead.as_slice())?;
     let mut steps = Steps::<L>::none(blank);
-    let parts = generalised(
+    let new_lists = generalised(
         alloc,
         candidates,
-        parted.rest.as_slice(),
-        parted.gone.as_slice(),
+        withdrawal.rest.as_slice(),
+        withdrawal.gone.as_slice(),
         &mut steps,
     )?;
     let shared = snapshot.clone()?;
@@ -63,6 +63,6 @@ pub(crate) fn renewed_after<L: Ledger>(
         snapshot,
         shared,
         dead,
-        parts,
+        new_lists,
     })
 }

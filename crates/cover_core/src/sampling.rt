@@ -4,7 +4,7 @@ ghost use Rattle.std.specs.List.{All};
 ghost use Rattle.cover_core.specs.Evidences.{IsEvidence};
 
 use crate::evidence::{Evidence, push_evidence};
-use crate::parts::least_share;
+use crate::new_lists::least_share;
 use rayon::prelude::*;
 use rel_base::Snapshot;
 use row_log::RowLog;

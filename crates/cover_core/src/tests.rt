@@ -14,7 +14,9 @@ mod workers;
 
 use crate::{Applying, Book, Draw, Marking, Refutation};
 use plain_base::{are_as_wide, relation_of};
-use rel_base::{Batch, ColSet, Covers, Job, Limits, MOST_COLUMNS, Op, Row, RowNo, Steps, Target};
+use rel_base::{
+    Batch, ColSet, Covers, Job, Limits, MOST_COLUMNS, Op, Relation, Row, RowNo, Steps, Target,
+};
 use std::alloc::{AllocError, Global};
 use std::marker::Brand;
 use std::process::Abort;
@@ -26,16 +28,26 @@ use validator::{Verdict, validate};
 // The cells of three rows.
 static LETTERS: [(&[u8], &[u8]); 3] = [(b"1", b"x"), (b"1", b"y"), (b"2", b"z")];
 
-// The book of the columns k and v with these rows.
-fn letters(rt: &impl Abort, alloc: Global) -> Result<Book, AllocError> {
-    let names = Row::copied(alloc, &[b"k", b"v"])?;
+fn letter_rows(alloc: Global) -> Result<Vec<Row>, AllocError> {
     let mut rows = Vec::with_capacity(alloc, 3)?;
     for letters in &LETTERS {
         rows.push(Row::copied(alloc, &[letters.0, letters.1])?)?;
     }
+    Ok(rows)
+}
+
+// The book of the columns k and v with these rows.
+fn letters(rt: &impl Abort, alloc: Global) -> Result<Book, AllocError> {
+    let rows = letter_rows(alloc)?;
+    let names = Row::copied(alloc, &[b"k", b"v"])?;
+    Book::open(alloc, relation_with(rt, names, rows), Limits::standard())
+}
+
+// The relation of these names and rows, which are one's.
+fn relation_with(rt: &impl Abort, names: Row, rows: Vec<Row>) -> Relation {
     let relation = relation_of(names, rows);
     assert!(rt; relation.is_some());
-    Book::open(alloc, relation.unwrap(), Limits::standard())
+    relation.unwrap()
 }
 
 fn columns(list: &[u8]) -> ColSet {

@@ -63,17 +63,20 @@ pub record IsRight (s new : Core) (before : List Entry) (job : JobParts) : Type 
   pub holds : HoldsBelow job.to (rows_after s.rows before) job.left job.target
   pub sound : Sound new
 
+-- what is right after a job came back behind an earlier entry of it
+abbrev pub ComesRight : List JobParts → Core → Core → List Entry → Entry → List Entry → JobParts → Reply → List Entry → Type 0
+ComesRight jobs s new before earlier between job reply later =
+    Runs jobs s ((before ++ earlier ∷ between) ++ marking job reply ∷ later) new → IsRight s new (before ++ earlier ∷ between) job
+
 -- A job may come back at any time: late, twice, after it was released, and after its candidate went and came back.
 pub record LateJobsAreRight (jobs : List JobParts) (s new : Core) : Type 0 where
   pub late : (before later : List Entry) (job : JobParts) (reply : Reply) → Runs jobs s (before ++ marking job reply ∷ later) new → IsRight s new before job
   pub twice : (before between later : List Entry) (job : JobParts) (first second : Reply)
-      → Runs jobs s ((before ++ marking job first ∷ between) ++ marking job second ∷ later) new → IsRight s new (before ++ marking job first ∷ between) job
+      → ComesRight jobs s new before (marking job first) between job second later
   pub released : (before between later : List Entry) (job : JobParts) (first second : Reply)
-      → Runs jobs s ((before ++ releasing job first ∷ between) ++ marking job second ∷ later) new
-      → IsRight s new (before ++ releasing job first ∷ between) job
+      → ComesRight jobs s new before (releasing job first) between job second later
   pub came_back : (before between later : List Entry) (job : JobParts)
-      → Runs jobs s ((before ++ marking job Dropped ∷ between) ++ marking job Marked ∷ later) new
-      → IsRight s new (before ++ marking job Dropped ∷ between) job
+      → ComesRight jobs s new before (marking job Dropped) between job Marked later
 
 -- ---- lists of steps that go on
 -- Two lists of steps one after the other are a list of steps, and so is a list with one more step at its end; and each list

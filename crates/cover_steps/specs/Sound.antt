@@ -37,6 +37,11 @@ pub record Sound (s : Core) : Type 0 where
   pub candidates : (t : Target) → IsColumnTarget (width s.rows) t → lefts (cands s t) ≡ least (width s.rows) (sets_of s.witnesses) t
   pub marks : (t : Target) → IsColumnTarget (width s.rows) t → All (IsMarked s.rows t) (cands s t)
 
+-- of the rows below the job's `to` that are live now, two have equal codes in a column exactly where they agree on it
+abbrev pub AreCodedAlike : RowState → JobParts → Type 0
+AreCodedAlike r job = (i j k : ℕ) → Contains r.live i → Contains r.live j → i < job.to → j < job.to → i ≢ j → k < width r
+    → (code_at job.snapshot i k ≡ code_at job.snapshot j k) ↔ (has (agree_of r i j) k ≡ true)
+
 -- A job fits the rows: its dependency holds in its snapshot below its `from`, and of the rows below its `to` each that is
 -- live now was live in the snapshot, where two of them have equal codes exactly where they agree.
 pub record Fits (r : RowState) (job : JobParts) : Type 0 where
@@ -47,8 +52,7 @@ pub record Fits (r : RowState) (job : JobParts) : Type 0 where
   pub to : job.to ≤ next r
   pub holds : HoldsInBelow job.from job.snapshot job.left job.target
   pub live : (i : ℕ) → Contains r.live i → i < job.to → live_at job.snapshot i ≡ true
-  pub codes : (i j k : ℕ) → Contains r.live i → Contains r.live j → i < job.to → j < job.to → i ≢ j → k < width r
-      → (code_at job.snapshot i k ≡ code_at job.snapshot j k) ↔ (has (agree_of r i j) k ≡ true)
+  pub codes : AreCodedAlike r job
 
 -- a sound state, and jobs that fit it
 pub record SoundWith (s : Core) (jobs : List JobParts) : Type 0 where

@@ -3,4 +3,4 @@ pub mod CodedRows
 pub mod Concerning
 pub mod EndedRows
 pub mod FoundPairs
-pub mod Parting
+pub mod Telling

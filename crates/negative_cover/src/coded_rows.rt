@@ -96,8 +96,6 @@ fn gather_columns(codes: &mut [u32], snapshot: &Snapshot, numbers: &[RowNo])
     requires given { All (λ row. row < snapshot.now.to) numbers.now }
     ensures { (k c : ℕ) → k < length numbers.now → c < length snapshot.now.codes → slice_index codes.new (length snapshot.now.codes * k + c) ≡ code_at snapshot.now (slice_index numbers.now k) c }
 {
-    // `to` is called for its clause on the lengths of the lists.
-    let _to = snapshot.to();
     let width = snapshot.columns() as usize;
     for column in 0..snapshot.columns() {
         let (shared, own) = snapshot.column(column).parts();

@@ -5,7 +5,7 @@ ghost use Rattle.negative_cover.specs.EndedRows as spec;
 use rel_base::{Batch, Op, RowNo};
 use std::alloc::{AllocError, Global};
 
-/// The numbers of the rows that a batch deletes or updates, ascending, as `NegativeCover::parted` and `NegativeCover::withdraw` look
+/// The numbers of the rows that a batch deletes or updates, ascending, as `NegativeCover::withdrawal` and `NegativeCover::withdraw` look
 /// the rows of witnesses up in them. It takes the time of sorting them, and 4 bytes for each.
 pub fn ended(alloc: Global, batch: &Batch) -> Result<Vec<RowNo>, AllocError>
     ensures { IfOk result (λ rows. IsPermutation (spec.ended batch.now) rows.items) }

@@ -13,5 +13,5 @@ mod tests;
 
 pub use concerned::Concerned;
 pub use ended_rows::ended;
-pub use negative_cover::{NegativeCover, Parted, Witness};
+pub use negative_cover::{NegativeCover, Withdrawal, Witness};
 pub use pairing::all_pairs;

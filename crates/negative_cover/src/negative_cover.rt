@@ -38,7 +38,7 @@ impl Model for NegativeCover {
 
 /// The agree sets of the witnesses without a dead row, and of those with one, each in the list's order.
 #[derive(Drop)]
-pub struct Parted {
+pub struct Withdrawal {
     pub rest: Vec<ColSet>,
     pub gone: Vec<ColSet>,
 }
@@ -75,7 +75,7 @@ impl NegativeCover {
     ///
     /// Two rows of each witness are looked up among the dead ones: by halves where `dead` ascends, so that the time grows
     /// with the number of witnesses and the logarithm of the number of dead rows, else one after another.
-    pub fn parted(&self, alloc: Global, dead: &[RowNo]) -> Result<Parted, AllocError>
+    pub fn withdrawal(&self, alloc: Global, dead: &[RowNo]) -> Result<Withdrawal, AllocError>
         ensures rest { IfOk result (λ p. p.rest.items ≡ sets_of (live_of dead.now self.now)) }
         ensures gone { IfOk result (λ p. p.gone.items ≡ sets_of (dead_of dead.now self.now)) }
     {
@@ -89,10 +89,10 @@ impl NegativeCover {
                 rest.push(witness.agree)?;
             }
         }
-        Ok(Parted { rest, gone })
+        Ok(Withdrawal { rest, gone })
     }
 
-    /// Drops the witnesses with a dead row. It takes the time of `parted`, and no memory.
+    /// Drops the witnesses with a dead row. It takes the time of `withdrawal`, and no memory.
     pub fn withdraw(&mut self, dead: &[RowNo])
         ensures { self.new ≡ live_of dead.now self.old }
     {

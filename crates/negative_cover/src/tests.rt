@@ -16,16 +16,16 @@ fn parts_with_the_second_row(
     cover: &NegativeCover,
     dead: &[RowNo],
 ) -> Result<(), Fail> {
-    let parted = cover.parted(alloc, dead)?;
-    assert!(rt; parted.rest.len() == 1);
-    assert!(rt; parted.rest[0] == ColSet::empty());
-    assert!(rt; parted.gone.len() == 1);
-    assert!(rt; parted.gone[0] == ColSet::empty().with(0));
+    let withdrawal = cover.withdrawal(alloc, dead)?;
+    assert!(rt; withdrawal.rest.len() == 1);
+    assert!(rt; withdrawal.rest[0] == ColSet::empty());
+    assert!(rt; withdrawal.gone.len() == 1);
+    assert!(rt; withdrawal.gone[0] == ColSet::empty().with(0));
     Ok(())
 }
 
 #[test]
-fn witnesses_of_a_dead_row_are_parted_and_withdrawn(rt: HostRuntime) -> Result<(), Fail> {
+fn witnesses_of_a_dead_row_are_told_apart_and_withdrawn(rt: HostRuntime) -> Result<(), Fail> {
     let first = Witness {
         i: row(&rt, 1),
         j: row(&rt, 2),
@@ -117,12 +117,12 @@ fn want_of_memory_changes_nothing(rt: HostRuntime) -> Result<(), Fail> {
         cover.add(witness)?;
     }
     let dead = [row(&rt, 2)];
-    let parted = match cover.parted(rt.alloc(), &dead) {
-        Ok(parted) => parted,
-        Err(_) => cover.parted(rt.alloc(), &dead)?,
+    let withdrawal = match cover.withdrawal(rt.alloc(), &dead) {
+        Ok(withdrawal) => withdrawal,
+        Err(_) => cover.withdrawal(rt.alloc(), &dead)?,
     };
     assert!(rt; cover.len() == 1);
-    assert!(rt; parted.rest.is_empty() && parted.gone.len() == 1);
+    assert!(rt; withdrawal.rest.is_empty() && withdrawal.gone.len() == 1);
     Ok(())
 }
 

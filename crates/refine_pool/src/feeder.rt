@@ -1,4 +1,4 @@
-// The feeder.
+// Applies batches at the desk, one after another, and keeps the replies.
 ghost use Rattle.std.specs.Prelude.{◌≡◌, ◌≤◌, [], take, length, vec_capacity};
 ghost use Rattle.std.specs.List.{All};
 ghost use Rattle.rel_base.specs.RowState.{width};

@@ -1,4 +1,4 @@
-// The phase.
+// A phase: what is sought beforehand, the rounds at the desk, and what stands after it.
 ghost use Rattle.std.specs.Prelude.{◌≡◌, ◌<◌, ◌≤◌, None, [], take, length, vec_capacity, IfOk, IfErr};
 ghost use Rattle.std.specs.List.{All};
 ghost use Rattle.rel_base.specs.RowState.{width};

@@ -1,4 +1,4 @@
-// One worker.
+// Draws jobs at the desk until nothing is left, and delivers each verdict.
 ghost use Rattle.std.specs.Prelude.{◌≡◌, ◌⊎◌, ◌<◌, [], true, IfOk, IfSome, IsTrue};
 ghost use Rattle.std.specs.Bool.{OnTrue};
 ghost use Rattle.validator.specs.Verdicts.{IsFitting};

@@ -8,4 +8,5 @@ pub record Alike (s u : CodeTable) : Type 0 where
   pub columns : length s.codes ≡ length u.codes
   pub next : s.to ≡ u.to
   pub live : live_numbers s ≡ live_numbers u
-  pub codes : (i j k : ℕ) → Contains (live_numbers s) i → Contains (live_numbers s) j → k < length s.codes → (code_at s i k ≡ code_at s j k) ↔ (code_at u i k ≡ code_at u j k)
+  pub codes : (i j k : ℕ) → Contains (live_numbers s) i → Contains (live_numbers s) j → k < length s.codes
+      → (code_at s i k ≡ code_at s j k) ↔ (code_at u i k ≡ code_at u j k)

@@ -71,7 +71,8 @@ BatchesFollow = (k : ℕ) (r s : RowState) (ops : List Op) → IsRowState r → 
 -- Inserts can only make dependencies fail, and deletes can only make them hold.
 pub record InsertsAndDeletes : Type 0 where
   pub insert : (r s : RowState) (new : Row) (x : Columns) (t : Target) → IsRowState r → applied r (Insert new) ≡ Ok s → holds s x t ≡ true → holds r x t ≡ true
-  pub delete : (r s : RowState) (number : ℕ) (x : Columns) (t : Target) → IsRowState r → applied r (Delete number) ≡ Ok s → holds r x t ≡ true → holds s x t ≡ true
+  pub delete : (r s : RowState) (number : ℕ) (x : Columns) (t : Target) → IsRowState r → applied r (Delete number) ≡ Ok s → holds r x t ≡ true
+      → holds s x t ≡ true
 
 -- ---- inclusions and projections
 -- The test of an inclusion says what the fact says.

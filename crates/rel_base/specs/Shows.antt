@@ -37,7 +37,8 @@ holds_in s x t = determined (code_agree_sets s) x t
 
 -- the same as a fact
 pub record HoldsIn (s : CodeTable) (x : Columns) (t : Target) : Type 0 where
-  pub each : (i j : ℕ) → Contains (live_numbers s) i → Contains (live_numbers s) j → i ≢ j → IsSubset x (code_agree s i j) → has_target (code_agree s i j) t ≡ true
+  pub each : (i j : ℕ) → Contains (live_numbers s) i → Contains (live_numbers s) j → i ≢ j → IsSubset x (code_agree s i j)
+      → has_target (code_agree s i j) t ≡ true
 
 -- X determines t in the snapshot among the rows with a number below b
 unfoldable pub holds_in_below : ℕ → CodeTable → Columns → Target → Bool
@@ -45,4 +46,5 @@ holds_in_below b s x t = determined (code_sets s (filter (λ i. nat_lt i b) (liv
 
 -- the same as a fact
 pub record HoldsInBelow (b : ℕ) (s : CodeTable) (x : Columns) (t : Target) : Type 0 where
-  pub each : (i j : ℕ) → Contains (live_numbers s) i → Contains (live_numbers s) j → i < b → j < b → i ≢ j → IsSubset x (code_agree s i j) → has_target (code_agree s i j) t ≡ true
+  pub each : (i j : ℕ) → Contains (live_numbers s) i → Contains (live_numbers s) j → i < b → j < b → i ≢ j → IsSubset x (code_agree s i j)
+      → has_target (code_agree s i j) t ≡ true

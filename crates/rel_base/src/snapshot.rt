@@ -184,7 +184,8 @@ impl Snapshot {
     /// The codes of a column, counted from 0, for a loop over many rows.
     pub fn column(&self, column: u8) -> &Codes
         requires { column < length self.now.codes }
-        ensures { result.now ≡ slice_index_or self.now.codes column [] }
+        ensures value { result.now ≡ slice_index_or self.now.codes column [] }
+        ensures bounds { IsCodeTable self.now }
     {
         &self.codes[column as usize]
     }

@@ -9,11 +9,12 @@ use crate::{
 };
 use col_set::{ColSet, Target};
 use csv::{ByteRecord, ReaderBuilder};
-use std::alloc::Global;
+use std::alloc::{AllocError, Global};
 use std::hash::{DefaultHasher, Hash, Hasher};
+use std::process::Abort;
 use std::sync::Arc;
 use std::test::Fail;
-use std::thread::join;
+use std::thread::{Threads, join};
 
 // The one minimal key of the columns k and v with the rows (1, x), (1, y) and (2, z).
 fn letters_key() -> ColSet
@@ -57,22 +58,29 @@ fn the_covers_of_small_relations_compute(rt: HostRuntime) {
     assert!(rt; blanks_keys().0.has(0) && blanks_keys().1.has(1));
 }
 
-#[test]
-fn a_row_packs_its_cells(rt: HostRuntime) -> Result<(), Fail> {
-    let alloc = rt.alloc();
-    let cells: [&[u8]; 3] = [b"1", b"", b"Berlin"];
-    let row = Row::copied(alloc, &cells)?;
+// Asserts that these are the cells of the row.
+fn are_its_cells(rt: &impl Abort, row: &Row) {
     assert_eq!(rt; row.len(), 3);
-    assert!(rt;
-        row.cell(0) == b"1".as_slice()
-            && row.cell(1).is_empty()
-            && row.cell(2) == b"Berlin".as_slice()
-    );
+    assert!(rt; row.cell(0) == b"1".as_slice());
+    assert!(rt; row.cell(1).is_empty());
+    assert!(rt; row.cell(2) == b"Berlin".as_slice());
+}
+
+// Asserts that a clone of the row has them.
+fn clone_has_its_cells(rt: &impl Abort, row: &Row) -> Result<(), AllocError> {
     let again = row.clone()?;
     assert!(rt; again.len() == 3);
     assert!(rt; again.cell(2) == b"Berlin".as_slice());
-    let record = row.into_record();
-    assert!(rt; Row::of(record).len() == 3);
+    Ok(())
+}
+
+#[test]
+fn a_row_packs_its_cells(rt: HostRuntime) -> Result<(), Fail> {
+    let cells: [&[u8]; 3] = [b"1", b"", b"Berlin"];
+    let row = Row::copied(rt.alloc(), &cells)?;
+    are_its_cells(&rt, &row);
+    clone_has_its_cells(&rt, &row)?;
+    assert!(rt; Row::of(row.into_record()).len() == 3);
     Ok(())
 }
 
@@ -94,17 +102,40 @@ fn hash_of(row: &Row) -> u64 {
     state.finish()
 }
 
+fn are_equal(row: &Row, other: &Row) -> bool {
+    row == other && hash_of(row) == hash_of(other)
+}
+
+fn are_apart(row: &Row, other: &Row) -> bool {
+    row != other && hash_of(row) != hash_of(other)
+}
+
+// Whether the row equals one that was read with quotes.
+fn equals_a_quoted_one(alloc: Global, row: &Row) -> Result<bool, Fail> {
+    Ok(are_equal(row, &first_row(alloc, b"\"ab\",\"\",c\n")?))
+}
+
+// The same bytes in a row, cut into cells in two ways.
+static CELLS: [&[u8]; 3] = [b"ab", b"", b"c"];
+
+static OTHER_CELLS: [&[u8]; 3] = [b"a", b"", b"bc"];
+
+// Whether the row is apart from one of the same bytes.
+fn is_apart_from_same_bytes(alloc: Global, row: &Row) -> Result<bool, AllocError> {
+    Ok(are_apart(row, &Row::copied(alloc, &OTHER_CELLS)?))
+}
+
+// Whether it is another than a shorter one.
+fn is_not_a_shorter_one(alloc: Global, row: &Row) -> Result<bool, AllocError> {
+    Ok(*row != Row::copied(alloc, &OTHER_CELLS[..2])?)
+}
+
 #[test]
 fn rows_are_equal_by_their_cells(rt: HostRuntime) -> Result<(), Fail> {
-    let alloc = rt.alloc();
-    let cells: [&[u8]; 3] = [b"ab", b"", b"c"];
-    let row = Row::copied(alloc, &cells)?;
-    let quoted = first_row(alloc, b"\"ab\",\"\",c\n")?;
-    assert!(rt; row == quoted && hash_of(&row) == hash_of(&quoted));
-    let cells: [&[u8]; 3] = [b"a", b"", b"bc"];
-    let other = Row::copied(alloc, &cells)?;
-    assert!(rt; row != other && hash_of(&row) != hash_of(&other));
-    assert!(rt; row != Row::copied(alloc, &cells[..2])?);
+    let row = Row::copied(rt.alloc(), &CELLS)?;
+    assert!(rt; equals_a_quoted_one(rt.alloc(), &row)?);
+    assert!(rt; is_apart_from_same_bytes(rt.alloc(), &row)?);
+    assert!(rt; is_not_a_shorter_one(rt.alloc(), &row)?);
     Ok(())
 }
 
@@ -119,32 +150,61 @@ fn codes_stand_behind_shared_ones(rt: HostRuntime) -> Result<(), Fail> {
     Ok(())
 }
 
-// A missing proof that a value may move to another thread shows at a `join`.
-#[test]
-fn values_move_among_threads(rt: HostRuntime) -> Result<(), Fail> {
-    let alloc = rt.alloc();
+// A snapshot of one column and one row.
+fn one_row(alloc: Global) -> Result<Snapshot, AllocError> {
     let codes = vec![in alloc; Codes::of(vec![in alloc; 0u32]?)]?;
-    let snapshot = Arc::new(
-        alloc,
-        Snapshot::of(codes, vec![in alloc; true]?, RowNo::of(2)),
-    )?;
-    let job = Job::of(
+    Ok(Snapshot::of(codes, vec![in alloc; true]?, RowNo::of(2)))
+}
+
+// A job on it.
+fn whole_job(snapshot: Arc<Snapshot>) -> Job {
+    Job::of(
         Target::RowId,
         ColSet::empty(),
         RowNo::first(),
         RowNo::of(2),
-        snapshot.clone()?,
-    );
-    let batch = Batch::of(vec![in alloc; Op::Delete(RowNo::first())]?);
-    let names: [&[u8]; 1] = [b"k"];
-    let relation = Relation::of(Row::copied(alloc, &names)?, Vec::new(alloc));
-    let (to, operations) = join(&rt, move || job.to(), move || batch.len());
+        snapshot,
+    )
+}
+
+// A batch of one operation.
+fn one_delete(alloc: Global) -> Result<Batch, AllocError> {
+    Ok(Batch::of(vec![in alloc; Op::Delete(RowNo::first())]?))
+}
+
+// A relation of one column and no rows.
+fn without_rows(alloc: Global) -> Result<Relation, AllocError> {
+    Ok(Relation::of(Row::copied(alloc, &[b"k"])?, Vec::new(alloc)))
+}
+
+fn move_job_and_batch<R: Threads + Sync + Abort>(rt: &R, job: Job, batch: Batch) {
+    let (to, operations) = join(rt, move || job.to(), move || batch.len());
+    assert!(rt; to == RowNo::of(2));
+    assert!(rt; operations == 1);
+}
+
+fn move_snapshot_and_relation<R: Threads + Sync + Abort>(
+    rt: &R,
+    snapshot: Arc<Snapshot>,
+    relation: Relation,
+) {
     let (live, rows) = join(
-        &rt,
+        rt,
         move || snapshot.live_count(),
         move || relation.rows().len(),
     );
-    assert!(rt; to == RowNo::of(2) && operations == 1 && live == 1 && rows == 0);
+    assert!(rt; live == 1);
+    assert!(rt; rows == 0);
+}
+
+// A missing proof that a value may move to another thread shows at a `join`.
+#[test]
+fn values_move_among_threads(rt: HostRuntime) -> Result<(), Fail> {
+    let alloc = rt.alloc();
+    let snapshot = Arc::new(alloc, one_row(alloc)?)?;
+    let job = whole_job(snapshot.clone()?);
+    move_job_and_batch(&rt, job, one_delete(alloc)?);
+    move_snapshot_and_relation(&rt, snapshot, without_rows(alloc)?);
     Ok(())
 }
 
@@ -180,52 +240,130 @@ fn causes_have_their_numbers(rt: HostRuntime) {
 }
 
 #[test]
-fn limits_and_relations_keep_what_they_are_given(rt: HostRuntime) -> Result<(), Fail> {
-    let alloc = rt.alloc();
+fn standard_limits_are_the_greatest(rt: HostRuntime) {
     let standard = Limits::standard();
-    assert!(rt; standard.columns == MOST_COLUMNS && standard.rows == MOST_ROWS);
-    assert!(rt; standard.cell == MOST_CELL_BYTES && standard.bytes == MOST_BYTES);
+    assert!(rt; standard.columns == MOST_COLUMNS);
+    assert!(rt; standard.rows == MOST_ROWS);
+    assert!(rt; standard.cell == MOST_CELL_BYTES);
+    assert!(rt; standard.bytes == MOST_BYTES);
+}
+
+#[test]
+fn smaller_limits_keep_what_they_are_given(rt: HostRuntime) {
     let small = Limits::smaller(2, 3, 1, 16);
-    assert!(rt; small.columns == 2 && small.rows == 3 && small.cell == 1 && small.bytes == 16);
-    let names: [&[u8]; 2] = [b"k", b"v"];
-    let relation = Relation::of(Row::copied(alloc, &names)?, Vec::new(alloc));
-    assert!(rt; relation.names().len() == 2 && relation.rows().is_empty());
-    let name = Name::of(String::from_str(alloc, "r.csv")?);
-    assert!(rt; name.as_str() == "r.csv" && name.clone()? == name);
-    let covers = Covers::of(vec![in alloc; ColSet::all(1)]?, Vec::new(alloc));
-    assert!(rt; covers.keys().len() == 1 && covers.fds().is_empty());
-    assert!(rt; Nulls::Equal != Nulls::Distinct);
+    assert!(rt; small.columns == 2);
+    assert!(rt; small.rows == 3);
+    assert!(rt; small.cell == 1);
+    assert!(rt; small.bytes == 16);
+}
+
+#[test]
+fn a_relation_keeps_its_names(rt: HostRuntime) -> Result<(), Fail> {
+    let names = Row::copied(rt.alloc(), &[b"k", b"v"])?;
+    let relation = Relation::of(names, Vec::new(rt.alloc()));
+    assert!(rt; relation.names().len() == 2);
+    assert!(rt; relation.rows().is_empty());
     Ok(())
+}
+
+#[test]
+fn a_name_keeps_its_text(rt: HostRuntime) -> Result<(), Fail> {
+    let name = Name::of(String::from_str(rt.alloc(), "r.csv")?);
+    assert!(rt; name.as_str() == "r.csv");
+    assert!(rt; name.clone()? == name);
+    Ok(())
+}
+
+#[test]
+fn covers_keep_their_keys(rt: HostRuntime) -> Result<(), Fail> {
+    let keys = vec![in rt.alloc(); ColSet::all(1)]?;
+    let covers = Covers::of(keys, Vec::new(rt.alloc()));
+    assert!(rt; covers.keys().len() == 1);
+    assert!(rt; covers.fds().is_empty());
+    Ok(())
+}
+
+#[test]
+fn readings_of_null_are_told_apart(rt: HostRuntime) {
+    assert!(rt; Nulls::Equal != Nulls::Distinct);
+}
+
+// The codes of two columns and three rows.
+fn two_columns(alloc: Global) -> Result<Vec<Codes>, AllocError> {
+    Ok(vec![in alloc;
+        Codes::of(vec![in alloc; 0u32, 0, 1]?),
+        Codes::of(vec![in alloc; 0u32, 1, 2]?),
+    ]?)
+}
+
+// The snapshot of these rows, the second of them dead.
+fn three_rows(rt: &impl Abort, alloc: Global) -> Result<Snapshot, AllocError> {
+    let codes = two_columns(alloc)?;
+    let live = vec![in alloc; true, false, true]?;
+    assert!(rt; codes.len() == 2);
+    assert!(rt; live.len() == 3);
+    assert!(rt; codes[0].len() == 3);
+    assert!(rt; codes[1].len() == 3);
+    Ok(Snapshot::of(codes, live, RowNo::of(4)))
+}
+
+// Asserts that the snapshot is that.
+fn are_three_rows(rt: &impl Abort, snapshot: &Snapshot) {
+    assert!(rt; snapshot.columns() == 2);
+    assert!(rt; snapshot.to() == RowNo::of(4));
+    assert!(rt; snapshot.live_count() == 2);
+    let second = snapshot.column(1);
+    assert!(rt; second.len() == 3);
+    assert!(rt; second.get(2) == 2);
+}
+
+// Asserts that the first and the third row are live, and the second and a fourth are not.
+fn first_and_third_are_live(rt: &impl Abort, snapshot: &Snapshot) {
+    assert!(rt; snapshot.is_live(RowNo::first()));
+    assert!(rt; !snapshot.is_live(RowNo::of(2)));
+    assert!(rt; snapshot.is_live(RowNo::of(3)));
+    assert!(rt; !snapshot.is_live(RowNo::of(4)));
+}
+
+#[test]
+fn a_snapshot_keeps_what_it_is_given(rt: HostRuntime) -> Result<(), Fail> {
+    let snapshot = three_rows(&rt, rt.alloc())?;
+    are_three_rows(&rt, &snapshot);
+    first_and_third_are_live(&rt, &snapshot);
+    Ok(())
+}
+
+// The code of the first row in the second of two columns.
+fn second_code(rt: &impl Abort, snapshot: &Snapshot) -> u32 {
+    assert!(rt; snapshot.columns() == 2);
+    assert!(rt; RowNo::first() < snapshot.to());
+    snapshot.code(RowNo::first(), 1)
+}
+
+// Asserts that two jobs are equal.
+fn are_equal_jobs(rt: &impl Abort, job: &Job, again: &Job) {
+    assert!(rt; again.target() == job.target());
+    assert!(rt; again.left() == job.left());
+    assert!(rt; again.from() == job.from());
+    assert!(rt; again.to() == job.to());
+    assert!(rt; second_code(rt, again.snapshot()) == second_code(rt, job.snapshot()));
+}
+
+// A job on these rows.
+fn job_on(snapshot: Arc<Snapshot>) -> Job {
+    Job::of(
+        Target::RowId,
+        ColSet::all(2).without(0),
+        RowNo::first(),
+        RowNo::of(4),
+        snapshot,
+    )
 }
 
 #[test]
 fn a_job_is_made_again(rt: HostRuntime) -> Result<(), Fail> {
     let alloc = rt.alloc();
-    let codes = vec![in alloc;
-        Codes::of(vec![in alloc; 0u32, 0, 1]?),
-        Codes::of(vec![in alloc; 0u32, 1, 2]?),
-    ]?;
-    let live = vec![in alloc; true, false, true]?;
-    assert!(rt; codes.len() == 2 && live.len() == 3);
-    assert!(rt; codes[0].len() == 3 && codes[1].len() == 3);
-    let snapshot = Snapshot::of(codes, live, RowNo::of(4));
-    assert!(rt; snapshot.columns() == 2 && snapshot.to() == RowNo::of(4));
-    assert!(rt; snapshot.is_live(RowNo::first()) && !snapshot.is_live(RowNo::of(2)));
-    assert!(rt; snapshot.is_live(RowNo::of(3)) && !snapshot.is_live(RowNo::of(4)));
-    assert!(rt; snapshot.live_count() == 2 && snapshot.column(1).get(2) == 2);
-    let job = Job::of(
-        Target::RowId,
-        ColSet::all(2).without(0),
-        RowNo::first(),
-        RowNo::of(4),
-        Arc::new(alloc, snapshot)?,
-    );
-    let again = job.again()?;
-    assert!(rt; again.target() == job.target() && again.left() == job.left());
-    assert!(rt; again.from() == job.from() && again.to() == job.to());
-    assert!(rt; again.snapshot().columns() == 2);
-    assert!(rt;
-        again.snapshot().code(RowNo::first(), 1) != job.snapshot().code(RowNo::first(), 1) + 1
-    );
+    let job = job_on(Arc::new(alloc, three_rows(&rt, alloc)?)?);
+    are_equal_jobs(&rt, &job, &job.again()?);
     Ok(())
 }

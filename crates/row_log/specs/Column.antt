@@ -20,13 +20,16 @@ pub record AreCodes (c : ColumnCells) (codes : List ℕ) : Type 0 where
 abbrev pub column_of : Coding → List ℕ → ColumnCells
 column_of d codes = record { nulls = d.nulls; cells = map (λ code. slice_index_or d.cells code []) codes }
 
+-- the codes of two rows are equal exactly where the cells that they stand for agree
+abbrev pub AgreeByCodes : Coding → List ℕ → Type 0
+AgreeByCodes d codes = (i j : ℕ) → i < length codes → j < length codes → i ≢ j → (slice_index codes i ≡ slice_index codes j)
+    ↔ Agrees d.nulls (slice_index_or d.cells (slice_index codes i) []) (slice_index_or d.cells (slice_index codes j) [])
+
 -- Each code stands in the dictionary. It was first given to the row at the place that `firsts` has for it: so the codes
 -- that rows from a place on brought are those whose first place is not below it.
 pub record IsKept (d : Coding) (codes firsts : List ℕ) : Type 0 where
   pub known : (i : ℕ) → i < length codes → slice_index codes i < length d.cells
-  pub agree : (i j : ℕ) → i < length codes → j < length codes → i ≢ j
-      → (slice_index codes i ≡ slice_index codes j)
-      ↔ Agrees d.nulls (slice_index_or d.cells (slice_index codes i) []) (slice_index_or d.cells (slice_index codes j) [])
+  pub agree : AgreeByCodes d codes
   pub all : length firsts ≡ length d.cells
   pub first : (i : ℕ) → i < length codes → slice_index firsts (slice_index codes i) ≤ i
   pub later : (c : ℕ) → c < length firsts → c ≤ slice_index firsts c

@@ -4,17 +4,22 @@ ghost use Rattle.rel_base.specs.RowState.{width};
 
 use crate::{Applying, LiveCells, RowLog};
 use plain_base::{PlainRows, Samples, agree, are_as_wide, is_included, relation_of};
-use rel_base::{Batch, ColSet, Limits, Nulls, Relation, Row, RowNo};
+use rel_base::{Batch, ColSet, Limits, Nulls, Relation, Row, RowNo, Snapshot, Why};
 use std::alloc::{AllocError, Global};
 use std::process::Abort;
 use std::test::Fail;
+use std::thread::Threads;
 
-// A relation of three columns and four rows.
-fn drawn(alloc: Global, seed: u64) -> Result<Relation, Fail> {
-    let mut samples = Samples::from_seed(seed);
+// A relation of three columns and four rows, where they are one.
+fn drawn_from(alloc: Global, samples: &mut Samples) -> Result<Option<Relation>, AllocError> {
     let names = samples.row(alloc, 3)?;
-    let rows = samples.rows(alloc, 4, 3)?;
-    Ok(relation_of(names, rows).ok_or("no relation")?)
+    Ok(relation_of(names, samples.rows(alloc, 4, 3)?))
+}
+
+// Such a relation.
+fn drawn(alloc: Global, seed: u64) -> Result<Relation, Fail> {
+    let relation = drawn_from(alloc, &mut Samples::from_seed(seed))?;
+    Ok(relation.ok_or("no relation")?)
 }
 
 // Such a relation as a log and as plain rows, where no number above 6 is given.
@@ -54,7 +59,24 @@ fn has_same_cells(log: &RowLog, number: RowNo, row: &Row) -> bool {
     true
 }
 
-// Whether the log answers a batch as the plain rows do, and has their rows afterwards. Where memory ran out, nothing changed.
+// Whether an answer of the log is the plain one, and it has the plain rows afterwards. Where memory ran out, nothing changed.
+fn is_plain_answer(
+    log: &RowLog,
+    rows: &PlainRows,
+    answer: Applying,
+    outcome: &Result<PlainRows, (usize, Why)>,
+) -> bool {
+    match (answer, outcome) {
+        (Applying::Applied { .. }, Ok(after)) => is_same(log, after),
+        (Applying::Refused { at, why }, Err((place, cause))) => {
+            at == *place as u64 && why == *cause && is_same(log, rows)
+        }
+        (Applying::NoMemory, _) => is_same(log, rows),
+        _ => false,
+    }
+}
+
+// Whether the log answers a batch so.
 fn answers_the_same(
     rt: &impl Abort,
     alloc: Global,
@@ -65,23 +87,33 @@ fn answers_the_same(
     assert!(rt; are_as_wide(batch, rows.names().len()));
     let outcome = rows.after(alloc, batch)?;
     assert!(rt; are_as_wide(batch, log.names().len()));
-    Ok(match (log.apply(batch), outcome) {
-        (Applying::Applied { .. }, Ok(after)) => is_same(log, &after),
-        (Applying::Refused { at, why }, Err((place, cause))) => {
-            at == place as u64 && why == cause && is_same(log, rows)
-        }
-        (Applying::NoMemory, _) => is_same(log, rows),
-        _ => false,
-    })
+    let answer = log.apply(batch);
+    Ok(is_plain_answer(log, rows, answer, &outcome))
+}
+
+// Whether it does so for a drawn batch of three operations.
+fn answers_a_drawn_batch(
+    rt: &impl Abort,
+    alloc: Global,
+    log: &mut RowLog,
+    rows: &PlainRows,
+    seed: u64,
+) -> Result<bool, Fail> {
+    let batch = Samples::from_seed(seed).batch(alloc, 3, 3, 5)?;
+    answers_the_same(rt, alloc, log, rows, &batch)
+}
+
+// Whether a drawn batch is applied to a drawn relation as plainly.
+fn is_applied_as_plainly(rt: &impl Abort, alloc: Global, seed: u64) -> Result<bool, Fail> {
+    let (mut log, rows) = opened(alloc, seed, Nulls::Equal)?;
+    answers_a_drawn_batch(rt, alloc, &mut log, &rows, seed.wrapping_add(100))
 }
 
 #[test]
 fn batches_are_applied_as_plainly(rt: HostRuntime) -> Result<(), Fail> {
     for seed in 0..60 {
-        let (mut log, rows) = opened(rt.alloc(), seed, Nulls::Equal)?;
-        let batch = Samples::from_seed(seed + 100).batch(rt.alloc(), 3, 3, 5)?;
         assert!(rt;
-            answers_the_same(&rt, rt.alloc(), &mut log, &rows, &batch)?,
+            is_applied_as_plainly(&rt, rt.alloc(), seed)?,
             "seed {seed}"
         );
     }
@@ -122,44 +154,95 @@ fn all_agree(log: &RowLog, rows: &PlainRows) -> bool {
     true
 }
 
+// Whether the rows of a drawn relation do.
+fn drawn_rows_agree(alloc: Global, seed: u64, nulls: Nulls) -> Result<bool, Fail> {
+    let (log, rows) = opened(alloc, seed, nulls)?;
+    Ok(all_agree(&log, &rows))
+}
+
 #[test]
 fn rows_agree_as_plainly(rt: HostRuntime) -> Result<(), Fail> {
     for nulls in [Nulls::Equal, Nulls::Distinct] {
         for seed in 0..20 {
-            let (log, rows) = opened(rt.alloc(), seed, nulls)?;
-            assert!(rt; all_agree(&log, &rows), "{nulls:?}, seed {seed}");
+            assert!(rt;
+                drawn_rows_agree(rt.alloc(), seed, nulls)?,
+                "{nulls:?}, seed {seed}"
+            );
         }
     }
+    Ok(())
+}
+
+// Applies a drawn batch and takes it back.
+fn apply_and_undo_drawn(
+    rt: &impl Abort,
+    alloc: Global,
+    log: &mut RowLog,
+    samples: &mut Samples,
+) -> Result<(), AllocError> {
+    let batch = samples.batch(alloc, 2, 3, 3)?;
+    apply_and_undo(rt, log, &batch);
+    Ok(())
+}
+
+// Whether the log answers a drawn batch as the plain rows do.
+fn answers_a_further_batch(
+    rt: &impl Abort,
+    alloc: Global,
+    log: &mut RowLog,
+    rows: &PlainRows,
+    samples: &mut Samples,
+) -> Result<bool, Fail> {
+    let batch = samples.batch(alloc, 2, 3, 3)?;
+    answers_the_same(rt, alloc, log, rows, &batch)
+}
+
+// Asserts that after a batch was taken back the rows are those from before, and a further batch is answered as plainly.
+fn is_taken_back(rt: &impl Abort, alloc: Global, seed: u64) -> Result<(), Fail> {
+    let (mut log, rows) = opened(alloc, seed, Nulls::Distinct)?;
+    let mut samples = Samples::from_seed(seed.wrapping_add(200));
+    apply_and_undo_drawn(rt, alloc, &mut log, &mut samples)?;
+    assert!(rt;
+        is_same(&log, &rows) && all_agree(&log, &rows),
+        "seed {seed}"
+    );
+    assert!(rt;
+        answers_a_further_batch(rt, alloc, &mut log, &rows, &mut samples)?,
+        "seed {seed}"
+    );
     Ok(())
 }
 
 #[test]
 fn a_batch_is_taken_back_with_its_codes(rt: HostRuntime) -> Result<(), Fail> {
     for seed in 0..60 {
-        let (mut log, rows) = opened(rt.alloc(), seed, Nulls::Distinct)?;
-        let mut samples = Samples::from_seed(seed + 200);
-        apply_and_undo(&rt, &mut log, &samples.batch(rt.alloc(), 2, 3, 3)?);
-        assert!(rt;
-            is_same(&log, &rows) && all_agree(&log, &rows),
-            "seed {seed}"
-        );
-        let batch = samples.batch(rt.alloc(), 2, 3, 3)?;
-        assert!(rt;
-            answers_the_same(&rt, rt.alloc(), &mut log, &rows, &batch)?,
-            "seed {seed}"
-        );
+        is_taken_back(&rt, rt.alloc(), seed)?;
     }
     Ok(())
+}
+
+// Whether of the numbers below 6 the same are live.
+fn has_live_rows(snapshot: &Snapshot, rows: &PlainRows) -> bool {
+    for number in 1..6u32 {
+        if snapshot.is_live(RowNo::of(number)) != rows.live().contains(&number) {
+            return false;
+        }
+    }
+    true
+}
+
+// Asserts that the snapshot is of this log and has these live rows.
+fn is_snapshot_of(rt: &impl Abort, snapshot: &Snapshot, log: &RowLog, rows: &PlainRows) {
+    assert!(rt; snapshot.to() == log.next());
+    assert!(rt; snapshot.columns() == 3);
+    assert!(rt; has_live_rows(snapshot, rows));
 }
 
 #[test]
 fn a_snapshot_has_the_live_rows(rt: HostRuntime) -> Result<(), Fail> {
     let (log, rows) = opened(rt.alloc(), 7, Nulls::Equal)?;
     let snapshot = log.snapshot(rt.alloc())?;
-    assert!(rt; snapshot.to() == log.next() && snapshot.columns() == 3);
-    for number in 1..6u32 {
-        assert!(rt; snapshot.is_live(RowNo::of(number)) == rows.live().contains(&number));
-    }
+    is_snapshot_of(&rt, &snapshot, &log, &rows);
     Ok(())
 }
 
@@ -189,28 +272,53 @@ fn are_cells_of(cells: &Row, parts: &[Row]) -> bool {
     filled == cells.len()
 }
 
+// Whether the distinct cells of the first column are the parts of its live rows.
+fn has_parts(
+    rt: &impl Abort,
+    alloc: Global,
+    log: &RowLog,
+    rows: &PlainRows,
+) -> Result<bool, AllocError> {
+    assert!(rt; log.names().len() == 3);
+    assert!(rt; rows.names().len() == 3);
+    let cells = log.distinct_cells(alloc, 0)?;
+    Ok(are_cells_of(&cells, &rows.projection(alloc, ColSet::of_bits(1))?))
+}
+
+// Whether they are in a drawn relation.
+fn drawn_has_parts(rt: &impl Abort, alloc: Global, seed: u64) -> Result<bool, Fail> {
+    let (log, rows) = opened(alloc, seed, Nulls::Equal)?;
+    Ok(has_parts(rt, alloc, &log, &rows)?)
+}
+
 #[test]
 fn distinct_cells_are_the_parts_of_live_rows(rt: HostRuntime) -> Result<(), Fail> {
     for seed in 0..20 {
-        let (log, rows) = opened(rt.alloc(), seed, Nulls::Equal)?;
-        assert!(rt; log.names().len() == 3 && rows.names().len() == 3);
-        let cells = log.distinct_cells(rt.alloc(), 0)?;
-        let parts = rows.projection(rt.alloc(), ColSet::of_bits(1))?;
-        assert!(rt; are_cells_of(&cells, &parts), "seed {seed}");
+        assert!(rt; drawn_has_parts(&rt, rt.alloc(), seed)?, "seed {seed}");
     }
     Ok(())
 }
 
-// The cells of the live rows in a column.
-fn live_column(alloc: Global, rows: &PlainRows, column: usize) -> Result<Row, Fail> {
-    let live = rows.live_rows(alloc)?;
-    let mut cells: Vec<&[u8]> = Vec::new(alloc);
-    for row in &live {
+// The cells of these rows in a column.
+fn cells_in<'a>(
+    alloc: Global,
+    rows: &'a [Row],
+    column: usize,
+) -> Result<Vec<&'a [u8]>, AllocError> {
+    let mut cells = Vec::new(alloc);
+    for row in rows {
         if column < row.len() {
             cells.push(row.cell(column))?;
         }
     }
-    Ok(Row::copied(alloc, &cells)?)
+    Ok(cells)
+}
+
+// The cells of the live rows in a column.
+fn live_column(alloc: Global, rows: &PlainRows, column: usize) -> Result<Row, AllocError> {
+    let live = rows.live_rows(alloc)?;
+    let cells = cells_in(alloc, &live, column)?;
+    Row::copied(alloc, &cells)
 }
 
 // Whether a pair of columns is told to be an inclusion as it plainly is, with a hint kept from before, the one that it gives, and
@@ -269,57 +377,113 @@ fn tells_inclusions(
     Ok(true)
 }
 
+// The plain rows after a batch that both sides apply.
+fn applied_to_both(
+    rt: &impl Abort,
+    alloc: Global,
+    log: &mut RowLog,
+    rows: &PlainRows,
+    batch: &Batch,
+) -> Result<Option<PlainRows>, AllocError> {
+    assert!(rt; are_as_wide(batch, rows.names().len()));
+    let outcome = rows.after(alloc, batch)?;
+    assert!(rt; are_as_wide(batch, log.names().len()));
+    Ok(match (log.apply(batch), outcome) {
+        (Applying::Applied { .. }, Ok(after)) => Some(after),
+        _ => None,
+    })
+}
+
+// The plain rows after a drawn batch, where both sides apply it.
+fn after_a_drawn_batch(
+    rt: &impl Abort,
+    alloc: Global,
+    log: &mut RowLog,
+    rows: &PlainRows,
+    seed: u64,
+) -> Result<Option<PlainRows>, AllocError> {
+    let batch = Samples::from_seed(seed).batch(alloc, 2, 3, 3)?;
+    applied_to_both(rt, alloc, log, rows, &batch)
+}
+
+// Asserts that inclusions are told as plainly before and after a drawn batch.
+fn tells_before_and_after(
+    rt: &impl Abort,
+    alloc: Global,
+    seed: u64,
+    nulls: Nulls,
+) -> Result<(), Fail> {
+    let (mut log, rows) = opened(alloc, seed, nulls)?;
+    let mut hints = [0; 9];
+    assert!(rt;
+        tells_inclusions(alloc, &log, &rows, &mut hints)?,
+        "seed {seed}"
+    );
+    let after = after_a_drawn_batch(rt, alloc, &mut log, &rows, seed.wrapping_add(300))?;
+    if let Some(after) = after {
+        assert!(rt;
+            tells_inclusions(alloc, &log, &after, &mut hints)?,
+            "seed {seed}"
+        );
+    }
+    Ok(())
+}
+
 #[test]
 fn inclusions_are_told_as_plainly_before_and_after_a_batch(rt: HostRuntime) -> Result<(), Fail> {
-    let alloc = rt.alloc();
     for nulls in [Nulls::Equal, Nulls::Distinct] {
         for seed in 0..12 {
-            let (mut log, rows) = opened(alloc, seed, nulls)?;
-            let mut hints = [0; 9];
-            assert!(rt;
-                tells_inclusions(alloc, &log, &rows, &mut hints)?,
-                "seed {seed}"
-            );
-            let batch = Samples::from_seed(seed + 300).batch(alloc, 2, 3, 3)?;
-            assert!(rt; are_as_wide(&batch, rows.names().len()));
-            let outcome = rows.after(alloc, &batch)?;
-            assert!(rt; are_as_wide(&batch, log.names().len()));
-            if let (Applying::Applied { .. }, Ok(after)) = (log.apply(&batch), outcome) {
-                assert!(rt;
-                    tells_inclusions(alloc, &log, &after, &mut hints)?,
-                    "seed {seed}"
-                );
-            }
+            tells_before_and_after(&rt, rt.alloc(), seed, nulls)?;
         }
     }
     Ok(())
 }
 
-// Whether two logs have the same rows under the same codes.
-fn has_same_codes(alloc: Global, one: &RowLog, other: &RowLog) -> Result<bool, AllocError> {
-    let first = one.snapshot(alloc)?;
-    let second = other.snapshot(alloc)?;
+// Whether two snapshots have the same rows under the same codes.
+fn are_coded_alike(first: &Snapshot, second: &Snapshot) -> bool {
     if first.columns() != second.columns() || first.to() != second.to() {
-        return Ok(false);
+        return false;
     }
     for column in 0..first.columns() {
         if first.column(column).parts() != second.column(column).parts() {
-            return Ok(false);
+            return false;
         }
     }
-    Ok(true)
+    true
+}
+
+// Whether two logs do.
+fn has_same_codes(alloc: Global, one: &RowLog, other: &RowLog) -> Result<bool, AllocError> {
+    let first = one.snapshot(alloc)?;
+    let second = other.snapshot(alloc)?;
+    Ok(are_coded_alike(&first, &second))
+}
+
+// Whether so many workers code a drawn relation as it is coded in this log.
+fn is_coded_alike_by<R: Threads + Sync>(
+    rt: &R,
+    alloc: Global,
+    one: &RowLog,
+    seed: u64,
+    workers: u8,
+) -> Result<bool, Fail> {
+    let relation = drawn(alloc, seed)?;
+    let limits = Limits::standard();
+    let other = RowLog::open_by(rt, alloc, relation, limits, Nulls::Distinct, workers)?;
+    Ok(has_same_codes(alloc, one, &other)?)
 }
 
 #[test]
 fn columns_have_the_same_codes_however_many_workers_code_them(rt: HostRuntime) -> Result<(), Fail> {
     let alloc = rt.alloc();
     for seed in 0..4u64 {
-        let limits = Limits::standard();
-        let one = RowLog::open_with(alloc, drawn(alloc, seed)?, limits, Nulls::Distinct)?;
+        let relation = drawn(alloc, seed)?;
+        let one = RowLog::open_with(alloc, relation, Limits::standard(), Nulls::Distinct)?;
         for workers in [0u8, 1, 2, 3, 16] {
-            let relation = drawn(alloc, seed)?;
-            let other = RowLog::open_by(&rt, alloc, relation, limits, Nulls::Distinct, workers)?;
-            assert!(rt; has_same_codes(alloc, &one, &other)?, "{workers} workers");
+            assert!(rt;
+                is_coded_alike_by(&rt, alloc, &one, seed, workers)?,
+                "{workers} workers"
+            );
         }
     }
     Ok(())

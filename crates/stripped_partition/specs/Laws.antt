@@ -13,7 +13,8 @@ use Rattle.stripped_partition.specs.SplitBy.{least, split_by}
 
 -- In a row state that a snapshot shows, X determines a column exactly where adding the column to X leaves e as it is.
 abbrev pub ErrorsTell : Type 0
-ErrorsTell = (s : CodeTable) (r : RowState) → IsRowState r → Shows s r → (x : Columns) (a : ℕ) → (holds r x (Col a) ≡ true) ↔ (error_of (stripped s x) ≡ error_of (stripped s (with x a)))
+ErrorsTell = (s : CodeTable) (r : RowState) → IsRowState r → Shows s r → (x : Columns) (a : ℕ)
+    → (holds r x (Col a) ≡ true) ↔ (error_of (stripped s x) ≡ error_of (stripped s (with x a)))
 
 -- X is unique exactly where its stripped partition has no group.
 abbrev pub NoGroupsTell : Type 0

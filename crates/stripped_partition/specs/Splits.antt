@@ -28,9 +28,11 @@ pub record Places (row code : ℕ) (rows ends slots rows_after ends_after slots_
   pub outside : length slots ≤ code → (rows_after ≡ rows) × (ends_after ≡ ends) × (slots_after ≡ slots)
   pub alone : slice_index slots code < 2 → (rows_after ≡ rows) × (ends_after ≡ ends) × (slots_after ≡ slots)
   pub opened : code < length slots → 2 ≤ slice_index slots code → slice_index slots code < 2 ^ 31
-      → (rows_after ≡ rows ++ replicate (slice_index slots code) row) × (ends_after ≡ ends ++ (length rows + slice_index slots code) ∷ []) × (slots_after ≡ slice_set slots code (2 ^ 31 + length rows + 1))
+      → (rows_after ≡ rows ++ replicate (slice_index slots code) row) × (ends_after ≡ ends ++ (length rows + slice_index slots code) ∷ [])
+      × (slots_after ≡ slice_set slots code (2 ^ 31 + length rows + 1))
   pub filled : code < length slots → 2 ^ 31 ≤ slice_index slots code
-      → (rows_after ≡ slice_set rows (slice_index slots code - 2 ^ 31) row) × (ends_after ≡ ends) × (slots_after ≡ slice_set slots code (slice_index slots code + 1))
+      → (rows_after ≡ slice_set rows (slice_index slots code - 2 ^ 31) row) × (ends_after ≡ ends)
+      × (slots_after ≡ slice_set slots code (slice_index slots code + 1))
 
 -- the parts of a group of rows are added, where these are the rows' codes and only codes below a bound make parts
 pub record AddsParts (bound : ℕ) (rows codes : List ℕ) (before after : Groups) : Type 0 where

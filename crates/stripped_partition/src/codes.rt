@@ -1,4 +1,4 @@
-// Codes of rows.
+// The live rows of a snapshot, and what the codes of given rows in a column are.
 ghost use Rattle.std.specs.Prelude.{◌≡◌, ◌<◌, ◌≤◌, ◌==◌, ◌++◌, ℕ, nat_lt, length, vec_len, map, count_by, slice_index, slice_index_or, cond, option_map, find, replicate, IfOk, OnOk, ◌-◌, ◌^◌};
 ghost use Rattle.std.specs.List.{All, list_any};
 ghost use Rattle.std.specs.List.Sorted.{IsNonDecreasing};
@@ -53,8 +53,6 @@ pub(crate) fn write_codes(codes: &mut [u32], snapshot: &Snapshot, column: u8, ro
     requires column { column < length snapshot.now.codes }
     ensures { codes.new ≡ map (λ row. code_at snapshot.now row column) rows.now }
 {
-    // `to` is called for its clause on the lengths of the lists.
-    let _to = snapshot.to();
     let (shared, own) = snapshot.column(column).parts();
     gather(codes, shared, own, rows);
 }

@@ -1,4 +1,4 @@
-// Stripped partitions.
+// The groups of rows that agree on some columns, where groups of one row are left out.
 ghost use Rattle.std.specs.Prelude.{◌≡◌, ◌<◌, ◌≤◌, ◌↔◌, [], length, slice_index_or, replicate, vec_len, IfOk, OnOk, IsNone};
 ghost use Rattle.std.specs.List.{All};
 ghost use Rattle.col_set.specs.ColSet.{Columns, empty, with, union};

@@ -14,7 +14,7 @@ use Rattle.rel_base.specs.CodeTable.{CodeTable}
 use Rattle.stripped_partition.specs.AnyOrder.{AreGroupsBy}
 use Rattle.validator.specs.Kept.{IsKept, AreKept}
 use Rattle.validator.specs.Walk.{plus, IsClear}
-use Rattle.validator.specs.declared.shelf.Kept.{Kept}
+use Rattle.validator.specs.declared.cache.Kept.{Kept}
 use Rattle.validator.proofs.Refinements.{or_false, no_columns, union-moved, union-empty}
 
 -- the columns tried so far, and the place of a partition by some of them
@@ -122,14 +122,14 @@ module _ (s : CodeTable) (wanted : Kept → ℕ) (kept : List Kept) (slots : Lis
     }
 
 -- ---- partitions that are dropped
-pub record Settled (old kept : List Kept) : Type 0 where
+pub record StillKept (old kept : List Kept) : Type 0 where
   pub are : (s : CodeTable) → AreKept s old → AreKept s kept
 
-pub settled_none : (kept : List Kept) → Settled kept kept
-settled_none kept = record { are = λ s a. a }
+pub still_none : (kept : List Kept) → StillKept kept kept
+still_none kept = record { are = λ s a. a }
 
-pub settled_more : (old kept rest : List Kept) (k : ℕ) → Settled old kept → rest ≡ take k kept ++ drop (k + 1) kept → Settled old rest
-settled_more old kept rest k p e = record {
+pub still_more : (old kept rest : List Kept) (k : ℕ) → StillKept old kept → rest ≡ take k kept ++ drop (k + 1) kept → StillKept old rest
+still_more old kept rest k p e = record {
   are = λ s a. subst (AreKept s) (sym e) (All-append (IsKept s) (take k kept) (drop (k + 1) kept) (All-take (IsKept s) k kept (p.are s a)) (All-drop (IsKept s) (k + 1) kept (p.are s a)));
 }
 

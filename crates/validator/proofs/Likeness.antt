@@ -11,7 +11,7 @@ use Rattle.rel_base.specs.Shows.{holds_in_below}
 use Rattle.rel_base.proofs.Alike.{code_agree-alike, holds_in-alike, holds_in_below-alike}
 use Rattle.validator.specs.Asking.{IsAsked}
 use Rattle.validator.specs.Verdicts.{AreFound, IsViolation, IsFitting, new_rows}
-use Rattle.validator.specs.declared.shelf.Asked.{Asked}
+use Rattle.validator.specs.declared.cache.Asked.{Asked}
 
 module _ (s u : CodeTable) (alike : Alike s u) where
   violation-alike : (x : ℕ) (t : Target) (i j : ℕ) → IsViolation s x t i j → IsViolation u x t i j

@@ -23,9 +23,9 @@ use Rattle.stripped_partition.specs.Stripped.{agree_on}
 use Rattle.stripped_partition.proofs.Agreeing.{agree_same, agree_on-subset, subset-agree_on}
 use Rattle.stripped_partition.proofs.Dependencies.{held_from}
 use Rattle.stripped_partition.proofs.Live.{Climbs-live, live_within}
-use Rattle.validator.specs.declared.shelf.Asked.{Asked}
+use Rattle.validator.specs.declared.cache.Asked.{Asked}
 use Rattle.validator.specs.Asking.{IsAsked}
-use Rattle.validator.specs.Chains.{IsSettled, IsLastAlike, IsTold}
+use Rattle.validator.specs.Chains.{IsBridged, IsLastAlike, IsTold}
 use Rattle.validator.specs.Verdicts.{AreApart, AreFound, IsViolation, new_rows}
 use Rattle.validator.proofs.Targets.{target-column, target-row}
 
@@ -39,13 +39,13 @@ unequal : (i j : ℕ) → i < j → i ≢ j
 unequal i j l e = absurd (omega arith)
 
 module _ (s : CodeTable) (x : ℕ) (t : Target) (from : ℕ) (wide : IsColumnTarget (length s.codes) t) (below : HoldsInBelow from s x t)
-    (settled : (j : ℕ) → Listed j (live_numbers s) → from ≤ j → IsSettled s x t j) where
+    (bridged : (j : ℕ) → Listed j (live_numbers s) → from ≤ j → IsBridged s x t j) where
   told : (n i j : ℕ) → j < n → i < j → Listed i (live_numbers s) → Listed j (live_numbers s) → agree_on s x i j ≡ true → has_target (code_agree s i j) t ≡ true
   told zero i j l m h g e = absurd (omega arith)
   told (suc n) i j l m h g e = elim (cases_lt j from) as (λ _. has_target (code_agree s i j) t ≡ true) [
     | inl o ↦ below.each i j (Contains-listed i (live_numbers s) h) (Contains-listed j (live_numbers s) g) (omega arith) o (unequal i j m) (agree_on-subset s x i j e)
     | inr o ↦
-        let w = (settled j g o).each i h m e in
+        let w = (bridged j g o).each i h m e in
         let a = w.from in
         let b = w.before in
         elim (cases_eq i w.row) as (λ _. has_target (code_agree s i j) t ≡ true) [
@@ -107,7 +107,7 @@ module _ (s : CodeTable) (from number : ℕ) (rows : List ℕ) (p : Gathering s 
 pub record NewPairs (s : CodeTable) (x : ℕ) (t : Target) (rows : List ℕ) (n : ℕ) (pairs : List (ℕ × ℕ)) : Type 0 where
   pub each : All (λ p. IsViolation s x t p.0 p.1) pairs
   pub apart : AreApart s x pairs
-  pub settled : pairs ≡ [] → (j : ℕ) → Listed j (take n rows) → IsSettled s x t j
+  pub bridged : pairs ≡ [] → (j : ℕ) → Listed j (take n rows) → IsBridged s x t j
 
 pub record NewSeen (s : CodeTable) (x : ℕ) (t : Target) (most : ℕ) (rows : List ℕ) (n : ℕ) (pairs : List (ℕ × ℕ)) (steps start : ℕ) : Type 0 where
   pub found : NewPairs s x t rows n pairs
@@ -117,7 +117,7 @@ pub record NewSeen (s : CodeTable) (x : ℕ) (t : Target) (most : ℕ) (rows : L
 pub new_none : (s : CodeTable) (x : ℕ) (t : Target) (most : ℕ) (rows : List ℕ) (pairs : List (ℕ × ℕ)) (start : ℕ) → pairs ≡ [] → 0 < most → NewSeen s x t most rows 0 pairs start start
 new_none s x t most rows pairs start e l =
     let n = ap length e in record {
-      found = record { each = λ k d m. absurd (omega arith); apart = λ i j d m o. absurd (omega arith); settled = λ z j h. absurd h };
+      found = record { each = λ k d m. absurd (omega arith); apart = λ i j d m o. absurd (omega arith); bridged = λ z j h. absurd h };
       fewer = omega arith;
       few = omega arith;
     }
@@ -127,18 +127,18 @@ module _ (s : CodeTable) (x : ℕ) (t : Target) (rows : List ℕ) (n : ℕ) (row
   new_more pairs None p told_of = subst (NewPairs s x t rows (n + 1)) (sym (append-nil pairs)) (record {
     each = p.each;
     apart = p.apart;
-    settled = λ e j h. by e j (Listed-append_cases j (take n rows) (get_or rows n 0 ∷ []) (subst (Listed j) (take_more rows n 0 l) h));
+    bridged = λ e j h. by e j (Listed-append_cases j (take n rows) (get_or rows n 0 ∷ []) (subst (Listed j) (take_more rows n 0 l) h));
   })
     where
-      by : pairs ≡ [] → (j : ℕ) → Listed j (take n rows) ⊎ Listed j (get_or rows n 0 ∷ []) → IsSettled s x t j
-      by e j (inl h) = p.settled e j h
-      by e j (inr (inl q)) = subst (IsSettled s x t) (is ∙ sym q) (told_of e)
+      by : pairs ≡ [] → (j : ℕ) → Listed j (take n rows) ⊎ Listed j (get_or rows n 0 ∷ []) → IsBridged s x t j
+      by e j (inl h) = p.bridged e j h
+      by e j (inr (inl q)) = subst (IsBridged s x t) (is ∙ sym q) (told_of e)
       by e j (inr (inr h)) = absurd h
   new_more pairs (Some q) p told_of = record {
     each = All-push (λ p. IsViolation s x t p.0 p.1) pairs q p.each told_of.0;
     apart = all_pairs_push (λ p q. IsSubset x (code_agree s p.0 q.0) → ⊥) pairs q p.apart
         (λ k d m sub. true≢false (sym (subset-agree_on s x (get_or pairs k d).0 q.0 sub) ∙ told_of.1 k d m));
-    settled = λ e. absurd (let f = ap length e in let a = length-append pairs (q ∷ []) in omega arith);
+    bridged = λ e. absurd (let f = ap length e in let a = length-append pairs (q ∷ []) in omega arith);
   }
 
 module _ (s : CodeTable) (asked : Asked) (is : IsAsked s asked) (rows : List ℕ) (all : rows ≡ filter (leb asked.from) (live_numbers s)) where
@@ -156,16 +156,16 @@ module _ (s : CodeTable) (asked : Asked) (is : IsAsked s asked) (rows : List ℕ
     each = p.each;
     apart = p.apart;
     none = λ e. held_by_new s asked.left asked.target asked.from is.target (HoldsInBelow-tested s asked.from asked.left asked.target is.below)
-        (λ j h l. p.settled e j (subst (Listed j) (sym (take_all n rows (done e) ∙ all)) (Listed-filter (leb asked.from) j (live_numbers s) h (le-leb asked.from j l))));
+        (λ j h l. p.bridged e j (subst (Listed j) (sym (take_all n rows (done e) ∙ all)) (Listed-filter (leb asked.from) j (live_numbers s) h (le-leb asked.from j l))));
   }
 
 -- ---- one row
 module _ (s : CodeTable) (x : ℕ) (t : Target) (pairs : List (ℕ × ℕ)) (row : ℕ) where
-  pub settled_alone : ((i : ℕ) → Listed i (live_numbers s) → i < row → agree_on s x i row ≡ true → ⊥) → IsSettled s x t row
-  settled_alone none = record { each = λ i h l e. absurd (none i h l e) }
+  pub bridged_alone : ((i : ℕ) → Listed i (live_numbers s) → i < row → agree_on s x i row ≡ true → ⊥) → IsBridged s x t row
+  bridged_alone none = record { each = λ i h l e. absurd (none i h l e) }
 
-  pub settled_by : (p : ℕ) → IsLastAlike s x row p → has_target (code_agree s p row) t ≡ true → IsSettled s x t row
-  settled_by p w e = record { each = λ i h l f. record { row = p; live = w.live; from = w.last i h l f; before = w.before; agrees = w.agrees; target = e } }
+  pub bridged_by : (p : ℕ) → IsLastAlike s x row p → has_target (code_agree s p row) t ≡ true → IsBridged s x t row
+  bridged_by p w e = record { each = λ i h l f. record { row = p; live = w.live; from = w.last i h l f; before = w.before; agrees = w.agrees; target = e } }
 
   pub told_apart : (p : ℕ) → Listed row (live_numbers s) → IsLastAlike s x row p → has_target (code_agree s p row) t ≡ false → IsViolation s x t p row
   told_apart p h w e = record {

@@ -5,7 +5,7 @@ use Rattle.col_set.specs.Target.{IsColumnTarget}
 use Rattle.rel_base.specs.CodeTable.{CodeTable}
 use Rattle.rel_base.specs.Shows.{holds_in_below}
 use Rattle.validator.specs.Verdicts.{AreFound}
-use Rattle.validator.specs.declared.shelf.Asked.{Asked}
+use Rattle.validator.specs.declared.cache.Asked.{Asked}
 
 -- The left side and the target are columns of the snapshot, the dependency holds among the rows below `from`, and some pair is wanted.
 pub record IsAsked (s : CodeTable) (asked : Asked) : Type 0 where

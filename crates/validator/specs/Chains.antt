@@ -45,10 +45,10 @@ pub record IsBridge (s : CodeTable) (x : Columns) (t : Target) (i j : ℕ) : Typ
   pub target : has_target (code_agree s row j) t ≡ true
 
 -- each live row before j that agrees with it on x is at or before one that does and agrees with it on the target too
-pub record IsSettled (s : CodeTable) (x : Columns) (t : Target) (j : ℕ) : Type 0 where
+pub record IsBridged (s : CodeTable) (x : Columns) (t : Target) (j : ℕ) : Type 0 where
   pub each : (i : ℕ) → Listed i (live_numbers s) → i < j → agree_on s x i j ≡ true → IsBridge s x t i j
 
--- what is told of a row j, where these pairs are known: a pair of a further group, or where there is none that the row is settled
+-- what is told of a row j, where these pairs are known: a pair of a further group, or where there is none that the row is bridged
 abbrev pub IsTold : CodeTable → Columns → Target → List (ℕ × ℕ) → ℕ → Option (ℕ × ℕ) → Type 0
-IsTold s x t pairs j None = pairs ≡ [] → IsSettled s x t j
+IsTold s x t pairs j None = pairs ≡ [] → IsBridged s x t j
 IsTold s x t pairs j (Some pair) = IsViolation s x t pair.0 pair.1 × All (λ p. agree_on s x p.0 pair.0 ≡ false) pairs

@@ -5,8 +5,8 @@ use Rattle.col_set.specs.ColSet.{Columns, has, with, empty}
 use Rattle.rel_base.specs.CodeTable.{CodeTable}
 use Rattle.stripped_partition.specs.Stripped.{stripped, error_of}
 use Rattle.stripped_partition.specs.AnyOrder.{AreGroupsBy}
-use Rattle.validator.specs.declared.shelf.TheConstants.{UNKNOWN}
-use Rattle.validator.specs.declared.shelf.Kept.{Kept}
+use Rattle.validator.specs.declared.cache.TheConstants.{UNKNOWN}
+use Rattle.validator.specs.declared.cache.Kept.{Kept}
 
 -- its groups are those by its columns, in any order
 unfoldable pub IsKept : CodeTable → Kept → Type 0

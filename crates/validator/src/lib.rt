@@ -1,6 +1,7 @@
 //! Verdicts on dependencies that are known to hold among older rows: each newer row is compared at most once.
 #![tactic(auto)]
 
+mod cache;
 mod chain;
 mod judge;
 mod links;
@@ -9,7 +10,6 @@ mod newer;
 mod old_groups;
 mod order;
 mod refined;
-mod shelf;
 mod store;
 mod stores;
 #[cfg(test)]

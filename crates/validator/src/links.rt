@@ -7,9 +7,9 @@ ghost use Rattle.validator.specs.Links.{IsLink, AreLinks, linked_of};
 ghost use Rattle.validator.specs.Verdicts.{AreFound, new_rows};
 ghost use Rattle.validator.specs.declared.links.Link.{Link};
 
+use crate::cache::Asked;
 use crate::chain::{Chain, begin_alike};
 use crate::newer;
-use crate::shelf::Asked;
 use rel_base::{RowNo, Snapshot, Steps};
 use std::alloc::{AllocError, Global};
 use std::sync::Arc;
@@ -29,8 +29,6 @@ impl Link {
         ensures link { IfOk result (IsLink snapshot.now) }
         ensures column { IfOk result (λ link. link.column ≡ column) }
     {
-        // `to` is called for its clause on the lengths of the lists.
-        let _to = snapshot.to();
         let chain = Chain::new(alloc).extended(snapshot.column(column))?;
         Ok(Link { chain, column })
     }
@@ -42,7 +40,6 @@ impl Link {
         ensures { IfSome result (IsLink snapshot.now) }
     {
         let Link { chain, column } = self;
-        let _to = snapshot.to();
         if column >= snapshot.columns() {
             return None;
         }

@@ -11,9 +11,9 @@ ghost use Rattle.validator.specs.Chains.{IsChain, IsTold};
 ghost use Rattle.validator.specs.Lists.{AreTargets};
 ghost use Rattle.validator.specs.Verdicts.{AreFound, IsViolation, new_rows};
 
+use crate::cache::Asked;
 use crate::chain::{Chain, agrees, partner};
 use crate::lists::{self, CodeList};
-use crate::shelf::Asked;
 use crate::walk::{add, differ};
 use col_set::ColSet;
 use rel_base::{RowNo, Snapshot, Steps};

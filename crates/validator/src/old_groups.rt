@@ -1,5 +1,5 @@
 // What a store needs no more.
-use crate::shelf::{Kept, Places, Shelf};
+use crate::cache::{Cache, Kept, Places};
 use rel_base::Snapshot;
 use std::marker::Model;
 use std::sync::Arc;
@@ -10,7 +10,7 @@ use std::sync::Arc;
 /// another snapshot can do that when nobody waits. Contracts see nothing of them.
 #[derive(Drop)]
 pub struct OldGroups {
-    // Not the whole shelf: its weights take a thousand bytes, and this goes from hand to hand.
+    // Not the whole cache: its weights take a thousand bytes, and this goes from hand to hand.
     kept: Vec<Kept>,
     places: Places,
     snapshot: Option<Arc<Snapshot>>,
@@ -25,8 +25,8 @@ impl Model for OldGroups {
 }
 
 impl OldGroups {
-    pub(crate) fn of(shelf: Shelf, snapshot: Option<Arc<Snapshot>>) -> OldGroups {
-        let Shelf { kept, places, .. } = shelf;
+    pub(crate) fn of(cache: Cache, snapshot: Option<Arc<Snapshot>>) -> OldGroups {
+        let Cache { kept, places, .. } = cache;
         OldGroups {
             kept,
             places,

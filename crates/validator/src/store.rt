@@ -9,9 +9,9 @@ ghost use Rattle.validator.specs.Asking.{IsAsked, IsAnswer};
 ghost use Rattle.validator.specs.Verdicts.{AreApart, AreFound, IsFitting, IsVerdict, new_rows};
 ghost use Rattle.validator.specs.declared.verdict.Verdict.TheVariants.{Holds, Broken};
 
+use crate::cache::{Asked, Cache, lightest, no_weights};
 use crate::links::{self, Link};
 use crate::old_groups::OldGroups;
-use crate::shelf::{Asked, Shelf, lightest, no_weights};
 use crate::{Verdict, judge};
 use rel_base::{COLUMN_PLACES, Job, RowNo, Snapshot, Steps};
 use std::alloc::{AllocError, Global};
@@ -52,7 +52,7 @@ const FEW_ROWS: u32 = 1000;
 #[derive(Drop)]
 pub struct Store {
     snapshot: Arc<Snapshot>,
-    shelf: Shelf,
+    cache: Cache,
     slots: Vec<u32>,
     scratch: Scratch,
     links: Vec<Link>,
@@ -71,7 +71,7 @@ impl Model for Store {
 
     ghost view = { λ s. s.snapshot.value };
 
-    ghost invariant = { λ s. AreKept s.snapshot.value s.shelf.kept.items × AreWeights s.snapshot.value s.shelf.weights × IsClear s.slots.items × AreLinks (linked_of (λ earlier. earlier.value) s.snapshot.value s.earlier) s.links.items };
+    ghost invariant = { λ s. AreKept s.snapshot.value s.cache.kept.items × AreWeights s.snapshot.value s.cache.weights × IsClear s.slots.items × AreLinks (linked_of (λ earlier. earlier.value) s.snapshot.value s.earlier) s.links.items };
 }
 
 impl Store {
@@ -82,7 +82,7 @@ impl Store {
         let rows = snapshot.to().number() as usize;
         Store {
             snapshot,
-            shelf: Shelf::of(alloc, rows, room, no_weights()),
+            cache: Cache::of(alloc, rows, room, no_weights()),
             slots: Vec::new(alloc),
             scratch: Scratch::new(alloc),
             links: Vec::new(alloc),
@@ -99,10 +99,10 @@ impl Store {
     {
         let snapshot = self.snapshot.clone()?;
         let rows = snapshot.to().number() as usize;
-        let shelf = self.shelf.beside(alloc, rows, room)?;
+        let cache = self.cache.beside(alloc, rows, room)?;
         Ok(Store {
             snapshot,
-            shelf,
+            cache,
             slots: Vec::new(alloc),
             scratch: Scratch::new(alloc),
             links: Vec::new(alloc),
@@ -116,14 +116,14 @@ impl Store {
         requires { other.now ≡ self.old }
         ensures { self.new ≡ self.old }
     {
-        self.shelf.take_over(&other.shelf)
+        self.cache.take_over(&other.cache)
     }
 
     // All that is kept for good was handed to the other stores.
     pub(crate) fn end_levelling(&mut self)
         ensures { self.new ≡ self.old }
     {
-        self.shelf.end_levelling();
+        self.cache.end_levelling();
     }
 
     /// Goes over to another snapshot, mostly a later one of the same relation. It takes no memory, and some steps a column. What it
@@ -136,12 +136,12 @@ impl Store {
         ensures { self.new ≡ snapshot.value }
     {
         let rows = snapshot.to().number() as usize;
-        let order = self.shelf.order;
-        let shelf = mem::replace(&mut self.shelf, Shelf::of(alloc, rows, self.room, order));
+        let order = self.cache.order;
+        let cache = mem::replace(&mut self.cache, Cache::of(alloc, rows, self.room, order));
         let last = mem::replace(&mut self.snapshot, snapshot);
         let (earlier, unneeded) = links::kept_earlier(self.earlier.take(), last);
         self.earlier = Some(earlier);
-        OldGroups::of(shelf, unneeded)
+        OldGroups::of(cache, unneeded)
     }
 
     /// Validates a job as `validate` does, with the same answer to whether the dependency holds, on the store's snapshot: one of the
@@ -220,7 +220,7 @@ impl Store {
         ensures weights { IfOk result (λ weights. (column : ℕ) → column < length self.old.codes → slice_index weights column ≡ error_of (stripped self.old (with empty column))) }
         ensures store { self.new ≡ self.old }
     {
-        self.shelf.weights(alloc, &self.snapshot)
+        self.cache.weights(alloc, &self.snapshot)
     }
 
     /// The weights as `weights` tells them. The partitions that it makes are made by so many threads at most, sixteen of them beside
@@ -234,7 +234,7 @@ impl Store {
         ensures weights { IfOk result (λ weights. (column : ℕ) → column < length self.old.codes → slice_index weights column ≡ error_of (stripped self.old (with empty column))) }
         ensures store { self.new ≡ self.old }
     {
-        self.shelf.weigh_by(rt, alloc, &self.snapshot, workers)?;
+        self.cache.weigh_by(rt, alloc, &self.snapshot, workers)?;
         self.weights(alloc)
     }
 
@@ -244,14 +244,14 @@ impl Store {
         ensures { IfSome result (λ column. has asked.now.left column ≡ true) }
     {
         let first = asked.left.first()?;
-        let column = lightest(asked.left, first, &self.shelf.order);
+        let column = lightest(asked.left, first, &self.cache.order);
         let rows = self.snapshot.live_count();
         let new = self
             .snapshot
             .to()
             .number()
             .saturating_sub(asked.from.number());
-        let values = rows.saturating_sub(self.shelf.order[column as usize]);
+        let values = rows.saturating_sub(self.cache.order[column as usize]);
         let are_few = rows <= FEW_ROWS || (new <= rows / 8 && new <= values / 2);
         if asked.from.number() > 1 && are_few {
             Some(column)
@@ -293,9 +293,9 @@ impl Store {
         ensures steps { steps.new ≤ steps.old + new_rows self.old asked.now.from }
         ensures store { self.new ≡ self.old }
     {
-        let shelf = &mut self.shelf;
+        let cache = &mut self.cache;
         let (slots, scratch) = (&mut self.slots, &mut self.scratch);
-        let found = shelf.search(alloc, &self.snapshot, asked, slots, scratch, steps);
+        let found = cache.search(alloc, &self.snapshot, asked, slots, scratch, steps);
         if found.is_err() {
             self.slots = Vec::new(alloc);
         }

@@ -17,6 +17,7 @@ use std::marker::Brand;
 use std::process::Abort;
 use std::sync::ledger::{Blank, Ledger};
 use std::test::Fail;
+use std::thread::Threads;
 
 // Whether the target is a column of the first n, or which row it is.
 fn is_target(target: Target, columns: u8) -> bool
@@ -230,34 +231,104 @@ fn is_determined_by_each(
     Ok(wanted)
 }
 
+// Whether so many threads find the weights.
+fn are_weighed<R: Threads + Sync>(
+    alloc: Global,
+    rt: &R,
+    sample: &Sample,
+    store: &mut Store,
+    workers: u8,
+) -> Result<bool, AllocError> {
+    let weights = store.weights_by(rt, alloc, workers)?;
+    Ok(sample.weighs(&weights))
+}
+
+// So many threads weigh the columns, and find the weights again in what they kept.
+fn weigh_twice<R: Threads + Sync + Abort>(
+    alloc: Global,
+    rt: &R,
+    sample: &Sample,
+    workers: u8,
+) -> Result<(), AllocError> {
+    let mut store = Store::of(alloc, sample.snapshot.clone()?, 1000);
+    assert!(rt; are_weighed(alloc, rt, sample, &mut store, workers)?);
+    assert!(rt; are_weighed(alloc, rt, sample, &mut store, workers)?);
+    Ok(())
+}
+
 #[test]
 fn weights_are_found_by_several_threads(rt: HostRuntime) -> Result<(), Fail> {
-    let alloc = rt.alloc();
-    let sample = drawn(alloc, &rt, &mut Samples::from_seed(1969))?;
+    let sample = drawn(rt.alloc(), &rt, &mut Samples::from_seed(1969))?;
     for workers in 0..3 {
-        let mut store = Store::of(alloc, sample.snapshot.clone()?, 1000);
-        assert!(rt; sample.weighs(&store.weights_by(&rt, alloc, workers)?));
-        assert!(rt; sample.weighs(&store.weights_by(&rt, alloc, workers)?));
+        weigh_twice(rt.alloc(), &rt, &sample, workers)?;
     }
+    Ok(())
+}
+
+// Makes two further stores, which tell the same as the own one.
+fn spread_and_compare(
+    alloc: Global,
+    rt: &impl Abort,
+    sample: &Sample,
+    stores: &mut Stores,
+    wanted: bool,
+) -> Result<(), AllocError>
+    requires { AreOf sample.now.snapshot.value stores.old }
+    ensures { AreOf sample.now.snapshot.value stores.new }
+{
+    stores.spread(alloc, 3)?;
+    assert!(rt; stores.others.len() == 2);
+    let found = is_determined_by_each(alloc, rt, sample, stores)?;
+    assert!(rt; found == wanted);
+    Ok(())
+}
+
+// Whether three of four places have a store.
+fn are_three_of_four(lent: &[Option<Store>]) -> bool {
+    lent.len() == 4 && lent[2].is_some() && lent[3].is_none()
+}
+
+// Lends all stores to four places, and takes them back.
+fn lend_and_take_back(
+    alloc: Global,
+    rt: &impl Abort,
+    sample: &Sample,
+    stores: &mut Stores,
+) -> Result<(), AllocError>
+    requires { AreOf sample.now.snapshot.value stores.old }
+    ensures { AreOf sample.now.snapshot.value stores.new }
+{
+    let lent = stores.lend(alloc, &sample.snapshot, 4)?;
+    assert!(rt; are_three_of_four(lent.as_slice()));
+    assert!(rt; stores.others.is_empty());
+    stores.take_back(alloc, &sample.snapshot, lent)?;
+    assert!(rt; stores.others.len() == 2);
+    Ok(())
+}
+
+// Compares what the own store tells before and after there were others, which are lent and taken back.
+fn lend_and_compare(
+    alloc: Global,
+    rt: &impl Abort,
+    sample: &Sample,
+    stores: &mut Stores,
+) -> Result<(), AllocError>
+    requires { AreOf sample.now.snapshot.value stores.old }
+{
+    let wanted = is_determined(alloc, rt, sample, &mut stores.own)?;
+    spread_and_compare(alloc, rt, sample, stores, wanted)?;
+    lend_and_take_back(alloc, rt, sample, stores)?;
+    let found = is_determined(alloc, rt, sample, &mut stores.own)?;
+    assert!(rt; found == wanted);
     Ok(())
 }
 
 #[test]
 fn stores_of_one_snapshot_are_lent_and_taken_back(rt: HostRuntime) -> Result<(), Fail> {
-    let alloc = rt.alloc();
-    let sample = drawn(alloc, &rt, &mut Samples::from_seed(2019))?;
-    let mut stores = Stores::of(alloc, &sample.snapshot)?;
-    let wanted = is_determined(alloc, &rt, &sample, &mut stores.own)?;
-    stores.spread(alloc, 3)?;
-    assert!(rt; stores.others.len() == 2);
-    assert!(rt; is_determined_by_each(alloc, &rt, &sample, &mut stores)? == wanted);
-    let lent = stores.lend(alloc, &sample.snapshot, 4)?;
-    assert!(rt; lent.len() == 4 && lent[2].is_some() && lent[3].is_none());
-    assert!(rt; stores.others.is_empty());
-    stores.take_back(alloc, &sample.snapshot, lent)?;
-    assert!(rt; stores.others.len() == 2);
-    assert!(rt; is_determined(alloc, &rt, &sample, &mut stores.own)? == wanted);
-    let _old = stores.renew(alloc, sample.snapshot.clone()?);
+    let sample = drawn(rt.alloc(), &rt, &mut Samples::from_seed(2019))?;
+    let mut stores = Stores::of(rt.alloc(), &sample.snapshot)?;
+    lend_and_compare(rt.alloc(), &rt, &sample, &mut stores)?;
+    let _old = stores.renew(rt.alloc(), sample.snapshot.clone()?);
     assert!(rt; stores.others.is_empty());
     Ok(())
 }

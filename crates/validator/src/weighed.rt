@@ -3,7 +3,7 @@ ghost use Rattle.std.specs.Prelude.{◌≡◌, ◌<◌, ◌≤◌, IfOk};
 ghost use Rattle.std.specs.List.{All};
 ghost use Rattle.validator.specs.Weighed.{IsColumn, IsWeighed};
 
-use crate::shelf::{Kept, UNKNOWN};
+use crate::cache::{Kept, UNKNOWN};
 use col_set::ColSet;
 use rayon::prelude::*;
 use rel_base::{COLUMN_PLACES, MOST_COLUMNS, Snapshot};

@@ -1,8 +1,8 @@
 // The covers of relations that are drawn, before and after batches, against the plain programs.
-use super::{apply, finish};
+use super::{apply, finish, relation_with};
 use crate::waiting::worth_comparing;
 use crate::{Applying, Book, Settling};
-use plain_base::{PlainRows, Samples, are_as_wide, relation_of};
+use plain_base::{PlainRows, Samples, are_as_wide};
 use rel_base::{Batch, Covers, Limits, Nulls, Op, Relation};
 use std::alloc::{AllocError, Global};
 use std::process::Abort;
@@ -26,9 +26,8 @@ fn wide_relation(
 ) -> Result<Relation, AllocError> {
     let mut samples = Samples::from_seed(seed);
     let names = samples.row(alloc, columns)?;
-    let relation = relation_of(names, samples.rows(alloc, rows, columns)?);
-    assert!(rt; relation.is_some());
-    Ok(relation.unwrap())
+    let rows = samples.rows(alloc, rows, columns)?;
+    Ok(relation_with(rt, names, rows))
 }
 
 pub(super) fn are_same(found: &Covers, wanted: &Covers) -> bool {
@@ -130,34 +129,49 @@ const MANY_COLUMNS: usize = 9;
 
 const MANY_ROWS: usize = 10;
 
-// Inserts a row into both, and tells whether it is worth comparing with all rows.
-fn insert_drawn(
+// The batch that inserts a row.
+fn insertion(alloc: Global, seed: u64) -> Result<Batch, AllocError> {
+    let row = Samples::from_seed(seed).row(alloc, MANY_COLUMNS)?;
+    Ok(Batch::of(vec![in alloc; Op::Insert(row)]?))
+}
+
+// Whether the rows that came are worth comparing with all rows.
+fn is_worth_comparing(alloc: Global, book: &Book) -> Result<bool, AllocError> {
+    let from = worth_comparing(alloc, book.candidates(), book.rows().next())?;
+    Ok(from.is_some())
+}
+
+// Compares the covers of a book with those of the same rows, before and after a row is inserted into both.
+fn insert_and_compare(
     rt: &impl Abort,
     alloc: Global,
+    seed: u64,
     book: &mut Book,
     rows: &mut PlainRows,
-    samples: &mut Samples,
-) -> Result<bool, AllocError> {
-    let row = samples.row(alloc, MANY_COLUMNS)?;
-    let batch = Batch::of(vec![in alloc; Op::Insert(row)]?);
+) -> Result<(), AllocError> {
+    compare(rt, alloc, book, rows)?;
+    let batch = insertion(alloc, seed.wrapping_add(100))?;
     change(rt, alloc, book, rows, &batch)?;
-    let next = book.rows().next();
-    Ok(worth_comparing(alloc, book.candidates(), next)?.is_some())
+    assert!(rt; is_worth_comparing(alloc, book)?, "seed {seed}");
+    compare(rt, alloc, book, rows)
+}
+
+fn many_candidates(rt: &impl Abort, alloc: Global, seed: u64) -> Result<Relation, AllocError> {
+    wide_relation(rt, alloc, seed, MANY_ROWS, MANY_COLUMNS)
+}
+
+fn open_and_insert(rt: &impl Abort, alloc: Global, seed: u64) -> Result<(), AllocError> {
+    let limits = Limits::standard();
+    let mut book = Book::open(alloc, many_candidates(rt, alloc, seed)?, limits)?;
+    let again = many_candidates(rt, alloc, seed)?;
+    let mut rows = PlainRows::opened(alloc, Nulls::Equal, limits, again)?;
+    insert_and_compare(rt, alloc, seed, &mut book, &mut rows)
 }
 
 #[test]
 fn few_new_rows_are_compared_with_all(rt: HostRuntime) -> Result<(), Fail> {
-    let (alloc, limits) = (rt.alloc(), Limits::standard());
     for seed in 21..23 {
-        let read = wide_relation(&rt, alloc, seed, MANY_ROWS, MANY_COLUMNS)?;
-        let again = wide_relation(&rt, alloc, seed, MANY_ROWS, MANY_COLUMNS)?;
-        let mut book = Book::open(alloc, read, limits)?;
-        let mut rows = PlainRows::opened(alloc, Nulls::Equal, limits, again)?;
-        let mut samples = Samples::from_seed(seed + 100);
-        compare(&rt, alloc, &mut book, &rows)?;
-        let is_worth_it = insert_drawn(&rt, alloc, &mut book, &mut rows, &mut samples)?;
-        assert!(&rt; is_worth_it, "seed {seed}");
-        compare(&rt, alloc, &mut book, &rows)?;
+        open_and_insert(&rt, rt.alloc(), seed)?;
     }
     Ok(())
 }

@@ -1,9 +1,11 @@
 // What a book seeks, and what it leaves to be drawn.
+use super::covers::are_same;
 use super::{drawn, finish, letters};
 use crate::{Book, Known};
 use ports::OpenGate;
-use rel_base::{ColSet, Job, Target};
-use std::alloc::AllocError;
+use rel_base::{ColSet, Covers, Job, Target};
+use std::alloc::{AllocError, Global};
+use std::process::Abort;
 use std::test::Fail;
 use std::thread::Threads;
 
@@ -23,18 +25,38 @@ fn answers(known: &Known, job: &Job) -> bool {
     }
 }
 
+// Whether the job is not of the empty set, and all its rows are new.
+fn is_of_all_rows(job: &Job) -> bool {
+    job.left() != ColSet::empty() && job.from().number() == 1
+}
+
+// Compares what is known with the first job that is drawn.
+fn compare_with_drawn(rt: &impl Abort, book: &mut Book, known: &Known) -> Result<(), Fail> {
+    let job = drawn(book)?.ok_or("no job")?;
+    assert!(rt; is_of_all_rows(&job));
+    assert!(rt; answers(known, &job));
+    Ok(())
+}
+
+fn seek_and_compare<R: Threads + Sync + Abort>(rt: &R, book: &mut Book) -> Result<(), Fail> {
+    let known = seek(rt, book)?;
+    assert!(rt; !book.settled());
+    compare_with_drawn(rt, book, &known)
+}
+
+// The covers that a book finds which has sought nothing.
+fn wanted(rt: &impl Abort, alloc: Global) -> Result<Covers, AllocError> {
+    let mut book = letters(rt, alloc)?;
+    finish(&mut book)
+}
+
 // It answers the job of a key, and each candidate is left to be drawn.
 #[test]
 fn what_was_sought_is_told_and_left_to_be_drawn(rt: HostRuntime) -> Result<(), Fail> {
-    let alloc = rt.alloc();
-    let found = finish(&mut letters(&rt, alloc)?)?;
-    let mut book = letters(&rt, alloc)?;
-    let known = seek(&rt, &mut book)?;
-    assert!(rt; !book.settled());
-    let job = drawn(&mut book)?.ok_or("no job")?;
-    assert!(rt; job.left() != ColSet::empty() && job.from().number() == 1);
-    assert!(rt; answers(&known, &job));
-    let again = finish(&mut book)?;
-    assert!(rt; again.keys() == found.keys() && again.fds() == found.fds());
+    let wanted = wanted(&rt, rt.alloc())?;
+    let mut book = letters(&rt, rt.alloc())?;
+    seek_and_compare(&rt, &mut book)?;
+    let found = finish(&mut book)?;
+    assert!(rt; are_same(&found, &wanted));
     Ok(())
 }

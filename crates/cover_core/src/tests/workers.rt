@@ -4,7 +4,7 @@ use super::{finish, refute};
 use crate::listed::listed;
 use crate::{Book, Known};
 use ports::OpenGate;
-use rel_base::Limits;
+use rel_base::{Covers, Limits};
 use std::alloc::{AllocError, Global};
 use std::process::Abort;
 use std::test::Fail;
@@ -26,18 +26,62 @@ fn book(rt: &impl Abort, alloc: Global, seed: u64) -> Result<Book, AllocError> {
     Book::open(alloc, relation(rt, alloc, seed)?, Limits::standard())
 }
 
-// The book that has one witness goes over its candidates by size, and compares no pairs of rows beforehand. What is left to be drawn
-// are the covers.
+// Whether what is left to be drawn are these covers, before it is drawn.
+fn are_left(alloc: Global, book: &Book, wanted: &Covers) -> Result<bool, AllocError> {
+    let found = listed(alloc, book.candidates())?;
+    Ok(are_same(&found, wanted))
+}
+
+// The book that has one witness goes over its candidates by size, and compares no pairs of rows beforehand.
+fn seek_and_compare<R: Threads + Sync + Abort>(
+    rt: &R,
+    alloc: Global,
+    book: &mut Book,
+    workers: u8,
+    wanted: &Covers,
+) -> Result<(), AllocError> {
+    refute(rt, book, 1, 2)?;
+    seek_beside(rt, book, workers)?;
+    assert!(rt; are_left(alloc, book, wanted)?);
+    Ok(())
+}
+
+// Lends the stores of so many workers, takes them back, and finishes.
+fn lend_and_finish(
+    rt: &impl Abort,
+    book: &mut Book,
+    workers: u8,
+    wanted: &Covers,
+) -> Result<(), AllocError> {
+    let lent = book.lend(workers as usize)?;
+    book.take_back(lent);
+    let found = finish(book)?;
+    assert!(rt; are_same(&found, wanted));
+    Ok(())
+}
+
+fn compare_by<R: Threads + Sync + Abort>(
+    rt: &R,
+    alloc: Global,
+    seed: u64,
+    workers: u8,
+    wanted: &Covers,
+) -> Result<(), AllocError> {
+    let mut other = book(rt, alloc, seed)?;
+    seek_and_compare(rt, alloc, &mut other, workers, wanted)?;
+    lend_and_finish(rt, &mut other, workers, wanted)
+}
+
+// The covers that one thread finds.
+fn covers(rt: &impl Abort, alloc: Global, seed: u64) -> Result<Covers, AllocError> {
+    let mut one = book(rt, alloc, seed)?;
+    finish(&mut one)
+}
+
 fn compare<R: Threads + Sync + Abort>(rt: &R, alloc: Global, seed: u64) -> Result<(), AllocError> {
-    let wanted = finish(&mut book(rt, alloc, seed)?)?;
+    let wanted = covers(rt, alloc, seed)?;
     for workers in [1u8, 2, 3, 16] {
-        let mut other = book(rt, alloc, seed)?;
-        refute(rt, &mut other, 1, 2)?;
-        seek_beside(rt, &mut other, workers)?;
-        assert!(rt; are_same(&listed(alloc, other.candidates())?, &wanted));
-        let lent = other.lend(workers as usize)?;
-        other.take_back(lent);
-        assert!(rt; are_same(&finish(&mut other)?, &wanted));
+        compare_by(rt, alloc, seed, workers, &wanted)?;
     }
     Ok(())
 }

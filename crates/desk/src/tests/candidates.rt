@@ -76,18 +76,41 @@ pub fn candidates_of(
     let free = drawn(alloc, &mut book)?;
     let listed = listed_in(rt, alloc, &mut book, &snapshot)?;
     let unfinished = drawn(alloc, &mut book)?;
+    marked(
+        alloc,
+        listed.as_slice(),
+        next,
+        free.as_slice(),
+        unfinished.as_slice(),
+    )
+}
+
+// The marks of each that is listed.
+fn marked(
+    alloc: Global,
+    listed: &[(Target, ColSet)],
+    next: u32,
+    free: &[Job],
+    unfinished: &[Job],
+) -> Result<Vec<Found>, AllocError> {
     let mut found = Vec::new(alloc);
-    for (target, left) in listed.as_slice() {
-        let unheld = among(free.as_slice(), *target, *left).is_some();
-        let job = among(unfinished.as_slice(), *target, *left);
-        found.push(Found {
-            target: *target,
-            left: *left,
-            upto: job.map_or(next, |job| job.from().number()),
-            held: job.is_some() && !unheld,
-        })?;
+    for (target, left) in listed {
+        found.push(found_of(*target, *left, next, free, unfinished))?;
     }
     Ok(found)
+}
+
+// The marks of a candidate. A job is among the free ones unless its candidate is held, and among
+// the unfinished ones unless its candidate is known to hold in all rows.
+fn found_of(target: Target, left: ColSet, next: u32, free: &[Job], unfinished: &[Job]) -> Found {
+    let unheld = among(free, target, left).is_some();
+    let job = among(unfinished, target, left);
+    Found {
+        target,
+        left,
+        upto: job.map_or(next, |job| job.from().number()),
+        held: job.is_some() && !unheld,
+    }
 }
 
 // What is listed. Nothing is held afterwards.

@@ -8,10 +8,11 @@ ghost use Rattle.desk.specs.Desks.{opened_book, IsAt, WasDrawn};
 
 use super::{deletion, opened};
 use crate::{Desk, FeederPass, NoMemory, WorkerPass};
-use cover_core::{Applying, Draw, Release};
+use cover_core::{Applying, Book, Draw, Release};
 use plain_base::are_as_wide;
 use rel_base::{Batch, Job, Snapshot};
-use std::alloc::AllocError;
+use std::alloc::{AllocError, Global};
+use std::process::Abort;
 use std::sync::{Arc, Wait};
 use std::test::Fail;
 use std::thread::{Threads, join};
@@ -95,26 +96,75 @@ fn both<R: Threads + Wait + Sync>(
     }
 }
 
+// A job that the worker draws.
+fn drawn<R: Wait>(rt: &R, desk: &Desk, worker: &mut WorkerPass) -> Result<Job, AllocError>
+    requires { IsAt desk.now worker.old.pass }
+    ensures own { IsAt desk.now worker.new.pass }
+    ensures drawn { IfOk result (WasDrawn desk.now worker.new.pass) }
+{
+    match desk.draw(rt, worker)? {
+        Draw::Job(job) => Ok(job),
+        _ => Err(AllocError),
+    }
+}
+
+// Deletes a row while the worker gives a job back that it drew.
+fn meet<R: Threads + Wait + Sync + Abort>(
+    rt: &R,
+    alloc: Global,
+    desk: &Desk,
+    feeder: FeederPass,
+    mut worker: WorkerPass,
+) -> Result<Met, AllocError>
+    requires own { IsAt desk.now feeder.pass × IsAt desk.now worker.pass }
+    requires wide { width (opened_book desk.now).rows ≡ 2 }
+    ensures { IfOk result (λ met. IsAt desk.now met.feeder.pass × IsAt desk.now met.worker.pass) }
+{
+    let batch = deletion(rt, alloc, 2)?;
+    assert!(rt; are_as_wide(&batch, 2));
+    let job = drawn(rt, desk, &mut worker)?;
+    let snapshot = job.shared().clone()?;
+    Ok(both(rt, desk, feeder, worker, batch, job, snapshot))
+}
+
+// Whether the snapshot that was passed on has all rows, and the job was given back.
+fn is_answered(met: &Met) -> bool {
+    met.snapshot.live_count() == 3 && met.release == Release::Released
+}
+
+// How many rows are left.
+fn left_of(met: &Met) -> u32 {
+    if met.applied.is_ok() { 2 } else { 3 }
+}
+
+// The book of a desk, where its two passes are joined.
+fn joined<R: Wait>(rt: &R, desk: Desk, mut feeder: FeederPass, worker: WorkerPass) -> Book
+    requires { IsAt desk feeder.pass × IsAt desk worker.pass }
+{
+    desk.join(&mut feeder, worker);
+    desk.close(rt, feeder)
+}
+
 // A missing proof that a type of the calls may move to another thread shows at a `join`.
 #[test]
 fn passes_jobs_and_batches_move_among_threads(rt: HostRuntime) -> Result<(), Fail> {
-    let alloc = rt.alloc();
-    let (desk, mut feeder) = opened(&rt, alloc, 2)?;
-    let mut worker = desk.hire(&mut feeder, 1);
-    let batch = deletion(&rt, alloc, 2)?;
-    assert!(rt; are_as_wide(&batch, 2));
-    let Draw::Job(job) = desk.draw(&rt, &mut worker)? else {
-        return Err(Fail::from(AllocError));
-    };
-    let snapshot = job.shared().clone()?;
-    let met = both(&rt, &desk, feeder, worker, batch, job, snapshot);
-    assert!(rt; met.snapshot.live_count() == 3 && met.release == Release::Released);
-    let (mut feeder, worker) = (met.feeder, met.worker);
-    desk.join(&mut feeder, worker);
-    let book = desk.close(&rt, feeder);
-    let left = if met.applied.is_ok() { 2 } else { 3 };
+    let (desk, mut feeder) = opened(&rt, rt.alloc(), 2)?;
+    let worker = desk.hire(&mut feeder, 1);
+    let met = meet(&rt, rt.alloc(), &desk, feeder, worker)?;
+    assert!(rt; is_answered(&met));
+    let left = left_of(&met);
+    let book = joined(&rt, desk, met.feeder, met.worker);
     assert!(rt; book.rows().live_len() == left);
     Ok(())
+}
+
+// Whether a draw answers a job.
+fn draws<R: Wait>(rt: &R, desk: &Desk, worker: &mut WorkerPass) -> Result<bool, AllocError>
+    requires { IsAt desk.now worker.old.pass }
+    ensures { IsAt desk.now worker.new.pass }
+{
+    let draw = desk.draw(rt, worker)?;
+    Ok(matches!(draw, Draw::Job(_)))
 }
 
 #[test]
@@ -122,12 +172,10 @@ fn a_split_pass_bears_its_own_number(rt: HostRuntime) -> Result<(), Fail> {
     let (desk, mut feeder) = opened(&rt, rt.alloc(), 4)?;
     let mut worker = desk.hire(&mut feeder, 2);
     let mut other = desk.split(&mut worker, 3);
-    let first = desk.draw(&rt, &mut worker)?;
-    let second = desk.draw(&rt, &mut other)?;
-    assert!(rt; matches!(first, Draw::Job(_)) && matches!(second, Draw::Job(_)));
+    assert!(rt; draws(&rt, &desk, &mut worker)?);
+    assert!(rt; draws(&rt, &desk, &mut other)?);
     desk.join(&mut worker, other);
-    desk.join(&mut feeder, worker);
-    let book = desk.close(&rt, feeder);
+    let book = joined(&rt, desk, feeder, worker);
     assert!(rt; !book.settled());
     Ok(())
 }

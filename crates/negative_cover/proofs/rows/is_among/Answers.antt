@@ -1,5 +1,5 @@
 use Rattle.std.proofs.Common.{◌∙◌}
-use Rattle.negative_cover.proofs.Parting.{found_by_halves}
+use Rattle.negative_cover.proofs.Telling.{found_by_halves}
 use Rattle.negative_cover.proofs.rows.is_among.Goals as goal
 
 pub returns-then-ascending : goal.returns-then-ascending

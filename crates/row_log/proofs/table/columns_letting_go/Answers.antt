@@ -17,8 +17,8 @@ use Rattle.row_log.proofs.table.columns_letting_go.Goals as goal
 row_wide : (from w : ℕ) (rows : List Row) (i : ℕ) (row : Row) → All (λ r. from + w ≤ length r) rows → i < length rows → row ≡ get_or rows i row → from + w ≤ length row
 row_wide from w rows i row all l e = subst (λ (r : Row). from + w ≤ length r) (sym e) (All-get_or (λ r. from + w ≤ length r) rows i row l all)
 
-settled : (n : ℕ) (new old : List ColumnCells) → length new ≡ n → take n (new ++ old) ≡ new
-settled n new old e = subst (λ (k : ℕ). take k (new ++ old) ≡ new) e (take-append_seam new old)
+in_front : (n : ℕ) (new old : List ColumnCells) → length new ≡ n → take n (new ++ old) ≡ new
+in_front n new old e = subst (λ (k : ℕ). take k (new ++ old) ≡ new) e (take-append_seam new old)
 
 map-itself : (xs : List Row) → map (λ x. x) xs ≡ xs
 map-itself [] = refl
@@ -48,7 +48,7 @@ loop-row-preserved-then-len-ge-BLOCK c =
     (pushed c.args.nulls c.args.from c.args.count c.args.rows.items c.loop-row.yielded c.loop-row.columns.items c.loop-row.block.items c.in-Some.row c.push.new.self.items c.loop-row.invariant c.requires.wide turn c.in_ok-push.ensures.items)
     c.deref_mut.result.now c.push_rows.new.columns (take c.loop-row.columns.len (c.push_rows.new.columns ++ drop (length c.push_rows.new.columns) c.loop-row.columns.items)) c.clear.new.self.items c.deref_mut.ensures.value c.in_ok-push_rows.ensures.long
     (λ j l. c.in_ok-push_rows.ensures.each j l ∙ ap (λ (rows : List Row). with_cells (column_at c.deref_mut.result.now j) rows (c.args.from + j)) c.deref.ensures.value)
-    (settled c.loop-row.columns.len c.push_rows.new.columns (drop (length c.push_rows.new.columns) c.loop-row.columns.items) (c.in_ok-push_rows.ensures.long ∙ ap length c.deref_mut.ensures.value ∙ sym c.loop-row.columns.ok.0))
+    (in_front c.loop-row.columns.len c.push_rows.new.columns (drop (length c.push_rows.new.columns) c.loop-row.columns.items) (c.in_ok-push_rows.ensures.long ∙ ap length c.deref_mut.ensures.value ∙ sym c.loop-row.columns.ok.0))
     c.clear.ensures.items
 
 pub loop-row-preserved : goal.loop-row-preserved
@@ -75,7 +75,7 @@ returns c =
     let last = coded_flush c.args.nulls c.args.from c.args.count c.loop-row.yielded c.loop-row.columns.items c.loop-row.block.items c.loop-row.invariant
     c.deref_mut-2.result.now c.push_rows-2.new.columns columns [] c.deref_mut-2.ensures.value c.in_ok-push_rows-2.ensures.long
     (λ j l. c.in_ok-push_rows-2.ensures.each j l ∙ ap (λ (rows : List Row). with_cells (column_at c.deref_mut-2.result.now j) rows (c.args.from + j)) c.deref-2.ensures.value)
-    (settled c.loop-row.columns.len c.push_rows-2.new.columns (drop (length c.push_rows-2.new.columns) c.loop-row.columns.items) (c.in_ok-push_rows-2.ensures.long ∙ ap length c.deref_mut-2.ensures.value ∙ sym c.loop-row.columns.ok.0))
+    (in_front c.loop-row.columns.len c.push_rows-2.new.columns (drop (length c.push_rows-2.new.columns) c.loop-row.columns.items) (c.in_ok-push_rows-2.ensures.long ∙ ap length c.deref_mut-2.ensures.value ∙ sym c.loop-row.columns.ok.0))
     refl in
     subst (λ (rows : List Row). AreColumnsOf c.args.nulls rows c.args.from c.args.count columns) (sym (map-itself c.loop-row.yielded) ∙ end.0)
     (coded_whole c.args.nulls c.args.from c.args.count c.loop-row.yielded columns [] last refl)

@@ -32,14 +32,14 @@ step nulls from w rows left block rest columns seen new cut long same each h j l
     ∙ ap₂ (λ (cs : List ColumnCells) (rs : List Row). with_cells (column_at cs j) rs (from + j)) same (sym cut)
     ∙ h j l
 
-settled : (n : ℕ) (new old : List ColumnCells) → length new ≡ n → take n (new ++ old) ≡ new
-settled n new old e = subst (λ (k : ℕ). take k (new ++ old) ≡ new) e (take-append_seam new old)
+in_front : (n : ℕ) (new old : List ColumnCells) → length new ≡ n → take n (new ++ old) ≡ new
+in_front n new old e = subst (λ (k : ℕ). take k (new ++ old) ≡ new) e (take-append_seam new old)
 
 pub loop-left-preserved : goal.loop-left-preserved
 loop-left-preserved c =
     let old = c.loop-left.invariant in
     let same = ap length c.deref_mut.ensures.value in
-    let whole_now = settled c.loop-left.columns.len c.push_rows.new.columns _ (c.in_ok-push_rows.ensures.long ∙ same ∙ sym c.loop-left.columns.ok.0) in (
+    let whole_now = in_front c.loop-left.columns.len c.push_rows.new.columns _ (c.in_ok-push_rows.ensures.long ∙ same ∙ sym c.loop-left.columns.ok.0) in (
       ap length whole_now ∙ c.in_ok-push_rows.ensures.long ∙ same ∙ old.0,
       λ j l. ap (λ (cs : List ColumnCells). with_cells (column_at cs j) c.split_at.result.1.now (c.args.from + j)) whole_now
           ∙ step c.args.nulls c.args.from c.args.count c.args.rows.now c.loop-left.left.now c.split_at.result.0.now c.split_at.result.1.now c.loop-left.columns.items c.deref_mut.result.now c.push_rows.new.columns

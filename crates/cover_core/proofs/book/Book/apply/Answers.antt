@@ -17,7 +17,7 @@ use Rattle.cover_core.proofs.book.Book.apply.Goals.{After-drop-made}
 
 all : (c : After-drop-made) → ApplyAll _ _ _ c.self.invariant.0 c.self.view_is c.args.batch.now c.apply-answer.new.self c.in-Ok.made.snapshot.value (record { rows = c.apply-answer.new.self; witnesses = c.withdraw.new.self; candidates = c.put_all-lists.new.candidates })
 all c = apply-all _ _ _ c.self.invariant.0 c.self.view_is c.args.batch.now c.apply-answer.new.self c.in-Ok.made.snapshot.value c.withdraw.new.self c.put_all-lists.new.candidates c.requires c.in-Applied.ensures.after c.in-Ok.ensures.table c.in-Ok.ensures.snapshot
-    (c.withdraw.ensures ∙ ap (λ (dead : List ℕ). live_of dead c.self.inside.witnesses) c.as_slice.ensures.value ∙ live_of-permuted (ended c.args.batch.now) c.in-Ok.made.dead.items c.self.inside.witnesses c.in-Ok.ensures.dead) (c.put_all-lists.ensures _ c.in-Ok.ensures.parts)
+    (c.withdraw.ensures ∙ ap (λ (dead : List ℕ). live_of dead c.self.inside.witnesses) c.as_slice.ensures.value ∙ live_of-permuted (ended c.args.batch.now) c.in-Ok.made.dead.items c.self.inside.witnesses c.in-Ok.ensures.dead) (c.put_all-lists.ensures _ c.in-Ok.ensures.new_lists)
 
 pub first_unfinished-self-inside-requires : goal.first_unfinished-self-inside-requires
 first_unfinished-self-inside-requires c = to_search (record { rows = c.apply-answer.new.self; witnesses = c.withdraw.new.self; candidates = c.put_all-lists.new.candidates }) c.next-next.result c.start-self-inside.result c.next-next.ensures.value (past-both _ c.start-self-inside.result c.start-self-inside.ensures.unfinished c.start-self-inside.ensures.drawable)

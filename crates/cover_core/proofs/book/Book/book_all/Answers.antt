@@ -17,12 +17,12 @@ first_unfinished-self-inside-requires g c = to_search (record { rows = c.self.in
 
 pub invariant_of-self-2 : goal.invariant_of-self-2
 invariant_of-self-2 g c =
-    let kept = IsBook-all _ _ c.self.invariant.0 c.in_ok-news.news.witnesses.items c.in_ok-news.news.draft (c.in_ok-news.ensures.news _ (subst (λ (m : Core). All (IsEvidence m.rows) c.args.found.items) (sym c.self.view_is) c.requires.found)) c.put_all.new.candidates (c.put_all.ensures _ c.in_ok-parts.ensures) c.add_all.new.self (c.in_ok-add_all.ensures.ok ∙ ap (λ (ws : List Witness). c.self.inside.witnesses ++ ws) c.as_slice.ensures.value) in
+    let kept = IsBook-all _ _ c.self.invariant.0 c.in_ok-news.news.witnesses.items c.in_ok-news.news.draft (c.in_ok-news.ensures.news _ (subst (λ (m : Core). All (IsEvidence m.rows) c.args.found.items) (sym c.self.view_is) c.requires.found)) c.put_all.new.candidates (c.put_all.ensures _ c.in_ok-new_lists.ensures) c.add_all.new.self (c.in_ok-add_all.ensures.ok ∙ ap (λ (ws : List Witness). c.self.inside.witnesses ++ ws) c.as_slice.ensures.value) in
     let w = searched (record { rows = c.self.inside.rows; witnesses = c.add_all.new.self; candidates = c.put_all.new.candidates }) _ kept c.next-next.result c.start-self-inside.result c.first_unfinished-self-inside.new.cursor c.first_unfinished-self-inside.result c.next-next.ensures.value (past-both _ c.start-self-inside.result c.start-self-inside.ensures.unfinished c.start-self-inside.ensures.drawable) c.first_unfinished-self-inside.ensures.past c.first_unfinished-self-inside.ensures.found in
     (kept, c.self.invariant.1, w.past, w.first)
 
 pub returns-clause-sound : goal.returns-clause-sound
-returns-clause-sound g c = (IsBook-all _ _ c.self.invariant.0 c.in_ok-news.news.witnesses.items c.in_ok-news.news.draft (c.in_ok-news.ensures.news _ (subst (λ (m : Core). All (IsEvidence m.rows) c.args.found.items) (sym c.self.view_is) c.requires.found)) c.put_all.new.candidates (c.put_all.ensures _ c.in_ok-parts.ensures) c.add_all.new.self (c.in_ok-add_all.ensures.ok ∙ ap (λ (ws : List Witness). c.self.inside.witnesses ++ ws) c.as_slice.ensures.value)).sound
+returns-clause-sound g c = (IsBook-all _ _ c.self.invariant.0 c.in_ok-news.news.witnesses.items c.in_ok-news.news.draft (c.in_ok-news.ensures.news _ (subst (λ (m : Core). All (IsEvidence m.rows) c.args.found.items) (sym c.self.view_is) c.requires.found)) c.put_all.new.candidates (c.put_all.ensures _ c.in_ok-new_lists.ensures) c.add_all.new.self (c.in_ok-add_all.ensures.ok ∙ ap (λ (ws : List Witness). c.self.inside.witnesses ++ ws) c.as_slice.ensures.value)).sound
 
 pub returns-clause-told : goal.returns-clause-told
 returns-clause-told g c =

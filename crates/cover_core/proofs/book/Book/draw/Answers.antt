@@ -1,4 +1,4 @@
-use Rattle.std.proofs.Common.{◌≡◌, ℕ, ◌∙◌, sym, refl, subst, None}
+use Rattle.std.proofs.Common.{◌≡◌, ℕ, ◌∙◌, true, sym, refl, subst, None}
 use Rattle.cover_steps.specs.Core.{Core, is_drawable, first_drawable}
 use Rattle.cover_steps.specs.Steps as steps
 use Rattle.cover_core.specs.Past.{IsPast}
@@ -7,7 +7,8 @@ use Rattle.cover_core.specs.declared.answers.Draw.{Draw}
 use Rattle.cover_core.proofs.Calls.{with_lists}
 use Rattle.cover_core.proofs.Whole.{DrawAll, draw-all, draw-target, none_drawable, some_drawable}
 use Rattle.cover_core.proofs.Turn.{on-err}
-use Rattle.cover_core.proofs.Cursors.{past-held, to_search, searched, first-told, first-none}
+use Rattle.cover_core.proofs.Cursors.{past-held, first-told, first-none}
+use Rattle.cover_core.proofs.Holding.{first-held}
 use Rattle.cover_core.proofs.book.Book.draw.Goals as goal
 use Rattle.cover_core.proofs.book.Book.draw.Goals.{After-of-job, in-Some-first, in-None-first}
 
@@ -17,9 +18,6 @@ all c = draw-all _ _ _ c.self.invariant.0 c.self.view_is c.next-next.result c.fi
 
 pub hold-requires : goal.hold-requires
 hold-requires c = draw-target _ _ _ c.self.invariant.0 c.self.view_is c.next-next.result c.first_drawable.result c.in-Some.target c.in-Some.cand c.next-next.ensures.value c.first_drawable.ensures.found c.in-Some.is
-
-pub first_unfinished-self-inside-requires : goal.first_unfinished-self-inside-requires
-first_unfinished-self-inside-requires c = to_search (with_lists (record { rows = c.self.inside.rows; witnesses = c.self.inside.witnesses; candidates = c.self.inside.candidates }) c.hold.new.self) c.next-next.result (record { unfinished = c.self.inside.cursors.unfinished; drawable = c.first_drawable.new.cursor }) c.next-next.ensures.value (past-held (record { rows = c.self.inside.rows; witnesses = c.self.inside.witnesses; candidates = c.self.inside.candidates }) c.in-Some.target c.in-Some.cand.left c.hold.new.self (draw-target _ _ _ c.self.invariant.0 c.self.view_is c.next-next.result c.first_drawable.result c.in-Some.target c.in-Some.cand c.next-next.ensures.value c.first_drawable.ensures.found c.in-Some.is) (record { unfinished = c.self.inside.cursors.unfinished; drawable = c.first_drawable.new.cursor }) c.hold.ensures.list (record { unfinished = c.self.invariant.2.unfinished; drawable = subst (λ (n : ℕ). IsPast (is_drawable n) c.self.inside.candidates c.first_drawable.new.cursor) c.next-next.ensures.value c.first_drawable.ensures.past }))
 
 pub invariant_of-self : goal.invariant_of-self
 invariant_of-self c = (c.self.invariant.0, c.self.invariant.1, (record { unfinished = c.self.invariant.2.unfinished; drawable = subst (λ (n : ℕ). IsPast (is_drawable n) c.self.inside.candidates c.first_drawable.new.cursor) c.next-next.ensures.value c.first_drawable.ensures.past }), c.self.invariant.3)
@@ -35,8 +33,9 @@ returns-in_ok-snapshot-in-Some-clause-sound c = (all c).kept.sound
 
 pub invariant_of-self-in-Some : goal.invariant_of-self-in-Some
 invariant_of-self-in-Some c =
-    let w = searched (with_lists (record { rows = c.self.inside.rows; witnesses = c.self.inside.witnesses; candidates = c.self.inside.candidates }) c.hold.new.self) _ (all c).kept c.next-next.result (record { unfinished = c.self.inside.cursors.unfinished; drawable = c.first_drawable.new.cursor }) c.first_unfinished-self-inside.new.cursor c.first_unfinished-self-inside.result c.next-next.ensures.value (past-held (record { rows = c.self.inside.rows; witnesses = c.self.inside.witnesses; candidates = c.self.inside.candidates }) c.in-Some.target c.in-Some.cand.left c.hold.new.self (draw-target _ _ _ c.self.invariant.0 c.self.view_is c.next-next.result c.first_drawable.result c.in-Some.target c.in-Some.cand c.next-next.ensures.value c.first_drawable.ensures.found c.in-Some.is) (record { unfinished = c.self.inside.cursors.unfinished; drawable = c.first_drawable.new.cursor }) c.hold.ensures.list (record { unfinished = c.self.invariant.2.unfinished; drawable = subst (λ (n : ℕ). IsPast (is_drawable n) c.self.inside.candidates c.first_drawable.new.cursor) c.next-next.ensures.value c.first_drawable.ensures.past })) c.first_unfinished-self-inside.ensures.past c.first_unfinished-self-inside.ensures.found in
-    ((all c).kept, c.self.invariant.1, w.past, w.first)
+    let past = past-held (record { rows = c.self.inside.rows; witnesses = c.self.inside.witnesses; candidates = c.self.inside.candidates }) c.in-Some.target c.in-Some.cand.left c.hold.new.self (draw-target _ _ _ c.self.invariant.0 c.self.view_is c.next-next.result c.first_drawable.result c.in-Some.target c.in-Some.cand c.next-next.ensures.value c.first_drawable.ensures.found c.in-Some.is) (record { unfinished = c.self.inside.cursors.unfinished; drawable = c.first_drawable.new.cursor }) c.hold.ensures.list (record { unfinished = c.self.invariant.2.unfinished; drawable = subst (λ (n : ℕ). IsPast (is_drawable n) c.self.inside.candidates c.first_drawable.new.cursor) c.next-next.ensures.value c.first_drawable.ensures.past }) in
+    let first = first-held (record { rows = c.self.inside.rows; witnesses = c.self.inside.witnesses; candidates = c.self.inside.candidates }) c.in-Some.target c.in-Some.cand.left true c.hold.new.self c.self.inside.first (draw-target _ _ _ c.self.invariant.0 c.self.view_is c.next-next.result c.first_drawable.result c.in-Some.target c.in-Some.cand c.next-next.ensures.value c.first_drawable.ensures.found c.in-Some.is) c.hold.ensures.list c.self.invariant.3 in
+    ((all c).kept, c.self.invariant.1, past, first)
 
 pub returns-after-first-clause-step : goal.returns-after-first-clause-step
 returns-after-first-clause-step c =

@@ -2,7 +2,7 @@ use Rattle.std.proofs.Common.{◌≡◌, ◌∙◌, refl, sym, ap, false}
 use Rattle.std.proofs.lemmas.Bool.{true≢false}
 use Rattle.col_set.specs.Evidence.{refuted}
 use Rattle.negative_cover.specs.Witnesses.{sets_of}
-use Rattle.negative_cover.proofs.Parting.{told_refuted, untold}
+use Rattle.negative_cover.proofs.Telling.{told_refuted, untold}
 use Rattle.negative_cover.proofs.negative_cover.NegativeCover.refutes.Goals as goal
 
 pub returns-then-refutes-clause-none : goal.returns-then-refutes-clause-none

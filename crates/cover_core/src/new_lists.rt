@@ -1,0 +1,268 @@
+// New lists of candidates, which are all made before the first is put in place.
+ghost use Rattle.std.specs.Prelude.{◌≡◌, ◌∷◌, [], ◌++◌, not, List, length, IfOk};
+ghost use Rattle.std.specs.List.{All, AllZip, list_any};
+ghost use Rattle.col_set.specs.ColSet.{Columns};
+ghost use Rattle.col_set.specs.Target.{IsColumnTarget, has_target};
+ghost use Rattle.col_set.specs.Evidence.{least};
+ghost use Rattle.candidate_cover.specs.Cands.{cands_of, lefts, width};
+ghost use Rattle.cover_steps.specs.Core.{renewed, targets};
+ghost use Rattle.candidate_cover.specs.Drafts.{AreLeast};
+ghost use Rattle.negative_cover.specs.Concerning.{concerns, is_open, AreConcerned};
+ghost use Rattle.cover_core.specs.NewLists.{IsNewList, IsLeftBy};
+
+use candidate_cover::{CandidateCover, Draft, NewList, OldList};
+use negative_cover::Concerned;
+use rayon::prelude::*;
+use rel_base::{ColSet, MOST_COLUMNS, Steps, Target};
+use std::alloc::{AllocError, Global};
+use std::sync::ledger::Ledger;
+use std::thread::Threads;
+
+// A new list for each target that has one, and room for the lists that they take the place of.
+#[derive(Drop)]
+pub(crate) struct NewLists {
+    pub(crate) row_id: Option<NewList>,
+    pub(crate) columns: Vec<Option<NewList>>,
+    pub(crate) old: Vec<OldList>,
+}
+
+// What a further agree set leaves of a target's candidates, where it concerns the target.
+fn specialised_list(
+    alloc: Global,
+    candidates: &CandidateCover,
+    target: Target,
+    agree: ColSet,
+    concerned: &Concerned,
+) -> Result<Option<NewList>, AllocError>
+    requires { IsColumnTarget (width candidates.now) target }
+    ensures { IfOk result (λ new_list. (ws : List Columns) → lefts (cands_of candidates.now target) ≡ least (width candidates.now) ws target → concerns concerned.now target ≡ is_open ws agree target → IsNewList (width candidates.now) (ws ++ agree ∷ []) candidates.now target new_list) }
+{
+    // `columns` is called for its clause that there are at most `MOST_COLUMNS`.
+    let _count = candidates.columns();
+    if !concerned.has(target) {
+        return Ok(None);
+    }
+    Ok(Some(candidates.specialise(alloc, target, agree)?))
+}
+
+// What a further agree set leaves, which concerns these targets.
+pub(crate) fn specialised(
+    alloc: Global,
+    candidates: &CandidateCover,
+    agree: ColSet,
+    concerned: &Concerned,
+) -> Result<NewLists, AllocError>
+    ensures { IfOk result (λ new_lists. (ws : List Columns) → AreLeast (width candidates.now) ws candidates.now → AreConcerned (width candidates.now) ws agree concerned.now → IsLeftBy candidates.now (ws ++ agree ∷ []) new_lists) }
+{
+    let row_id = specialised_list(alloc, candidates, Target::RowId, agree, concerned)?;
+    let mut columns = Vec::with_capacity(alloc, candidates.columns() as usize)?;
+    for column in 0..candidates.columns() {
+        let target = Target::Col(column);
+        let new_list = specialised_list(alloc, candidates, target, agree, concerned)?;
+        columns.push(new_list)?;
+    }
+    let old = Vec::with_capacity(alloc, columns.len().saturating_add(1))?;
+    Ok(NewLists {
+        row_id,
+        columns,
+        old,
+    })
+}
+
+// Whether one of these agree sets lacks the target.
+fn some_lacks(sets: &[ColSet], target: Target) -> bool
+    requires { IsColumnTarget MOST_COLUMNS target }
+    ensures { result ≡ list_any (λ z. not (has_target z target)) sets.now }
+{
+    sets.iter().any(|agree| !agree.has_target(target))
+}
+
+// What is left of a target's candidates by the rest of the agree sets, where one that lacks the target was withdrawn.
+fn generalised_list<L: Ledger>(
+    alloc: Global,
+    candidates: &CandidateCover,
+    target: Target,
+    rest: &[ColSet],
+    withdrawn: &[ColSet],
+    steps: &mut Steps<L>,
+) -> Result<Option<NewList>, AllocError>
+    requires target { IsColumnTarget (width candidates.now) target }
+    requires least { lefts (cands_of candidates.now target) ≡ least (width candidates.now) (rest.now ++ withdrawn.now) target }
+    ensures { IfOk result (λ new_list. IsNewList (width candidates.now) rest.now candidates.now target new_list) }
+{
+    // `columns` is called for its clause that there are at most `MOST_COLUMNS`.
+    let _count = candidates.columns();
+    if !some_lacks(withdrawn, target) {
+        return Ok(None);
+    }
+    Ok(Some(candidates.generalise(alloc, target, rest, withdrawn, steps)?))
+}
+
+// What the rest of the agree sets leaves, where some were withdrawn.
+pub(crate) fn generalised<L: Ledger>(
+    alloc: Global,
+    candidates: &CandidateCover,
+    rest: &[ColSet],
+    withdrawn: &[ColSet],
+    steps: &mut Steps<L>,
+) -> Result<NewLists, AllocError>
+    requires { AreLeast (width candidates.now) (rest.now ++ withdrawn.now) candidates.now }
+    ensures { IfOk result (IsLeftBy candidates.now rest.now) }
+{
+    let row_id = generalised_list(alloc, candidates, Target::RowId, rest, withdrawn, steps)?;
+    let mut columns = Vec::with_capacity(alloc, candidates.columns() as usize)?;
+    for column in 0..candidates.columns() {
+        let new_list = generalised_list(
+            alloc,
+            candidates,
+            Target::Col(column),
+            rest,
+            withdrawn,
+            steps,
+        )?;
+        columns.push(new_list)?;
+    }
+    let old = Vec::with_capacity(alloc, columns.len().saturating_add(1))?;
+    Ok(NewLists {
+        row_id,
+        columns,
+        old,
+    })
+}
+
+// What a draft leaves of a target's candidates, where it has changed them.
+fn drafted_list(
+    alloc: Global,
+    candidates: &CandidateCover,
+    draft: &Draft,
+    target: Target,
+) -> Result<Option<NewList>, AllocError>
+    requires target { IsColumnTarget (width candidates.now) target }
+    requires width { draft.now.width ≡ width candidates.now }
+    ensures { IfOk result (λ new_list. IsNewList (width candidates.now) draft.now.agree_sets candidates.now target new_list) }
+{
+    let new_list = candidates.drafted(alloc, draft, target)?;
+    Ok(new_list)
+}
+
+// What a draft leaves.
+pub(crate) fn drafted(
+    alloc: Global,
+    candidates: &CandidateCover,
+    draft: &Draft,
+) -> Result<NewLists, AllocError>
+    requires { draft.now.width ≡ width candidates.now }
+    ensures { IfOk result (IsLeftBy candidates.now draft.now.agree_sets) }
+{
+    let row_id = drafted_list(alloc, candidates, draft, Target::RowId)?;
+    let mut columns = Vec::with_capacity(alloc, candidates.columns() as usize)?;
+    for column in 0..candidates.columns() {
+        let new_list = drafted_list(alloc, candidates, draft, Target::Col(column))?;
+        columns.push(new_list)?;
+    }
+    let old = Vec::with_capacity(alloc, columns.len().saturating_add(1))?;
+    Ok(NewLists {
+        row_id,
+        columns,
+        old,
+    })
+}
+
+// The row's identity and so many columns.
+fn targets_of(alloc: Global, columns: u8) -> Result<Vec<Target>, AllocError>
+    ensures { IfOk result (λ found. found.items ≡ targets columns) }
+{
+    let mut found = Vec::with_capacity(alloc, columns as usize + 1)?;
+    found.push(Target::RowId)?;
+    for column in 0..columns {
+        found.push(Target::Col(column))?;
+    }
+    Ok(found)
+}
+
+// How many items a thread takes at least. A list is halved as long as both halves have as many, so there are no more shares than workers,
+// and as many where these are a power of two.
+pub(crate) fn least_share(items: usize, workers: u8) -> usize {
+    let share = match workers {
+        0..=1 => items,
+        2..=3 => items / 2,
+        4..=7 => items / 4,
+        8..=15 => items / 8,
+        _ => items / 16,
+    };
+    share.max(2)
+}
+
+// What a draft leaves of the candidates of each of these targets, by so many threads at most, each of which takes targets that stand side
+// by side.
+fn drafted_lists<R: Threads + Sync>(
+    rt: &R,
+    alloc: Global,
+    candidates: &CandidateCover,
+    draft: &Draft,
+    targets: &[Target],
+    workers: u8,
+) -> Result<Vec<Option<NewList>>, AllocError>
+    requires width { draft.now.width ≡ width candidates.now }
+    requires targets { All (IsColumnTarget (width candidates.now)) targets.now }
+    ensures { IfOk result (λ new_lists. AllZip (IsNewList (width candidates.now) draft.now.agree_sets candidates.now) targets.now new_lists.items) }
+{
+    let share = least_share(targets.len(), workers);
+    let new_lists: Result<Vec<Option<NewList>>, AllocError> = targets
+        .par_iter()
+        .with_min_len(share)
+        .map(
+            move |target: &Target| -> Result<Option<NewList>, AllocError>
+                requires { IsColumnTarget (width candidates.now) target.now × (draft.now.width ≡ width candidates.now) }
+                ensures { IfOk result (IsNewList (width candidates.entry.now) draft.entry.now.agree_sets candidates.entry.now target.now) }
+            { drafted_list(alloc, candidates, draft, *target) },
+        )
+        .collect(rt, alloc)?;
+    new_lists
+}
+
+// What a draft leaves, by so many threads at most.
+pub(crate) fn drafted_by<R: Threads + Sync>(
+    rt: &R,
+    alloc: Global,
+    candidates: &CandidateCover,
+    draft: &Draft,
+    workers: u8,
+) -> Result<NewLists, AllocError>
+    requires { draft.now.width ≡ width candidates.now }
+    ensures { IfOk result (IsLeftBy candidates.now draft.now.agree_sets) }
+{
+    let targets = targets_of(alloc, candidates.columns())?;
+    let mut columns = drafted_lists(rt, alloc, candidates, draft, &targets, workers)?;
+    let row_id = columns.remove(0);
+    let old = Vec::with_capacity(alloc, columns.len().saturating_add(1))?;
+    Ok(NewLists {
+        row_id,
+        columns,
+        old,
+    })
+}
+
+// Puts the new lists in place, and hands out the lists that stood there. It takes no memory.
+pub(crate) fn put_all(candidates: &mut CandidateCover, new_lists: NewLists) -> Vec<OldList>
+    requires { length new_lists.columns.items ≡ width candidates.old }
+    ensures { (ws : List Columns) → IsLeftBy candidates.old ws new_lists → candidates.new ≡ renewed (width candidates.old) ws candidates.old }
+{
+    let NewLists {
+        row_id,
+        mut columns,
+        mut old,
+    } = new_lists;
+    // `columns` is called for its clause that there are at most `MOST_COLUMNS`.
+    let _count = candidates.columns();
+    // There is room for each list, since whoever made the new lists made it.
+    if let Some(new_list) = row_id {
+        drop(old.push(candidates.put(Target::RowId, new_list)));
+    }
+    while let Some(new_list) = columns.pop() {
+        if let Some(new_list) = new_list {
+            drop(old.push(candidates.put(Target::Col(columns.len() as u8), new_list)));
+        }
+    }
+    old
+}

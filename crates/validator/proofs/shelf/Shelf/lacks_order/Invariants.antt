@@ -1,4 +1,0 @@
-use Rattle.validator.proofs.shelf.Shelf.lacks_order.Given as goal
-
-abbrev pub decreases-loop-column : goal.decreases-loop-column
-decreases-loop-column l = l.left

@@ -1,5 +1,0 @@
-use Rattle.validator.proofs.KeptLists.{Nearest}
-use Rattle.validator.proofs.shelf.lightest_kept.Given as goal
-
-abbrev pub invariant-loop : goal.invariant-loop
-invariant-loop l = Nearest l.kept l.columns l.chosen l.best
