@@ -1,8 +1,9 @@
 // The text of a run.
-ghost use Rattle.std.specs.Prelude.{◌≡◌, ◌++◌, ◌∷◌, [], ◌<◌, ◌≤◌, None, length, map, IfOk, OnOk};
+ghost use Rattle.std.specs.Prelude.{◌≡◌, ◌++◌, ◌∷◌, [], List, ◌<◌, ◌≤◌, None, length, map, IfOk, OnOk};
 ghost use Rattle.rel_base.specs.Covers.{covers};
-ghost use Rattle.rel_base.specs.RowState.{opened};
+ghost use Rattle.rel_base.specs.RowState.{RowState, opened};
 ghost use Rattle.cover_steps.specs.Core.{first_unfinished as first_unfinished_of};
+ghost use Rattle.profile_cli.specs.Columns.{AreColumnsOf};
 ghost use Rattle.profile_cli.specs.Reports.{report_of, reports};
 
 use crate::columns::Columns;
@@ -72,11 +73,43 @@ pub(crate) fn reports_of<R: Threads + Wait + Sync, G: Gate + Sync>(
     let mut lines = Lines::new(alloc);
     let mut columns = Columns::new(alloc);
     for (place, relation) in relations.into_iter().enumerate() {
-        let coded = Book::open_by(rt, alloc, relation, limits, options.nulls, options.workers)?;
-        let book = settled(rt, alloc, options.workers, gate, coded)?;
-        push_report_of(&mut lines, &names[place], &book)?;
-        columns.push(alloc, book.rows())?;
+        let name = &names[place];
+        push_relation(
+            rt,
+            alloc,
+            options,
+            gate,
+            limits,
+            name,
+            relation,
+            &mut lines,
+            &mut columns,
+        )?;
     }
     columns.push_inclusions(rt, alloc, options.workers, &mut lines)?;
     lines.into_text()
+}
+
+// Adds the report of a relation, and its columns.
+fn push_relation<R: Threads + Wait + Sync, G: Gate + Sync>(
+    rt: &R,
+    alloc: Global,
+    options: Options,
+    gate: &G,
+    limits: Limits,
+    name: &Name,
+    relation: Relation,
+    lines: &mut Lines,
+    columns: &mut Columns,
+) -> Result<(), AllocError>
+    requires workers { (0 < options.workers) × (options.workers ≤ 16) }
+    ensures report { OnOk result (lines.new ≡ lines.old ++ report_of name.now (opened options.nulls limits.rows relation)) }
+    ensures columns { OnOk result ((states : List RowState) → AreColumnsOf states columns.old.widths.items columns.old.cells.items
+        → AreColumnsOf (states ++ opened options.nulls limits.rows relation ∷ []) columns.new.widths.items columns.new.cells.items) }
+{
+    let coded = Book::open_by(rt, alloc, relation, limits, options.nulls, options.workers)?;
+    let book = settled(rt, alloc, options.workers, gate, coded)?;
+    push_report_of(lines, name, &book)?;
+    columns.push(alloc, book.rows())?;
+    Ok(())
 }

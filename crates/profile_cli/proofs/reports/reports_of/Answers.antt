@@ -37,48 +37,14 @@ loop-place-preserved g c =
     let inside : place < length names = omega arith in
     let states : List RowState = map f rs in
     let counted : length states ≡ length rs = length-map rs f in
-    let rows : c.in_ok-book.book.rows ≡ f relation = c.in_ok-book.ensures.rows ∙ ap (λ (b : Core). b.rows) c.in_ok-coded.ensures in
-    subst (λ (m : ℕ). AreReports names states m c.push_report_of.new.lines c.push.new.self.widths.items c.push.new.self.cells.items)
+    subst (λ (m : ℕ). AreReports names states m c.push_relation.new.lines c.push_relation.new.columns.widths.items c.push_relation.new.columns.cells.items)
     (sym (length-append c.loop-place.yielded ((place, relation) ∷ [])))
-    (AreReports-more names states n c.loop-place.lines c.push_report_of.new.lines c.loop-place.columns.widths.items c.push.new.self.widths.items c.loop-place.columns.cells.items c.push.new.self.cells.items
+    (AreReports-more names states n c.loop-place.lines c.push_relation.new.lines c.loop-place.columns.widths.items c.push_relation.new.columns.widths.items c.loop-place.columns.cells.items c.push_relation.new.columns.cells.items
     c.index-names-place.result (f relation) (omega arith) (omega arith)
     (name_at names place c.index-names-place.result inside c.index-names-place.is ∙ ap (λ (i : ℕ). get_or names i []) same)
     (ap f here ∙ sym (get_or-map f rs n relation (f relation) h))
-    (c.in_ok-push_report_of.ensures.text ∙ ap (λ (r : RowState). c.loop-place.lines ++ report_of c.index-names-place.result r) rows)
-    (λ before are. subst (λ (r : RowState). AreColumnsOf (before ++ r ∷ []) c.push.new.self.widths.items c.push.new.self.cells.items) (c.rows.ensures.rows ∙ rows) (c.in_ok-push.ensures before are))
-    c.loop-place.invariant)
-
-pub loop-place-preserved-in_ok-push : goal.loop-place-preserved-in_ok-push
-loop-place-preserved-in_ok-push g c =
-    let names = c.args.names.now in
-    let rs = c.args.relations.items in
-    let f : Content → RowState = opened c.args.options.nulls c.args.limits.rows in
-    let n : ℕ = length c.loop-place.yielded in
-    let place = c.in-Some.place in
-    let relation = c.in-Some.relation in
-    let turn = YieldsList-turn (YieldsList-at c.into_iter-place-iterator.ensures.into_iter_gives
-    (YieldsList-from_enumerate (YieldsList-at c.enumerate-place-items.ensures.source (YieldsList-from_vec rs c.into_iter.ensures.rest (c.into_iter.ensures.len ∙ c.args.relations.ok.0))) c.enumerate-place-items.ensures.count))
-    c.loop-place.yielded c.loop-place.place-iterator c.loop-place.yielded_by c.next.result c.next.new.self (place, relation) c.in-Some.is c.next.ensures.steps in
-    let long = length-enumerate_from 0 rs in
-    let less = turn.0 in
-    let h : n < length rs = omega arith in
-    let met : (place, relation) ≡ (0 + n, get_or rs n relation) = turn.1 ∙ get_or-enumerate_from 0 rs n (place, relation) h in
-    let at : place ≡ 0 + n = ap (λ (p : ℕ × Content). p.0) met in
-    let same : place ≡ n = omega arith in
-    let here : relation ≡ get_or rs n relation = ap (λ (p : ℕ × Content). p.1) met in
-    let as_many : length rs ≡ length names = c.requires.named in
-    let inside : place < length names = omega arith in
-    let states : List RowState = map f rs in
-    let counted : length states ≡ length rs = length-map rs f in
-    let rows : c.in_ok-book.book.rows ≡ f relation = c.in_ok-book.ensures.rows ∙ ap (λ (b : Core). b.rows) c.in_ok-coded.ensures in
-    subst (λ (m : ℕ). AreReports names states m c.push_report_of.new.lines c.push.new.self.widths.items c.push.new.self.cells.items)
-    (sym (length-append c.loop-place.yielded ((place, relation) ∷ [])))
-    (AreReports-more names states n c.loop-place.lines c.push_report_of.new.lines c.loop-place.columns.widths.items c.push.new.self.widths.items c.loop-place.columns.cells.items c.push.new.self.cells.items
-    c.index-names-place.result (f relation) (omega arith) (omega arith)
-    (name_at names place c.index-names-place.result inside c.index-names-place.is ∙ ap (λ (i : ℕ). get_or names i []) same)
-    (ap f here ∙ sym (get_or-map f rs n relation (f relation) h))
-    (c.in_ok-push_report_of.ensures.text ∙ ap (λ (r : RowState). c.loop-place.lines ++ report_of c.index-names-place.result r) rows)
-    (λ before are. subst (λ (r : RowState). AreColumnsOf (before ++ r ∷ []) c.push.new.self.widths.items c.push.new.self.cells.items) (c.rows.ensures.rows ∙ rows) (c.in_ok-push.ensures before are))
+    c.in_ok-push_relation.ensures.report
+    c.in_ok-push_relation.ensures.columns
     c.loop-place.invariant)
 
 pub push_inclusions-requires-after_bounds : goal.push_inclusions-requires-after_bounds
