@@ -6,6 +6,7 @@ use Rattle.std.proofs.lemmas.List.{length-map}
 use Rattle.col_set.specs.declared.target.Target.{Target}
 use Rattle.col_set.specs.declared.target.Target.TheVariants.{Col, RowId}
 use Rattle.col_set.specs.ColSet.{IsSubset}
+use Rattle.col_set.specs.Subsets.{IsSubset-trans}
 use Rattle.col_set.specs.Target.{IsColumnTarget, has_target}
 use Rattle.col_set.specs.Lists.{Listed, Listed-map_which}
 use Rattle.col_set.proofs.Least.{refuted_inside}
@@ -15,9 +16,8 @@ use Rattle.rel_base.specs.RowState.{RowState, IsRowState, width, next, row}
 use Rattle.rel_base.specs.Shows.{Shows, code_agree}
 use Rattle.rel_base.specs.Validity.{agree_of, Holds, HoldsBelow}
 use Rattle.rel_base.proofs.Agree.{agree-symm}
-use Rattle.rel_base.proofs.Shown.{code_agree-shown, holds_in-shown}
-use Rattle.rel_base.proofs.Valid.{holds-true}
-use Rattle.rel_base.proofs.States.{All-listed, All-from, live_positive, live_numbered, live_climbs}
+use Rattle.rel_base.proofs.Shown.{code_agree-shown}
+use Rattle.rel_base.proofs.States.{All-listed, All-from, live_positive, live_numbered}
 use Rattle.negative_cover.specs.Witnesses.{sets_of}
 use Rattle.candidate_cover.specs.declared.cand.Cand.{Cand}
 use Rattle.candidate_cover.specs.Lists.{CandLists}
@@ -30,13 +30,9 @@ use Rattle.cover_steps.proofs.Keeping.{cand-least, cand-marked}
 use Rattle.negative_cover.specs.declared.negative_cover.Witness.{Witness as Evidence}
 use Rattle.negative_cover.specs.AllPairs.{IsCodePair, AreAllPairs}
 use Rattle.cover_core.specs.Evidences.{IsEvidence, IsAllTold}
-use Rattle.cover_core.specs.Judged.{IsHeld}
 use Rattle.cover_core.specs.Kept.{IsBook}
-use Rattle.cover_core.specs.Waiting.{IsWaiting, IsKnownBelow}
-use Rattle.cover_core.specs.declared.waiting.Waiting.{Waiting}
 use Rattle.cover_core.proofs.Calls.{with_lists}
 use Rattle.cover_core.proofs.Evidences.{news_told}
-use Rattle.cover_core.proofs.Passes.{asked-one}
 
 -- ---- evidence
 module _ (s : CodeTable) (r : RowState) (is : IsRowState r) (shows : Shows s r) (from : ℕ) (found : List Evidence) (all : AreAllPairs s from found) where
@@ -61,6 +57,13 @@ module _ (s : CodeTable) (r : RowState) (is : IsRowState r) (shows : Shows s r) 
         let w = Listed-map_which (λ (e : Evidence). e.agree) (code_agree s i j) found (all.told i j first l late within ((shows.live i first).1 h) ((shows.live j second).1 g)) in
         ap (is_news n ws) (sym (code_agree-shown s r is shows i j h g ne) ∙ w.2) ∙ All-listed (λ (e : Evidence). is_news n ws e.agree ≡ false) w.0 found known w.1
 
+-- ---- what holds below a number
+pub below_less : (r : RowState) (x : ℕ) (t : Target) (from b : ℕ) → from ≤ b → HoldsBelow b r x t → HoldsBelow from r x t
+below_less r x t from b le h = record { each = λ i j a c first second ne sub. let f : i < b = omega arith in let g : j < b = omega arith in h.each i j a c f g ne sub }
+
+pub below_more : (r : RowState) (x y : ℕ) (t : Target) (b : ℕ) → IsSubset y x → HoldsBelow b r y t → HoldsBelow b r x t
+below_more r x y t b s h = record { each = λ i j a c first second ne sub. h.each i j a c first second ne (IsSubset-trans s sub) }
+
 -- ---- what holds
 module _ (s : Core) (table : CodeTable) (book : IsBook s table) (from : ℕ) (told : IsAllTold s from) (t : Target) (c : Cand) (l : IsColumnTarget (width s.rows) t) (h : Listed c (cands s t)) where
   -- no pair of which the later row has the number or a greater one breaks it
@@ -71,15 +74,12 @@ module _ (s : Core) (table : CodeTable) (book : IsBook s table) (from : ℕ) (to
   turned : (i j : ℕ) → agree_of s.rows i j ≡ agree_of s.rows j i
   turned i j = agree-symm s.rows.nulls (width s.rows) (row s.rows i) (row s.rows j)
 
-  pub stands : from ≤ c.upto → Holds s.rows c.left t
-  stands m = record { each = λ i j a b ne sub. at i j a b ne sub (cases_order i j) }
+  pub stands : HoldsBelow from s.rows c.left t → Holds s.rows c.left t
+  stands below = record { each = λ i j a b ne sub. at i j a b ne sub (cases_order i j) }
     where
-      below : HoldsBelow c.upto s.rows c.left t
-      below = (cand-marked s t c book.sound l h).holds
-
       rising : (i j : ℕ) → Contains s.rows.live i → Contains s.rows.live j → i < j → IsSubset c.left (agree_of s.rows i j) → (j < from) ⊎ (from ≤ j) → has_target (agree_of s.rows i j) t ≡ true
       rising i j a b less sub (inr late) = new_keep i j a b less late sub
-      rising i j a b less sub (inl early) = let first : i < c.upto = omega arith in let second : j < c.upto = omega arith in let ne : i ≢ j = omega arith in below.each i j a b first second ne sub
+      rising i j a b less sub (inl early) = let first : i < from = omega arith in let ne : i ≢ j = omega arith in below.each i j a b first early ne sub
 
       at : (i j : ℕ) → Contains s.rows.live i → Contains s.rows.live j → i ≢ j → IsSubset c.left (agree_of s.rows i j) → (i ≡ j) ⊎ ((i < j) ⊎ (j < i)) → has_target (agree_of s.rows i j) t ≡ true
       at i j a b ne sub (inl e) = absurd (ne e)
@@ -110,7 +110,7 @@ module _ (s now : Core) (table : CodeTable) (book : IsBook s table) (view : s �
       let first = m.first in
       let last = m.last in
       let some : 1 ≤ c.upto = omega arith in
-      record { holds = record { each = λ i j a b _ _ ne sub. (stands s table book 1 told t c l h some).each i j a b ne sub }; first = omega arith; last = omega arith }
+      record { holds = record { each = λ i j a b _ _ ne sub. (stands s table book 1 told t c l h (below_less s.rows c.left t 1 c.upto some m.holds)).each i j a b ne sub }; first = omega arith; last = omega arith }
 
   sound : Sound (record { rows = s.rows; witnesses = s.witnesses; candidates = marked_throughout (next s.rows) s.candidates })
   sound = record {
@@ -130,22 +130,6 @@ module _ (s now : Core) (table : CodeTable) (book : IsBook s table) (view : s �
     table = book.table;
     shows = book.shows;
   }
-
--- ---- candidates that were known to hold below the number
-pub held_all : (s now : Core) (table shown : CodeTable) (from : ℕ) → IsBook s table → s ≡ now → shown ≡ table → IsAllTold now from → (list : List Waiting) → All (IsKnownBelow s.candidates from) list → All (IsHeld now.rows shown) list
-held_all s now table shown from book view same all list are = subst (λ (m : Core). All (IsHeld m.rows shown) list) view (subst (λ (u : CodeTable). All (IsHeld s.rows u) list) (sym same)
-    (All-from (IsHeld s.rows table) list (λ w h. let k : IsKnownBelow s.candidates from w = All-listed (IsKnownBelow s.candidates from) w list are h in held w k.0 k.1)))
-  where
-    told : IsAllTold s from
-    told = subst (λ (m : Core). IsAllTold m from) (sym view) all
-
-    held : (w : Waiting) → IsWaiting s.candidates w → from ≤ w.cand.upto → IsHeld s.rows table w
-    held w waits m =
-        let own : IsColumnTarget (width s.rows) w.target = subst (λ (n : ℕ). IsColumnTarget n w.target) book.sound.columns waits.target in
-        record {
-          fits = asked-one s table book w waits;
-          holds = holds_in-shown table s.rows book.sound.rows book.shows w.cand.left w.target ∙ holds-true s.rows w.cand.left w.target (live_climbs s.rows book.sound.rows) (stands s table book from told w.target w.cand own waits.listed m);
-        }
 
 -- ---- both
 pub all_evidence : (s now : Core) (table shown : CodeTable) (from : ℕ) → IsBook s table → s ≡ now → shown ≡ table → (found : List Evidence) → AreAllPairs shown from found → All (IsEvidence now.rows) found

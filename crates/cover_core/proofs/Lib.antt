@@ -4,7 +4,8 @@ pub mod Evidences
 pub mod Passes
 pub mod JobVerdicts
 pub mod Putting
-pub mod Measure
+pub mod KnownLefts
+mod Measure
 pub mod Booking
 pub mod Refuting
 pub mod Together

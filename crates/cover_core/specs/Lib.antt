@@ -1,5 +1,6 @@
 pub mod Evidences
 pub mod Kept
+pub mod KnownLefts
 pub mod Tests
 pub mod NewLists
 pub mod Past

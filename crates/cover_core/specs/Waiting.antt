@@ -1,5 +1,4 @@
 -- Candidates that wait for a verdict.
-use Rattle.std.specs.Prelude.{◌≤◌, ℕ}
 use Rattle.col_set.specs.Target.{IsColumnTarget}
 use Rattle.col_set.specs.Lists.{Listed}
 use Rattle.candidate_cover.specs.Lists.{CandLists}
@@ -10,7 +9,3 @@ use Rattle.cover_core.specs.declared.waiting.Waiting.{Waiting}
 pub record IsWaiting (c : CandLists) (w : Waiting) : Type 0 where
   pub target : IsColumnTarget (width c) w.target
   pub listed : Listed w.cand (cands_of c w.target)
-
--- and is known to hold below a number
-abbrev pub IsKnownBelow : CandLists → ℕ → Waiting → Type 0
-IsKnownBelow c from w = IsWaiting c w × (from ≤ w.cand.upto)

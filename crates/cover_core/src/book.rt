@@ -18,6 +18,7 @@ ghost use Rattle.candidate_cover.specs.Drafts.{is_news};
 ghost use Rattle.cover_core.specs.Evidences.{IsEvidence, IsAllTold};
 ghost use Rattle.cover_core.specs.Judged.{IsHeld};
 ghost use Rattle.cover_core.specs.Past.{IsFirst};
+ghost use Rattle.cover_core.specs.KnownLefts.{HoldBelow};
 ghost use Rattle.cover_core.specs.Told.{IsTrueOf};
 ghost use Rattle.validator.specs.Stores.{AreOf};
 ghost use Rattle.cover_core.specs.Work.{Extends, work};
@@ -28,13 +29,14 @@ use crate::cursor::{Cursors, Unfinished, is_late};
 use crate::evidence::{Evidence, news_of};
 use crate::judging::{Alone, Beside, Judges, judged_by_parts};
 use crate::known::Known;
+use crate::known_lefts::{KnownLefts, known_in, known_lefts};
 use crate::listed::listed;
 use crate::new_lists::{put_all, specialised};
 use crate::outdated::Outdated;
 use crate::renewal::renewed_after;
 use crate::searcher::Searcher;
 use crate::searching::{first_drawable, first_unfinished, move_both_back};
-use crate::waiting::{Sizes, Waiting, count, known_below, of_sizes, worth_comparing};
+use crate::waiting::{Sizes, Waiting, count, of_sizes, worth_comparing};
 use candidate_cover::{CandidateCover, Marking};
 use negative_cover::{Concerned, NegativeCover, Witness, all_pairs};
 use ports::{Gate, OpenGate};
@@ -53,6 +55,12 @@ const FEW_ROWS: u32 = 1500;
 
 // Of so many candidates all that are unfinished are validated in one pass, 64 bytes each.
 const MOST_WAITING: usize = 1 << 20;
+
+// To look for one of a target's left sides inside a candidate takes less time than a verdict where there are no more of them than these,
+// or than one to so many live rows.
+const FEW_LEFTS: usize = 64;
+
+const ROWS_A_LEFT: usize = 4;
 
 // For so much work threads are worth their start: rows of all verdicts of a pass, or looks at candidates.
 const LEAST_SHARED: u64 = 1 << 21;
@@ -531,7 +539,7 @@ impl Book {
     }
 
     // Books what the rows that came since most candidates were validated and all rows agree on, if that is worth while. It is all the
-    // evidence against these candidates that there is: those that it leaves hold.
+    // evidence against these candidates that there is: those that it leaves hold, and so do those that it brings in their place.
     fn compare_new<J: Judges>(&mut self, judges: &J) -> Result<(), AllocError>
         requires { J.ready }
         ensures rows { self.new.rows ≡ self.old.rows }
@@ -542,39 +550,27 @@ impl Book {
         let Some(from) = worth_comparing(alloc, &self.candidates, next)? else {
             return Ok(());
         };
+        let most = FEW_LEFTS.max(self.rows.live_len() as usize / ROWS_A_LEFT);
+        let known = known_lefts(alloc, &self.candidates, from, most)?;
         let found = all_pairs(alloc, &self.snapshot, from)?;
         self.book_all(judges, found)?;
-        self.mark_known(from)
+        self.mark_known(known.as_slice(), from)
     }
 
-    // Marks the candidates that are known to hold below a number, where the witnesses tell of what each live row from there on and each one
-    // before it agree on.
-    fn mark_known(&mut self, from: RowNo) -> Result<(), AllocError>
-        requires { IsAllTold self.old from }
-        ensures rows { self.new.rows ≡ self.old.rows }
-        ensures witnesses { self.new.witnesses ≡ self.old.witnesses }
-        ensures sound { Sound self.new }
-    {
-        self.mark_known_of(Target::RowId, from)?;
-        for column in 0..self.candidates.columns() {
-            self.mark_known_of(Target::Col(column), from)?;
-        }
-        Ok(())
-    }
-
-    // Marks those of a target.
-    fn mark_known_of(&mut self, target: Target, from: RowNo) -> Result<(), AllocError>
-        requires target { IsColumnTarget (width self.old.rows) target }
+    // Marks the candidates that hold below a number, as their marks tell or these left sides inside them, where the witnesses tell of what
+    // each live row from there on and each one before it agree on.
+    fn mark_known(&mut self, known: &[KnownLefts], from: RowNo) -> Result<(), AllocError>
         requires told { IsAllTold self.old from }
+        requires known { All (HoldBelow self.old.rows from) known.now }
         ensures rows { self.new.rows ≡ self.old.rows }
         ensures witnesses { self.new.witnesses ≡ self.old.witnesses }
         ensures sound { Sound self.new }
     {
         let next = self.rows.next();
         let (candidates, order) = (&self.candidates, &self.searcher.order);
-        let known = known_below(self.alloc, candidates, target, order, from, next)?;
+        let found = known_in(self.alloc, candidates, known, order, from, next)?;
         let snapshot = self.snapshot.clone()?;
-        self.mark_held(&snapshot, known.as_slice())
+        self.mark_held(&snapshot, found.as_slice())
     }
 
     // Marks all candidates, where the witnesses tell of what all pairs of live rows agree on.

@@ -8,6 +8,7 @@ mod cursor;
 mod evidence;
 mod judging;
 mod known;
+mod known_lefts;
 mod listed;
 mod new_lists;
 mod outdated;

@@ -1,9 +1,9 @@
 // The candidates of a pass.
-ghost use Rattle.std.specs.Prelude.{OnOk, IfOk, IfSome, ◌<◌};
+ghost use Rattle.std.specs.Prelude.{OnOk, IfOk};
 ghost use Rattle.std.specs.List.{All};
 ghost use Rattle.col_set.specs.Target.{IsColumnTarget};
 ghost use Rattle.candidate_cover.specs.Cands.{width};
-ghost use Rattle.cover_core.specs.Waiting.{IsWaiting, IsKnownBelow};
+ghost use Rattle.cover_core.specs.Waiting.{IsWaiting};
 
 use candidate_cover::{Cand, CandidateCover};
 use rel_base::{ColSet, RowNo, Target};
@@ -23,14 +23,6 @@ pub(crate) struct Waiting {
 pub(crate) struct Sizes {
     pub(crate) least: u32,
     pub(crate) most: u32,
-}
-
-impl Sizes {
-    // Any number of columns.
-    const ANY: Sizes = Sizes {
-        least: 0,
-        most: u32::MAX,
-    };
 }
 
 // How many candidates there are.
@@ -96,37 +88,6 @@ fn push_waiting(
         }
     }
     Ok(())
-}
-
-// The unfinished candidates of a target that are known to hold below a number.
-pub(crate) fn known_below(
-    alloc: Global,
-    candidates: &CandidateCover,
-    target: Target,
-    order: &Order,
-    from: RowNo,
-    next: RowNo,
-) -> Result<Vec<Waiting>, AllocError>
-    requires { IsColumnTarget (width candidates.now) target }
-    ensures { IfOk result (λ list. All (IsKnownBelow candidates.now from) list.items) }
-{
-    let mut list = Vec::new(alloc);
-    push_waiting(
-        alloc,
-        candidates,
-        target,
-        order,
-        Sizes::ANY,
-        next,
-        &mut list,
-    )?;
-    let mut known = Vec::with_capacity(alloc, list.len())?;
-    for waiting in list.as_slice() {
-        if from <= waiting.cand.upto {
-            known.push(*waiting)?;
-        }
-    }
-    Ok(known)
 }
 
 // For so many candidates it is worth while to compare rows that came since they were validated with all rows: a row is compared with
