@@ -11,7 +11,7 @@ use Rattle.report_text.specs.Field.{columns_text, space}
 abbrev pub columns_tail : List ℕ → List ℕ
 columns_tail columns = flat_map (λ column. space ∷ decimal (column + 1)) columns
 
-join-tail : (column : ℕ) (columns : List ℕ) → join_with_byte space (map (λ c. decimal (c + 1)) (column ∷ columns)) ≡ decimal (column + 1) ++ columns_tail columns
+pub join-tail : (column : ℕ) (columns : List ℕ) → join_with_byte space (map (λ c. decimal (c + 1)) (column ∷ columns)) ≡ decimal (column + 1) ++ columns_tail columns
 join-tail column [] = sym (append-nil (decimal (column + 1)))
 join-tail column (next ∷ columns) = ap (λ t. decimal (column + 1) ++ (space ∷ t)) (join-tail next columns)
 

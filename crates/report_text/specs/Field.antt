@@ -6,6 +6,9 @@ use Rattle.report_text.specs.declared.field.Field.{Field}
 use Rattle.report_text.specs.declared.field.Field.TheVariants.{Bytes, Number}
 use Rattle.report_text.specs.declared.field.Field.TheVariants as field
 
+abbrev pub comma : ℕ
+comma = 44
+
 abbrev pub space : ℕ
 space = 32
 

@@ -1,5 +1,6 @@
 pub mod Line
 pub mod Field
+pub mod Numbers
 pub mod Report
 pub mod Inclusions
 pub mod Tables

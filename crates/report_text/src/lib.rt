@@ -6,7 +6,9 @@
 mod field;
 mod inclusion_lines;
 mod lines;
+mod number_texts;
 mod outcome_lines;
+mod plain_line;
 mod report_lines;
 mod table_lines;
 

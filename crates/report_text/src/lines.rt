@@ -9,6 +9,7 @@ use itoa::Buffer;
 use rel_base::Row;
 use std::alloc::{AllocError, Global};
 use std::marker::Model;
+use std::mem;
 
 /// Lines of a text, added one after another. Contracts see the text so far.
 ///
@@ -39,7 +40,7 @@ impl Lines {
         ensures { result ≡ [] }
     {
         Lines {
-            writer: new_writer(alloc),
+            writer: new_writer(Vec::new(alloc)),
             columns: Vec::new(alloc),
             alloc,
         }
@@ -58,6 +59,22 @@ impl Lines {
     // What new memory is asked of.
     pub(crate) fn allocator(&self) -> Global {
         self.alloc
+    }
+
+    // Takes the text out, and leaves no lines: these stand while lines are added to the text, and where memory is refused.
+    pub(crate) fn take_text(&mut self) -> Result<Vec<u8>, AllocError>
+        ensures text { IfOk result (λ text. text.items ≡ self.old) }
+        ensures left { self.new ≡ [] }
+    {
+        let writer = mem::replace(&mut self.writer, new_writer(Vec::new(self.alloc)));
+        writer.into_inner().map_err(|_| AllocError)
+    }
+
+    // Puts a text in the place of the lines.
+    pub(crate) fn put_text(&mut self, text: Vec<u8>)
+        ensures { self.new ≡ text.items }
+    {
+        self.writer = new_writer(text);
     }
 
     // Forgets all lines.
@@ -92,14 +109,12 @@ impl Lines {
     }
 }
 
-// A writer of no text yet.
-fn new_writer(alloc: Global) -> Writer<Vec<u8>>
+// A writer that goes on with this text, at the start of a line.
+fn new_writer(text: Vec<u8>) -> Writer<Vec<u8>>
     ensures at_line { IsAtLine result }
-    ensures text { text_in result ≡ [] }
+    ensures text { text_in result ≡ text.items }
 {
-    WriterBuilder::new()
-        .flexible(true)
-        .from_writer(Vec::new(alloc))
+    WriterBuilder::new().flexible(true).from_writer(text)
 }
 
 // Begins anew. It stays a call of its own: a function that has room for a second writer clears that room at each of its calls.
@@ -109,7 +124,7 @@ fn restart(alloc: Global, writer: &mut Writer<Vec<u8>>)
     ensures at_line { IsAtLine writer.new }
     ensures text { text_in writer.new ≡ [] }
 {
-    *writer = new_writer(alloc);
+    *writer = new_writer(Vec::new(alloc));
 }
 
 fn write_line(

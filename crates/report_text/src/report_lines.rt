@@ -5,6 +5,8 @@ ghost use Rattle.report_text.specs.Report.{report_text, column_line, key_line, f
 
 use crate::Lines;
 use crate::field::Field;
+use crate::number_texts::NumberTexts;
+use crate::plain_line::PlainLine;
 use rel_base::{ColSet, Covers, Fd, Name, Row};
 use std::alloc::{AllocError, Global};
 
@@ -68,9 +70,14 @@ impl Lines {
         ensures ok { OnOk result (self.new ≡ self.old ++ flat_map key_line keys.now) }
         ensures err { OnErr result (self.new ≡ []) }
     {
+        let mut text = self.take_text()?;
+        let numbers = NumberTexts::new();
+        let mut line = PlainLine::new();
         for key in keys {
-            self.push(&[Field::Bytes(b"key"), Field::Columns(*key)])?;
+            line.write_key(&numbers, *key);
+            text.extend_from_slice(line.as_slice())?;
         }
+        self.put_text(text);
         Ok(())
     }
 
@@ -78,13 +85,14 @@ impl Lines {
         ensures ok { OnOk result (self.new ≡ self.old ++ flat_map fd_line fds.now) }
         ensures err { OnErr result (self.new ≡ []) }
     {
+        let mut text = self.take_text()?;
+        let numbers = NumberTexts::new();
+        let mut line = PlainLine::new();
         for fd in fds {
-            self.push(&[
-                Field::Bytes(b"fd"),
-                Field::Columns(fd.left),
-                Field::Number(u64::from(fd.right) + 1),
-            ])?;
+            line.write_fd(&numbers, fd);
+            text.extend_from_slice(line.as_slice())?;
         }
+        self.put_text(text);
         Ok(())
     }
 }

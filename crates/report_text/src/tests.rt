@@ -21,6 +21,10 @@ fn expect_text(rt: &impl Abort, text: &Vec<u8>, expected: &str) {
     assert_eq!(rt; text.as_slice(), expected.as_bytes());
 }
 
+fn expect_end(rt: &impl Abort, text: &[u8], end: &[u8]) {
+    assert!(rt; text.ends_with(end));
+}
+
 fn check_report(rt: &impl Abort, alloc: Global) -> Result<(), AllocError> {
     let (id, city, zip) = (one(0), one(1), one(2));
     let fds = [
@@ -85,6 +89,72 @@ fn check_odd_report(rt: &impl Abort, alloc: Global) -> Result<(), AllocError> {
 fn empty_and_wide_column_sets_and_odd_names(rt: HostRuntime) -> Result<(), Fail> {
     if check_odd_report(&rt, rt.alloc()).is_err() {
         check_odd_report(&rt, rt.alloc())?;
+    }
+    Ok(())
+}
+
+// Lines that csv writes stand around those that need no quotes. A column's number has one digit, two or three, and the set may be empty.
+fn check_mixed_lines(rt: &impl Abort, alloc: Global) -> Result<(), AllocError> {
+    let edges = one(8).with(9).with(98).with(99).with(127);
+    let cases = [
+        (ColSet::empty(), 0, "key,\nfd,,1\n"),
+        (one(8), 8, "key,9\nfd,9,9\n"),
+        (one(9), 9, "key,10\nfd,10,10\n"),
+        (one(98), 98, "key,99\nfd,99,99\n"),
+        (one(99), 99, "key,100\nfd,100,100\n"),
+        (one(127), 127, "key,128\nfd,128,128\n"),
+        (edges, 255, "key,9 10 99 100 128\nfd,9 10 99 100 128,256\n"),
+    ];
+    let names = Row::copied(alloc, &[b"a,b"])?;
+    let file = name(alloc, "x\"y")?;
+    let mut lines = Lines::new(alloc);
+    let mut expected = String::new(alloc);
+    for (set, right, text) in cases {
+        let keys = Vec::from_slice(alloc, &[set])?;
+        let fds = Vec::from_slice(alloc, &[Fd { left: set, right }])?;
+        lines.push_report(&file, &names, 7, &Covers::of(keys, fds))?;
+        expected.push_str("relation,\"x\"\"y\",1,7\ncolumn,1,\"a,b\"\n")?;
+        expected.push_str(text)?;
+    }
+    let text = lines.into_text()?;
+    expect_text(rt, &text, expected.as_str());
+    Ok(())
+}
+
+#[test]
+fn keys_and_dependencies_stand_between_quoted_lines(rt: HostRuntime) -> Result<(), Fail> {
+    if check_mixed_lines(&rt, rt.alloc()).is_err() {
+        check_mixed_lines(&rt, rt.alloc())?;
+    }
+    Ok(())
+}
+
+// The longest line there is, and after it a short one in the same memory.
+fn check_longest_line(rt: &impl Abort, alloc: Global) -> Result<(), AllocError> {
+    let all = ColSet::all(128);
+    let fds = [
+        Fd {
+            left: all,
+            right: 255,
+        },
+        Fd {
+            left: one(4),
+            right: 5,
+        },
+    ];
+    let covers = Covers::of(Vec::from_slice(alloc, &[all])?, Vec::from_slice(alloc, &fds)?);
+    let names = Row::copied(alloc, &[])?;
+    let text = report(alloc, &name(alloc, "r")?, &names, 2, &covers)?;
+    let (head, key, fd, short_fd) = (15, 408, 411, 7);
+    assert_eq!(rt; text.len(), head + key + fd + short_fd);
+    expect_end(rt, text.as_slice(), b" 126 127 128,256\nfd,5,6\n");
+    Ok(())
+}
+
+#[test]
+fn a_line_of_all_columns_has_room(rt: HostRuntime) -> Result<(), Fail> {
+    if check_longest_line(&rt, rt.alloc()).is_err() {
+        check_longest_line(&rt, rt.alloc())?;
     }
     Ok(())
 }
