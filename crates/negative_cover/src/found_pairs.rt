@@ -1,5 +1,7 @@
 // Pairs of rows, one for each agree set that was found.
-ghost use Rattle.std.specs.Prelude.{◌≡◌, ◌<◌, [], IsTrue, Some, None, OnOk, IfOk, length, slice_index_or};
+ghost use Rattle.std.specs.Prelude.{◌≡◌, ◌<◌, [], IsTrue, OnOk, IfOk};
+ghost use Rattle.col_set.specs.Lists.{Listed};
+ghost use Rattle.negative_cover.specs.Witnesses.{sets_of};
 ghost use Rattle.negative_cover.specs.FoundPairs.{AreSeen, AreSetsSeen, HasAdded};
 
 use crate::Witness;
@@ -23,7 +25,7 @@ type AgreeSets = HashSet<ColSet, BuildHasherDefault<DefaultHasher>>;
 pub(crate) struct FoundPairs {
     pub(crate) pairs: Vec<Witness>,
     seen: AgreeSets,
-    recent: Vec<Option<ColSet>>,
+    recent: Vec<ColSet>,
 }
 
 impl FoundPairs {
@@ -35,24 +37,45 @@ impl FoundPairs {
         Ok(FoundPairs {
             pairs: Vec::new(alloc),
             seen: AgreeSets::with_hasher(alloc, BuildHasherDefault::new()),
-            recent: vec![in alloc; None; SLOTS]?,
+            recent: Vec::new(alloc),
         })
     }
 
     // Adds a pair where there is none with its agree set.
+    #[inline(always)]
     pub(crate) fn add(&mut self, pair: Witness) -> Result<(), AllocError>
         requires { AreSeen self.old }
         ensures seen { OnOk result (AreSeen self.new) }
         ensures added { OnOk result (HasAdded pair self.old.pairs.items self.new.pairs.items) }
     {
-        let slots = self.recent.len();
-        let slot = slot_of(pair.agree, slots);
-        let known = Some(pair.agree);
-        if self.recent[slot] == known {
+        let slot = slot_of(pair.agree);
+        if self.has_in(slot, pair.agree) {
             return Ok(());
         }
+        self.look_up(slot, pair)
+    }
+
+    // Whether a slot holds this agree set.
+    #[inline(always)]
+    fn has_in(&self, slot: usize, agree: ColSet) -> bool
+        requires { AreSeen self.now }
+        ensures { IsTrue result → Listed agree (sets_of self.now.pairs.items) }
+    {
+        slot < self.recent.len() && self.recent[slot] == agree
+    }
+
+    // Adds a pair where there is none with its agree set, which then stands in a slot. The first set that is found stands in all of them.
+    #[inline(never)]
+    fn look_up(&mut self, slot: usize, pair: Witness) -> Result<(), AllocError>
+        requires seen { AreSeen self.old }
+        requires slot { slot < SLOTS }
+        ensures seen { OnOk result (AreSeen self.new) }
+        ensures added { OnOk result (HasAdded pair self.old.pairs.items self.new.pairs.items) }
+    {
+        let agree = pair.agree;
         add_unseen(&mut self.pairs, &mut self.seen, pair)?;
-        self.recent[slot] = known;
+        self.recent.resize(SLOTS, agree)?;
+        self.recent[slot] = agree;
         Ok(())
     }
 }
@@ -75,11 +98,11 @@ fn add_unseen(
     Ok(())
 }
 
-// The slot of an agree set, of so many.
-fn slot_of(agree: ColSet, slots: usize) -> usize
-    requires { 0 < slots }
-    ensures { result < slots }
+// The slot of an agree set.
+#[inline(always)]
+fn slot_of(agree: ColSet) -> usize
+    ensures { result < SLOTS }
 {
     let hash = BuildHasherDefault::<FoldHasher>::new().hash_one(agree);
-    hash as usize & (slots - 1)
+    hash as usize & (SLOTS - 1)
 }
