@@ -11,7 +11,7 @@ use std::collections::HashSet;
 use std::hash::{BuildHasher, BuildHasherDefault, DefaultHasher, FoldHasher};
 
 // How many agree sets are remembered as seen lately, a power of two.
-const SLOTS: usize = 512;
+const SLOTS: usize = 1024;
 
 // The agree sets that were found. The hash is SipHash with a fixed key.
 type AgreeSets = HashSet<ColSet, BuildHasherDefault<DefaultHasher>>;
@@ -41,41 +41,27 @@ impl FoundPairs {
         })
     }
 
-    // Adds a pair where there is none with its agree set.
+    // Whether a pair with this agree set is known to be there. Where it is not known, there may be one all the same.
     #[inline(always)]
-    pub(crate) fn add(&mut self, pair: Witness) -> Result<(), AllocError>
-        requires { AreSeen self.old }
-        ensures seen { OnOk result (AreSeen self.new) }
-        ensures added { OnOk result (HasAdded pair self.old.pairs.items self.new.pairs.items) }
-    {
-        let slot = slot_of(pair.agree);
-        if self.has_in(slot, pair.agree) {
-            return Ok(());
-        }
-        self.look_up(slot, pair)
-    }
-
-    // Whether a slot holds this agree set.
-    #[inline(always)]
-    fn has_in(&self, slot: usize, agree: ColSet) -> bool
+    pub(crate) fn is_recent(&self, agree: ColSet) -> bool
         requires { AreSeen self.now }
         ensures { IsTrue result → Listed agree (sets_of self.now.pairs.items) }
     {
+        let slot = slot_of(agree);
         slot < self.recent.len() && self.recent[slot] == agree
     }
 
-    // Adds a pair where there is none with its agree set, which then stands in a slot. The first set that is found stands in all of them.
+    // Adds a pair where there is none with its agree set, which is known from then on. The first agree set stands in all slots.
     #[inline(never)]
-    fn look_up(&mut self, slot: usize, pair: Witness) -> Result<(), AllocError>
-        requires seen { AreSeen self.old }
-        requires slot { slot < SLOTS }
+    pub(crate) fn add(&mut self, pair: Witness) -> Result<(), AllocError>
+        requires { AreSeen self.old }
         ensures seen { OnOk result (AreSeen self.new) }
         ensures added { OnOk result (HasAdded pair self.old.pairs.items self.new.pairs.items) }
     {
         let agree = pair.agree;
         add_unseen(&mut self.pairs, &mut self.seen, pair)?;
         self.recent.resize(SLOTS, agree)?;
-        self.recent[slot] = agree;
+        self.recent[slot_of(agree)] = agree;
         Ok(())
     }
 }

@@ -13,7 +13,7 @@ use rel_base::{MOST_COLUMNS, RowNo, Snapshot};
 use std::alloc::{AllocError, Global};
 
 // The codes of so many rows that come earlier are gathered at once, and stay in the processor's nearest memory meanwhile.
-const BLOCK: u32 = 256;
+const BLOCK: u32 = 1024;
 
 // What stands behind the codes of rows that come earlier, and behind those of the late ones: never the same.
 const EARLY_PADDING: u32 = 0;
@@ -32,8 +32,12 @@ fn compare(first: &CodedRow, second: &CodedRow, found: &mut FoundPairs) -> Resul
     if second.number <= first.number {
         return Ok(());
     }
+    let agree = agree_blocks(first.codes, second.codes);
+    if found.is_recent(agree) {
+        return Ok(());
+    }
     found.add(Witness {
-        agree: agree_blocks(first.codes, second.codes),
+        agree,
         i: first.number,
         j: second.number,
     })?;

@@ -1,6 +1,8 @@
+ghost use Rattle.std.specs.Prelude.{◌≡◌, ◌<◌, ◌≤◌, ◌+◌, IfOk, length};
+
 use crate::{Concerned, NegativeCover, Witness, all_pairs, ended};
-use rel_base::{Batch, Codes, ColSet, Op, Row, RowNo, Snapshot, Target};
-use std::alloc::Global;
+use rel_base::{Batch, Codes, ColSet, MOST_COLUMNS, Op, Row, RowNo, Snapshot, Target};
+use std::alloc::{AllocError, Global};
 use std::process::Abort;
 use std::test::Fail;
 
@@ -147,5 +149,56 @@ fn late_rows_are_compared_with_all_and_no_agree_set_is_found_twice(
     assert!(rt; first.agree == ColSet::empty().with(1) && second.agree == ColSet::all(2));
     let none = all_pairs(alloc, &snapshot, RowNo::of(5))?;
     assert!(rt; none.is_empty());
+    Ok(())
+}
+
+const MOST_TEST_ROWS: u32 = 1000000;
+
+// Codes that look drawn at random, of so many values.
+fn draw(codes: &mut [u32], seed: u32, values: u32)
+    requires { 0 < values }
+{
+    let mut state = seed;
+    for code in codes.iter_mut() {
+        state = state.wrapping_mul(1664525).wrapping_add(1013904223);
+        *code = (state >> 16) % values;
+    }
+}
+
+fn drawn(alloc: Global, rows: u32, seed: u32, values: u32) -> Result<Codes, AllocError>
+    requires { 0 < values }
+    ensures { IfOk result (λ codes. length codes ≡ rows) }
+{
+    let mut codes = vec![in alloc; 0; rows as usize]?;
+    draw(&mut codes, seed, values);
+    Ok(Codes::of(codes))
+}
+
+// Row 2 is deleted.
+fn table(alloc: Global, columns: u8, rows: u32, values: u32) -> Result<Snapshot, AllocError>
+    requires columns { 0 < columns }
+    requires narrow { columns ≤ MOST_COLUMNS }
+    requires rows { 2 ≤ rows }
+    requires few { rows ≤ MOST_TEST_ROWS }
+    requires values { 0 < values }
+    ensures { IfOk result (λ snapshot. snapshot.to ≡ rows + 1) }
+{
+    let mut codes = Vec::new(alloc);
+    for column in 0..columns {
+        codes.push(drawn(alloc, rows, column as u32, values)?)?;
+    }
+    let mut live = vec![in alloc; true; rows as usize]?;
+    live[1] = false;
+    Ok(Snapshot::of(codes, live, RowNo::of(rows + 1)))
+}
+
+#[test]
+fn bench_twelve(rt: HostRuntime) -> Result<(), Fail> {
+    let alloc = rt.alloc();
+    let snapshot = table(alloc, 12, 100000, 20)?;
+    for _ in 0..100 {
+        let found = all_pairs(alloc, &snapshot, RowNo::of(99991))?;
+        assert!(rt; found.len() > 1);
+    }
     Ok(())
 }
