@@ -1,5 +1,5 @@
 // All pairs of live rows of which the later one is among few, compared by their codes.
-ghost use Rattle.std.specs.Prelude.{◌≡◌, ◌≢◌, ◌<◌, ◌≤◌, ◌%◌, ◌∷◌, [], ℕ, List, IsTrue, OnOk, IfOk, length, take};
+ghost use Rattle.std.specs.Prelude.{◌≡◌, ◌≢◌, ◌<◌, ◌≤◌, ◌%◌, ◌∷◌, [], ℕ, OnOk, IfOk, length};
 ghost use Rattle.rel_base.specs.CodeTable.{CodeTable};
 ghost use Rattle.negative_cover.specs.AllPairs.{AreAllPairs};
 ghost use Rattle.negative_cover.specs.CodedRows.{IsCodedRow, AreCodedRows, IsShaped};
@@ -13,13 +13,14 @@ use rel_base::{MOST_COLUMNS, RowNo, Snapshot};
 use std::alloc::{AllocError, Global};
 
 // The codes of so many rows that come earlier are gathered at once, and stay in the processor's nearest memory meanwhile.
-const BLOCK: u32 = 512;
+const BLOCK: u32 = 1024;
 
 // What stands behind the codes of rows that come earlier, and behind those of the late ones: never the same.
 const EARLY_PADDING: u32 = 0;
 const LATE_PADDING: u32 = 1;
 
 // Adds what two rows agree on, where the first one comes before the second and nothing that was found is of the same agree set.
+#[inline(always)]
 fn compare(first: &CodedRow, second: &CodedRow, found: &mut FoundPairs) -> Result<(), AllocError>
     requires same { length first.now.codes.now ≡ length second.now.codes.now }
     requires few { length first.now.codes.now ≤ MOST_COLUMNS }
@@ -31,47 +32,16 @@ fn compare(first: &CodedRow, second: &CodedRow, found: &mut FoundPairs) -> Resul
     if second.number <= first.number {
         return Ok(());
     }
+    let agree = agree_blocks(first.codes, second.codes);
+    if found.is_recent(agree) {
+        return Ok(());
+    }
     found.add(Witness {
-        agree: agree_blocks(first.codes, second.codes),
+        agree,
         i: first.number,
         j: second.number,
     })?;
     Ok(())
-}
-
-// Whether `compare` would add nothing, as far as is known.
-#[inline(always)]
-fn is_known(first: &CodedRow, second: &CodedRow, found: &FoundPairs) -> bool
-    requires same { length first.now.codes.now ≡ length second.now.codes.now }
-    requires few { length first.now.codes.now ≤ MOST_COLUMNS }
-    requires whole { length first.now.codes.now % LANES ≡ 0 }
-    requires seen { AreSeen found.now }
-    ensures { IsTrue result → (s : CodeTable) (p q : ℕ) → p ≢ q → IsCodedRow s p first.now.number first.now.codes.now → IsCodedRow s q second.now.number second.now.codes.now → HasCompared s (first.now.number ∷ []) (second.now.number ∷ []) found.now.pairs.items found.now.pairs.items }
-{
-    if second.number <= first.number {
-        return true;
-    }
-    found.is_recent(agree_blocks(first.codes, second.codes))
-}
-
-// The place from one on of the first late row of which it is not known that `compare` would add nothing, or how many there are. Most pairs
-// are known, and nothing is written while they are passed, so this loop is where the time goes, and it keeps all in registers.
-#[inline(never)]
-fn next_unknown(first: &CodedRow, late: &CodedRows, place: usize, found: &FoundPairs) -> usize
-    requires same { length first.now.codes.now ≡ late.now.width }
-    requires late { IsShaped late.now }
-    requires place { place ≤ length late.now.numbers.items }
-    requires seen { AreSeen found.now }
-    ensures within { result ≤ length late.now.numbers.items }
-    ensures compared { (s : CodeTable) (p q : ℕ) (old : List Witness) → p ≢ q → IsCodedRow s p first.now.number first.now.codes.now → AreCodedRows s q late.now → HasCompared s (first.now.number ∷ []) (take place late.now.numbers.items) old found.now.pairs.items → HasCompared s (first.now.number ∷ []) (take result late.now.numbers.items) old found.now.pairs.items }
-    ensures further { place ≤ result }
-{
-    for next in place..late.len() {
-        if !is_known(first, &late.row(next), found) {
-            return next;
-        }
-    }
-    late.len()
 }
 
 // Adds what a row and each of these after it agree on.
@@ -86,10 +56,8 @@ fn push_pairs_with(
     ensures seen { OnOk result (AreSeen found.new) }
     ensures compared { OnOk result ((s : CodeTable) (p q : ℕ) → p ≢ q → IsCodedRow s p first.now.number first.now.codes.now → AreCodedRows s q late.now → HasCompared s (first.now.number ∷ []) late.now.numbers.items found.old.pairs.items found.new.pairs.items) }
 {
-    let mut place = next_unknown(first, late, 0, found);
-    while place < late.len() {
+    for place in 0..late.len() {
         compare(first, &late.row(place), found)?;
-        place = next_unknown(first, late, place + 1, found);
     }
     Ok(())
 }
