@@ -18,7 +18,7 @@ pub const LANES: usize = 16;
 /// How many of the codes that are left over are compared at once.
 const FEW_LANES: usize = 4;
 
-/// The bits of so many blocks of `LANES` codes fill one word.
+/// The bits of so many blocks fill one word.
 const WORD_BLOCKS: usize = 4;
 
 /// The places at which two rows of codes are equal, as a set of columns: the columns in which the rows agree where each
@@ -37,8 +37,8 @@ pub fn agree_codes(a: &[u32], b: &[u32]) -> ColSet
 
 /// What `agree_codes` answers, of two rows that have a whole number of blocks of `LANES` codes.
 ///
-/// It takes no memory. Nothing is left over behind the blocks, so each pair of short rows takes a step or two where `agree_codes` takes
-/// one for each four columns. A caller that compares the same rows many times fills them up with codes that agree nowhere.
+/// It takes no memory, and a step for each block: nothing is left over behind the blocks. It is for a caller that compares the same rows
+/// many times, and fills them up with codes that agree nowhere.
 #[inline(always)]
 pub fn agree_blocks(a: &[u32], b: &[u32]) -> ColSet
     requires same { length a.now ≡ length b.now }
@@ -46,29 +46,28 @@ pub fn agree_blocks(a: &[u32], b: &[u32]) -> ColSet
     requires whole { length a.now % LANES ≡ 0 }
     ensures { result ≡ agree_set a.now b.now }
 {
-    ColSet::of_bits(agreement_of_blocks(a, b))
+    ColSet::of_bits(whole_blocks(a, b, a.len() / LANES))
 }
 
-// The number whose bit k says whether the rows have the same code at place k, where no code is left over behind the blocks.
+// What the rows agree on in so many whole blocks, as bits.
 #[inline(always)]
-fn agreement_of_blocks(a: &[u32], b: &[u32]) -> u128
+fn whole_blocks(a: &[u32], b: &[u32], blocks: usize) -> u128
     requires same { length a.now ≡ length b.now }
+    requires within { LANES * blocks ≤ length a.now }
     requires few { length a.now ≤ MOST_COLUMNS }
-    requires whole { length a.now % LANES ≡ 0 }
-    ensures { result ≡ agreement_bits a.now b.now }
+    ensures { result ≡ agreement_bits (take (LANES * blocks) a.now) (take (LANES * blocks) b.now) }
 {
-    let blocks = a.len() / LANES;
     let first = blocks.min(WORD_BLOCKS);
-    let mut bits = first_agreement(a, b, first) as u128;
+    let mut bits = first_blocks(a, b, first) as u128;
     for k in first..blocks {
         bits = joined(bits, LANES * k, block(a, b, LANES * k), LANES);
     }
     bits
 }
 
-// The bits of the first blocks, in one word: shifts in a word are cheaper than those in two.
+// What the rows agree on in the first blocks, as bits of one word: shifts in a word are cheaper than those in two.
 #[inline(always)]
-fn first_agreement(a: &[u32], b: &[u32], blocks: usize) -> u64
+fn first_blocks(a: &[u32], b: &[u32], blocks: usize) -> u64
     requires same { length a.now ≡ length b.now }
     requires within { LANES * blocks ≤ length a.now }
     requires word { blocks ≤ WORD_BLOCKS }
@@ -100,10 +99,7 @@ fn agreement(a: &[u32], b: &[u32]) -> u128
 {
     let blocks = a.len() / LANES;
     let fours = a.len() / FEW_LANES;
-    let mut bits = 0;
-    'whole: for k in 0..blocks {
-        bits = joined(bits, LANES * k, block(a, b, LANES * k), LANES);
-    }
+    let mut bits = whole_blocks(a, b, blocks);
     'fours: for k in LANES / FEW_LANES * blocks..fours {
         bits = joined(bits, FEW_LANES * k, four(a, b, FEW_LANES * k), FEW_LANES);
     }

@@ -20,7 +20,8 @@ type AgreeSets = HashSet<ColSet, BuildHasherDefault<DefaultHasher>>;
 //
 // Most pairs of rows have an agree set that others had shortly before. So each agree set is first looked up in one slot of a small table,
 // by a hash that is one multiplication. That it is not there only costs a look-up in the set of all that were found, whose hash resists
-// rows that were chosen to collide.
+// rows that were chosen to collide. The table has no slots until a set is found, and from then on each slot has one that was found: so a
+// slot needs no mark that it is in use.
 #[derive(Drop)]
 pub(crate) struct FoundPairs {
     pub(crate) pairs: Vec<Witness>,
@@ -51,7 +52,8 @@ impl FoundPairs {
         slot < self.recent.len() && self.recent[slot] == agree
     }
 
-    // Adds a pair where there is none with its agree set, which is known from then on. The first agree set stands in all slots.
+    // Adds a pair where there is none with its agree set, which is recent from then on. Few pairs come here: it stays out of the loops over
+    // all of them.
     #[inline(never)]
     pub(crate) fn add(&mut self, pair: Witness) -> Result<(), AllocError>
         requires { AreSeen self.old }

@@ -12,11 +12,13 @@ use agree_sets::{LANES, agree_blocks};
 use rel_base::{MOST_COLUMNS, RowNo, Snapshot};
 use std::alloc::{AllocError, Global};
 
-// The codes of so many rows that come earlier are gathered at once, and stay in the processor's nearest memory meanwhile.
-const BLOCK: u32 = 1024;
+// The codes of so many rows that come earlier are gathered at once, and stay in the processor's near memory meanwhile.
+const BLOCK: u32 = 512;
 
-// What stands behind the codes of rows that come earlier, and behind those of the late ones: never the same.
+// What stands behind the codes of the rows that come earlier, and behind those of the late ones: never the same, so that no place behind
+// the codes is taken for a column in which rows agree.
 const EARLY_PADDING: u32 = 0;
+
 const LATE_PADDING: u32 = 1;
 
 // Adds what two rows agree on, where the first one comes before the second and nothing that was found is of the same agree set.
@@ -90,8 +92,9 @@ fn block_end(start: RowNo, to: RowNo) -> RowNo
 /// all candidates that only rows from that number on may break.
 ///
 /// A step for each row of the snapshot and column gathers codes, and each pair takes a step for sixteen columns. The codes of the rows
-/// from the number on are copied, four bytes each, and those of the rows before them block by block; a set of the agree sets
-/// is kept besides. The only error is want of memory.
+/// from the number on are copied, four bytes each and as many for each row as fill the last sixteen, and those of the rows before them
+/// block by block; a set of the agree sets is kept besides, and a small table of those that were found last. The only error is want of
+/// memory.
 pub fn all_pairs(
     alloc: Global,
     snapshot: &Snapshot,

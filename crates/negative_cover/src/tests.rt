@@ -192,13 +192,76 @@ fn table(alloc: Global, columns: u8, rows: u32, values: u32) -> Result<Snapshot,
     Ok(Snapshot::of(codes, live, RowNo::of(rows + 1)))
 }
 
-#[test]
-fn bench_twelve(rt: HostRuntime) -> Result<(), Fail> {
-    let alloc = rt.alloc();
-    let snapshot = table(alloc, 12, 100000, 20)?;
-    for _ in 0..100 {
-        let found = all_pairs(alloc, &snapshot, RowNo::of(99991))?;
-        assert!(rt; found.len() > 1);
+// What two rows agree on, compared column by column.
+fn agree_plainly(snapshot: &Snapshot, i: RowNo, j: RowNo) -> ColSet
+    requires first { i < snapshot.now.to }
+    requires second { j < snapshot.now.to }
+{
+    let mut agree = ColSet::empty();
+    for column in 0..snapshot.columns() {
+        if snapshot.code(i, column) == snapshot.code(j, column) {
+            agree = agree.with(column);
+        }
     }
+    agree
+}
+
+// What two live rows agree on was found.
+fn is_told(snapshot: &Snapshot, i: RowNo, j: RowNo, found: &[Witness]) -> bool
+    requires first { i < snapshot.now.to }
+    requires second { j < snapshot.now.to }
+{
+    if !snapshot.is_live(i) || !snapshot.is_live(j) {
+        return true;
+    }
+    let agree = agree_plainly(snapshot, i, j);
+    found.iter().any(|pair| pair.agree == agree)
+}
+
+// Each late row and each before it.
+fn all_are_told(snapshot: &Snapshot, from: u32, found: &[Witness]) -> bool
+    requires { 0 < from }
+{
+    let to = snapshot.to().number();
+    for j in from..to {
+        for i in 1..j {
+            if !is_told(snapshot, RowNo::of(i), RowNo::of(j), found) {
+                return false;
+            }
+        }
+    }
+    true
+}
+
+fn are_as_compared_plainly(rt: &impl Abort, snapshot: &Snapshot, found: &[Witness]) {
+    for pair in found.iter() {
+        assert!(rt; pair.i < pair.j && pair.j < snapshot.to());
+        assert!(rt; pair.agree == agree_plainly(snapshot, pair.i, pair.j));
+    }
+}
+
+// From fewer columns than a block of codes has to all of eight blocks.
+#[test]
+fn paddings_agree_nowhere(rt: HostRuntime) -> Result<(), Fail> {
+    let alloc = rt.alloc();
+    for columns in [1u8, 3, 4, 5, 16, 17, 128] {
+        let snapshot = table(alloc, columns, 9, 2)?;
+        for from in [1, 7] {
+            let found = all_pairs(alloc, &snapshot, RowNo::of(from))?;
+            assert!(rt; all_are_told(&snapshot, from, &found));
+            are_as_compared_plainly(&rt, &snapshot, &found);
+        }
+    }
+    Ok(())
+}
+
+// More rows than one block takes.
+#[test]
+fn late_rows_meet_each_block_of_rows(rt: HostRuntime) -> Result<(), Fail> {
+    let alloc = rt.alloc();
+    let snapshot = table(alloc, 5, 1100, 3)?;
+    let found = all_pairs(alloc, &snapshot, RowNo::of(1099))?;
+    assert!(rt; all_are_told(&snapshot, 1099, &found));
+    are_as_compared_plainly(&rt, &snapshot, &found);
     Ok(())
 }

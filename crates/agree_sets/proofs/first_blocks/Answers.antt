@@ -1,6 +1,6 @@
-use Rattle.std.proofs.Common.{arith, ◌*◌, ◌+◌, ◌≤◌, ◌<◌, length}
+use Rattle.std.proofs.Common.{arith, ◌*◌, ◌+◌, ◌≤◌, length}
 use Rattle.agree_sets.proofs.Masks.{set-lt, set-more}
-use Rattle.agree_sets.proofs.first_agreement.Goals as goal
+use Rattle.agree_sets.proofs.first_blocks.Goals as goal
 
 pub joined_in_word-bits-requires-clause-bits : goal.joined_in_word-bits-requires-clause-bits
 joined_in_word-bits-requires-clause-bits c =
