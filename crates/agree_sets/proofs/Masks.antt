@@ -38,18 +38,29 @@ agreement_bits-lt n xs ys a b =
     let e = length-zip2 eqb xs ys (a ∙ sym b) ∙ a in
     subst (λ k. agreement_bits xs ys < 2 ^ k) e (mask_l-lt (zip2 eqb xs ys))
 
--- bits above others fit
-pub above-fits : (set at more width : ℕ) → set < 2 ^ at → more < 2 ^ width → at + width ≤ 128 → more * 2 ^ at + set < 2 ^ 128
-above-fits set at more width a b room =
+-- bits above others fit in as many as hold both
+above-fit : (most set at more width : ℕ) → set < 2 ^ at → more < 2 ^ width → at + width ≤ most → more * 2 ^ at + set < 2 ^ most
+above-fit most set at more width a b room =
     let small : more * 2 ^ at + set < 2 ^ width * 2 ^ at = digits_lt b a in
     let e : 2 ^ (width + at) ≡ 2 ^ width * 2 ^ at = pow-add 2 width at in
-    let mono : 2 ^ (width + at) ≤ 2 ^ 128 = pow_mono {i = width + at} {j = 128} (omega arith) in
+    let mono : 2 ^ (width + at) ≤ 2 ^ most = pow_mono {i = width + at} {j = most} (omega arith) in
     omega (arith, small, e, mono)
+
+pub above-fits : (set at more width : ℕ) → set < 2 ^ at → more < 2 ^ width → at + width ≤ 128 → more * 2 ^ at + set < 2 ^ 128
+above-fits = above-fit 128
+
+pub above-fits_word : (set at more width : ℕ) → set < 2 ^ at → more < 2 ^ width → at + width ≤ 64 → more * 2 ^ at + set < 2 ^ 64
+above-fits_word = above-fit 64
 
 -- a shift of such bits loses none
 pub shift-exact : (set at more width : ℕ) → set < 2 ^ at → more < 2 ^ width → at + width ≤ 128 → more * 2 ^ at % 2 ^ 128 ≡ 2 ^ at * more
 shift-exact set at more width a b room =
     let fits = above-fits set at more width a b room in
+    mod-eq_of_lt (omega (arith, fits)) ∙ mul_comm more (2 ^ at)
+
+pub shift-exact_word : (set at more width : ℕ) → set < 2 ^ at → more < 2 ^ width → at + width ≤ 64 → more * 2 ^ at % 2 ^ 64 ≡ 2 ^ at * more
+shift-exact_word set at more width a b room =
+    let fits = above-fits_word set at more width a b room in
     mod-eq_of_lt (omega (arith, fits)) ∙ mul_comm more (2 ^ at)
 
 -- a set that is the agreement_bits of the first n places

@@ -1,6 +1,9 @@
 // The answers where each block and the rest begin and end.
-use crate::agree_codes;
+ghost use Rattle.std.specs.Prelude.{◌<◌, ◌≤◌, ◌*◌};
+
+use crate::{LANES, agree_blocks, agree_codes};
 use rel_base::{COLUMN_PLACES, ColSet, MOST_COLUMNS};
+use std::process::Abort;
 use std::test::Fail;
 
 #[test]
@@ -29,5 +32,27 @@ fn a_row_of_128_codes_agrees_with_itself(rt: HostRuntime) -> Result<(), Fail> {
             .without(64)
             .without(127)
     );
+    Ok(())
+}
+
+// Rows of so many blocks agree but at their last place.
+fn blocks_agree_but_for_the_last_place(rt: &impl Abort, blocks: usize)
+    requires some { 0 < blocks }
+    requires few { LANES * blocks ≤ MOST_COLUMNS }
+{
+    let row = [5u32; COLUMN_PLACES];
+    let mut other = [5u32; COLUMN_PLACES];
+    let codes = LANES * blocks;
+    other[codes - 1] = 6;
+    let agree = agree_blocks(&row[..codes], &other[..codes]);
+    assert!(rt; agree == ColSet::all(codes as u8 - 1));
+}
+
+#[test]
+fn whole_blocks_agree_block_by_block(rt: HostRuntime) -> Result<(), Fail> {
+    assert!(rt; agree_blocks(&[], &[]) == ColSet::empty());
+    for blocks in 1..COLUMN_PLACES / LANES + 1 {
+        blocks_agree_but_for_the_last_place(&rt, blocks);
+    }
     Ok(())
 }

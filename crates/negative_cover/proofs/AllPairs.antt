@@ -1,12 +1,15 @@
 -- Rows that are compared with one another, block by block.
-use Rattle.std.proofs.Common.{inl, inr, ◌≡◌, ◌⊎◌, ℕ, ◌<◌, ◌≤◌, eqb, true, sym, ap, ap₂, ◌∙◌, subst, arith, List, [], ◌∷◌, ◌++◌, length, get_or}
-use Rattle.std.specs.List.{All, filter}
-use Rattle.std.proofs.lemmas.Bool.{cases_lt}
+use Rattle.std.proofs.Common.{inl, inr, ◌≡◌, ◌⊎◌, ℕ, ◌<◌, ◌≤◌, ◌≢◌, eqb, true, sym, ap, ap₂, ◌∙◌, subst, arith, List, [], ◌∷◌, ◌++◌, length, get_or}
+use Rattle.std.specs.List.{All}
+use Rattle.std.proofs.lemmas.Bool.{cases_lt, eqb-true, eq-eqb}
 use Rattle.std.proofs.lemmas.List.Elements.{All-push}
-use Rattle.col_set.specs.ColSet.{set_of, upto}
-use Rattle.col_set.specs.AllSets.{Listed-upto_within}
-use Rattle.col_set.specs.Lists.{Listed, Listed-append_cases, filter_same}
+use Rattle.col_set.specs.ColSet.{has, upto}
+use Rattle.col_set.specs.Members.{same_set}
+use Rattle.col_set.specs.Subsets.{same_test}
+use Rattle.col_set.specs.AllSets.{set_of-has, has-set_of, Listed-upto, Listed-upto_within}
+use Rattle.col_set.specs.Lists.{Listed, Listed-append_cases, Listed-filter, Listed-filter_parts}
 use Rattle.agree_sets.specs.Agreement.{agree_set}
+use Rattle.agree_sets.proofs.Places.{agree_set-parts, agree_set-from}
 use Rattle.rel_base.specs.CodeTable.{CodeTable, code_at, live_at}
 use Rattle.rel_base.specs.Shows.{code_agree}
 use Rattle.rel_base.proofs.States.{All-from}
@@ -19,12 +22,29 @@ use Rattle.negative_cover.proofs.FoundPairs.{added_kept}
 
 module _ (s : CodeTable) where
   -- ---- two rows
-  agree_set-coded : (i j : ℕ) (a b : List ℕ) → IsCodedRow s i a → IsCodedRow s j b → agree_set a b ≡ code_agree s i j
-  unfolding agree_set code_agree
-  agree_set-coded i j a b p q =
-      ap (λ (n : ℕ). set_of (filter (λ k. eqb (get_or a k 0) (get_or b k 0)) (upto n))) p.count
-      ∙ ap set_of (filter_same (λ k. eqb (get_or a k 0) (get_or b k 0)) (λ k. eqb (code_at s i k) (code_at s j k)) (upto (length s.codes))
-      (λ k h. let l = Listed-upto_within (length s.codes) k h in ap₂ eqb (p.each k l) (q.each k l)))
+  code_agree-parts : (i j k : ℕ) → has (code_agree s i j) k ≡ true → (k < length s.codes) × (code_at s i k ≡ code_at s j k)
+  unfolding code_agree
+  code_agree-parts i j k h =
+      let w = Listed-filter_parts (λ c. eqb (code_at s i c) (code_at s j c)) k (upto (length s.codes)) (set_of-has k _ h) in
+      (Listed-upto_within (length s.codes) k w.0, eqb-true _ _ w.1)
+
+  code_agree-from : (i j k : ℕ) → k < length s.codes → code_at s i k ≡ code_at s j k → has (code_agree s i j) k ≡ true
+  unfolding code_agree
+  code_agree-from i j k l e = has-set_of k _ (Listed-filter (λ c. eqb (code_at s i c) (code_at s j c)) k (upto (length s.codes)) (Listed-upto (length s.codes) k l) (eq-eqb _ _ e))
+
+  -- codes with paddings that differ agree where the rows do
+  agree_set-coded : (p q i j : ℕ) (a b : List ℕ) → p ≢ q → length a ≡ length b → IsCodedRow s p i a → IsCodedRow s q j b → agree_set a b ≡ code_agree s i j
+  agree_set-coded p q i j a b apart same f g = same_set _ _ (λ k. same_test _ _ (into k) (out k))
+    where
+      at : (k : ℕ) → k < length a → get_or a k 0 ≡ get_or b k 0 → (k < length s.codes) ⊎ (length s.codes ≤ k) → has (code_agree s i j) k ≡ true
+      at k m e (inl l) = code_agree-from i j k l (sym (f.each k l) ∙ e ∙ g.each k l)
+      at k m e (inr r) = absurd (apart (sym (f.rest k r m) ∙ e ∙ g.rest k r (omega arith)))
+
+      into : (k : ℕ) → has (agree_set a b) k ≡ true → has (code_agree s i j) k ≡ true
+      into k h = let w = agree_set-parts a b k h in at k w.0 w.1 (cases_lt k (length s.codes))
+
+      out : (k : ℕ) → has (code_agree s i j) k ≡ true → has (agree_set a b) k ≡ true
+      out k h = let w = code_agree-parts i j k h in let l = w.0 in let m = f.room in agree_set-from a b k (omega arith) (f.each k w.0 ∙ w.1 ∙ sym (g.each k w.0))
 
   pub compared_not : (i j : ℕ) (found : List Witness) → j ≤ i → HasCompared s (i ∷ []) (j ∷ []) found found
   compared_not i j found l = record { kept = λ z h. h; each = λ a. a; told = λ x y h g m. absurd (at x y h g m) }
@@ -34,23 +54,23 @@ module _ (s : CodeTable) where
       at x y (inr h) g m = absurd h
       at x y (inl e) (inr g) m = absurd g
 
-  pub compared_pair : (i j : ℕ) (a b : List ℕ) (pair : Witness) (old new : List Witness) → i < j → pair.i ≡ i → pair.j ≡ j → pair.agree ≡ agree_set a b → HasAdded pair old new → IsCodedRow s i a → IsCodedRow s j b
+  pub compared_pair : (p q i j : ℕ) (a b : List ℕ) (pair : Witness) (old new : List Witness) → p ≢ q → length a ≡ length b → i < j → pair.i ≡ i → pair.j ≡ j → pair.agree ≡ agree_set a b → HasAdded pair old new → IsCodedRow s p i a → IsCodedRow s q j b
       → HasCompared s (i ∷ []) (j ∷ []) old new
-  compared_pair i j a b pair old new l first second agree added p q = record {
+  compared_pair p q i j a b pair old new apart same l first second agree added f g = record {
     kept = added_kept pair old new added;
     each = λ all. grown all added.grown;
-    told = λ x y h g m. at x y h g;
+    told = λ x y h m n. at x y h m;
   }
     where
       agrees : pair.agree ≡ code_agree s i j
-      agrees = agree ∙ agree_set-coded i j a b p q
+      agrees = agree ∙ agree_set-coded p q i j a b apart same f g
 
       is : IsCodePair s pair
-      is = let m = p.positive in record {
+      is = let m = f.positive in record {
         positive = omega arith;
         rising = omega arith;
-        first = ap (live_at s) first ∙ p.live;
-        second = ap (live_at s) second ∙ q.live;
+        first = ap (live_at s) first ∙ f.live;
+        second = ap (live_at s) second ∙ g.live;
         agrees = agrees ∙ ap₂ (code_agree s) (sym first) (sym second);
       }
 

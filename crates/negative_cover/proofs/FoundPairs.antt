@@ -1,10 +1,8 @@
 -- Agree sets that were seen, and pairs that are added.
-use Rattle.std.proofs.Common.{inl, inr, ◌≡◌, ◌⊎◌, ℕ, ◌<◌, eqb, true, refl, sym, ap, ◌∙◌, subst, List, [], ◌∷◌, ◌++◌, length, get_or, set, IsPermutation}
-use Rattle.std.specs.Prelude.{Option, Some, None}
-use Rattle.std.specs.List.{list_any}
-use Rattle.std.specs.Option.{option_eq}
-use Rattle.std.proofs.lemmas.Bool.{eqb-true, true≢false, cases_eq}
-use Rattle.std.proofs.lemmas.List.{get_or_default, get_or-set_same, get_or-set_other}
+use Rattle.std.proofs.Common.{inl, inr, ◌≡◌, ℕ, ◌<◌, eqb, true, refl, sym, ◌∙◌, subst, List, [], ◌∷◌, ◌++◌, length, get_or, set, take, replicate, IsPermutation}
+use Rattle.std.specs.List.{All, list_any}
+use Rattle.std.proofs.lemmas.Bool.{eqb-true}
+use Rattle.std.proofs.lemmas.List.Elements.{All-append, All-replicate, All-set, All-take}
 use Rattle.std.proofs.lemmas.List.Sorted.{Contains-permutation, IsPermutation-sym}
 use Rattle.col_set.specs.Lists.{Listed, Listed-append_left, Listed-append_right, Listed-map, Listed-map_which, list_any_which}
 use Rattle.col_set.proofs.Places.{Contains-listed, Listed-contained}
@@ -46,28 +44,17 @@ pub seen_at : (sets : List ℕ) (found : List Witness) (z : ℕ) → list_any (e
 seen_at sets found z e a = let w = list_any_which (eqb z) sets e in subst (λ (x : ℕ). Listed x (sets_of found)) (sym (eqb-true z w.0 w.2)) (a.each w.0 w.1)
 
 -- ---- the table of those that were seen lately
-value : Option ℕ → ℕ
-value None = 0
-value (Some z) = z
-
-some_same : (a b : ℕ) → Some a ≡ Some b → a ≡ b
-unfolding value
-some_same a b e = ap value e
-
-same_option : (a b : Option ℕ) → option_eq eqb a b ≡ true → a ≡ b
-same_option None None e = refl
-same_option None (Some y) e = absurd (true≢false (sym e))
-same_option (Some x) None e = absurd (true≢false (sym e))
-same_option (Some x) (Some y) e = ap Some (eqb-true x y e)
-
 -- a slot that holds an agree set
-pub recent_at : (recent : List (Option ℕ)) (slot agree : ℕ) (held : Option ℕ) → slot < length recent → held ≡ get_or recent slot held → option_eq eqb held (Some agree) ≡ true → get_or recent slot None ≡ Some agree
-recent_at recent slot agree held l is same = get_or_default recent slot None held l ∙ sym is ∙ same_option held (Some agree) same
+pub recent_at : (recent : List ℕ) (found : List Witness) (slot agree held : ℕ) → slot < length recent → held ≡ get_or recent slot held → eqb held agree ≡ true → All (λ z. Listed z (sets_of found)) recent → Listed agree (sets_of found)
+recent_at recent found slot agree held l is same a = subst (λ (z : ℕ). Listed z (sets_of found)) (sym is ∙ eqb-true held agree same) (a slot held l)
 
-pub recent_put : (recent : List (Option ℕ)) (found : List Witness) (slot agree : ℕ) → slot < length recent → ((k z : ℕ) → get_or recent k None ≡ Some z → Listed z (sets_of found)) → Listed agree (sets_of found) → (k z : ℕ) → get_or (set recent slot (Some agree)) k None ≡ Some z → Listed z (sets_of found)
-recent_put recent found slot agree l a told k z h = at (cases_eq k slot)
+pub recent_put : (recent new : List ℕ) (old found : List Witness) (slots count slot : ℕ) (pair : Witness) → HasAdded pair old found → All (λ z. Listed z (sets_of old)) recent
+    → new ≡ take slots recent ++ replicate count pair.agree → All (λ z. Listed z (sets_of found)) (set new slot pair.agree)
+recent_put recent new old found slots count slot pair added a e =
+    All-set P new slot pair.agree added.told (subst (All P) (sym e) (All-append P (take slots recent) (replicate count pair.agree) (All-take P slots recent kept) (All-replicate P count pair.agree added.told)))
   where
-    at : (k ≡ slot) ⊎ (k ≡ slot → ⊥) → Listed z (sets_of found)
-    at (inl e) =
-        subst (λ (x : ℕ). Listed x (sets_of found)) (some_same agree z (sym (get_or-set_same recent slot (Some agree) None l) ∙ sym (ap (λ (i : ℕ). get_or (set recent slot (Some agree)) i None) e) ∙ h)) told
-    at (inr ne) = a k z (sym (get_or-set_other recent slot k (Some agree) None ne) ∙ h)
+    P : ℕ → Type 0
+    P z = Listed z (sets_of found)
+
+    kept : All P recent
+    kept k d l = added_kept pair old found added _ (a k d l)

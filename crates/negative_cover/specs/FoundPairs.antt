@@ -1,5 +1,5 @@
 -- Pairs of rows, one for each agree set that was found.
-use Rattle.std.specs.Prelude.{◌≡◌, ◌<◌, ◌⊎◌, ◌++◌, ◌∷◌, [], ℕ, List, Some, None, length, slice_index_or}
+use Rattle.std.specs.Prelude.{◌≡◌, ◌<◌, ◌⊎◌, ◌++◌, ◌∷◌, [], ℕ, List}
 use Rattle.std.specs.List.{All}
 use Rattle.col_set.specs.ColSet.{Columns}
 use Rattle.col_set.specs.Lists.{Listed}
@@ -17,8 +17,7 @@ pub record AreSetsSeen (sets : List Columns) (pairs : List Witness) : Type 0 whe
 -- each agree set that is taken for seen is of one of the pairs
 pub record AreSeen (found : FoundPairs) : Type 0 where
   pub sets : AreSetsSeen found.seen.keys found.pairs.items
-  pub slots : 0 < length found.recent.items
-  pub recent : (k : ℕ) (z : Columns) → slice_index_or found.recent.items k None ≡ Some z → Listed z (sets_of found.pairs.items)
+  pub recent : All (λ z. Listed z (sets_of found.pairs.items)) found.recent.items
 
 -- At most the pair is new, and its agree set is of one that is there.
 pub record HasAdded (pair : Witness) (old new : List Witness) : Type 0 where

@@ -1,10 +1,12 @@
 // Live rows of a snapshot with their codes side by side.
-ghost use Rattle.std.specs.Prelude.{◌≡◌, ◌≢◌, ◌<◌, ◌≤◌, ◌+◌, ◌*◌, ◌-◌, ◌++◌, ℕ, length, slice_index, IfOk};
+ghost use Rattle.std.specs.Prelude.{◌≡◌, ◌≢◌, ◌<◌, ◌≤◌, ◌+◌, ◌*◌, ◌-◌, ◌%◌, ◌++◌, ℕ, length, slice_index, IfOk};
+ghost use Rattle.std.specs.Int.{next_multiple_of};
 ghost use Rattle.std.specs.List.{All};
 ghost use Rattle.rel_base.specs.CodeTable.{CodeTable, code_at};
 ghost use Rattle.negative_cover.specs.CodedRows.{IsCodedRow, AreCodedRows, IsShaped, AreLiveBetween};
 
-use rel_base::{RowNo, Snapshot};
+use agree_sets::LANES;
+use rel_base::{MOST_COLUMNS, RowNo, Snapshot};
 use std::alloc::{AllocError, Global};
 
 // A row's number, and its code in each column.
@@ -14,7 +16,8 @@ pub(crate) struct CodedRow<'a> {
     pub(crate) codes: &'a [u32],
 }
 
-// Numbers of rows, and the rows' codes one row after another in one list.
+// Numbers of rows, and the rows' codes one row after another in one list. Behind each row's codes stands a padding up to a whole number
+// of blocks that are compared at once. Where rows are compared with others of another padding, it agrees nowhere.
 #[derive(Drop)]
 pub(crate) struct CodedRows {
     pub(crate) numbers: Vec<RowNo>,
@@ -29,17 +32,18 @@ impl CodedRows {
         snapshot: &Snapshot,
         from: RowNo,
         to: RowNo,
+        padding: u32,
     ) -> Result<CodedRows, AllocError>
         requires { to ≤ snapshot.now.to }
         ensures numbers { IfOk result (λ rows. AreLiveBetween snapshot.now from to rows.numbers.items) }
-        ensures codes { IfOk result (AreCodedRows snapshot.now) }
+        ensures codes { IfOk result (AreCodedRows snapshot.now padding) }
         ensures shape { IfOk result IsShaped }
-        ensures width { IfOk result (λ rows. rows.width ≡ length snapshot.now.codes) }
+        ensures width { IfOk result (λ rows. rows.width ≡ next_multiple_of (length snapshot.now.codes) LANES) }
     {
         let numbers = live_between(alloc, snapshot, from, to)?;
-        let width = snapshot.columns() as usize;
-        let mut codes = vec![in alloc; 0; width * numbers.len()]?;
-        gather_columns(&mut codes, snapshot, &numbers);
+        let width = padded(snapshot.columns());
+        let mut codes = vec![in alloc; padding; width * numbers.len()]?;
+        gather_columns(&mut codes, width, snapshot, &numbers);
         Ok(CodedRows {
             numbers,
             codes,
@@ -55,12 +59,13 @@ impl CodedRows {
     }
 
     // The row at a place, counted from 0.
+    #[inline(always)]
     pub(crate) fn row(&self, place: usize) -> CodedRow<'_>
         requires shape { IsShaped self.now }
         requires place { place < length self.now.numbers.items }
         ensures number { result.number ≡ slice_index self.now.numbers.items place }
         ensures width { length result.codes.now ≡ self.now.width }
-        ensures codes { (s : CodeTable) → AreCodedRows s self.now → IsCodedRow s result.number result.codes.now }
+        ensures codes { (s : CodeTable) (padding : ℕ) → AreCodedRows s padding self.now → IsCodedRow s padding result.number result.codes.now }
     {
         CodedRow {
             number: self.numbers[place],
@@ -90,13 +95,26 @@ fn live_between(
     Ok(rows)
 }
 
-// Writes the codes of these rows one row after another, column by column: so each column is read once and in order.
-fn gather_columns(codes: &mut [u32], snapshot: &Snapshot, numbers: &[RowNo])
-    requires room { length codes.old ≡ length snapshot.now.codes * length numbers.now }
-    requires given { All (λ row. row < snapshot.now.to) numbers.now }
-    ensures { (k c : ℕ) → k < length numbers.now → c < length snapshot.now.codes → slice_index codes.new (length snapshot.now.codes * k + c) ≡ code_at snapshot.now (slice_index numbers.now k) c }
+// How many codes a row of so many columns has with its padding.
+fn padded(columns: u8) -> usize
+    requires { columns ≤ MOST_COLUMNS }
+    ensures value { result ≡ next_multiple_of columns LANES }
+    ensures room { columns ≤ result }
+    ensures few { result ≤ MOST_COLUMNS }
+    ensures whole { result % LANES ≡ 0 }
 {
-    let width = snapshot.columns() as usize;
+    (columns as usize).next_multiple_of(LANES)
+}
+
+// Writes the codes of these rows one row after another, column by column: so each column is read once and in order. What stands at a
+// row's further places stays.
+fn gather_columns(codes: &mut [u32], width: usize, snapshot: &Snapshot, numbers: &[RowNo])
+    requires columns { length snapshot.now.codes ≤ width }
+    requires room { length codes.old ≡ width * length numbers.now }
+    requires given { All (λ row. row < snapshot.now.to) numbers.now }
+    ensures written { (k c : ℕ) → k < length numbers.now → c < length snapshot.now.codes → slice_index codes.new (width * k + c) ≡ code_at snapshot.now (slice_index numbers.now k) c }
+    ensures kept { (k c : ℕ) → k < length numbers.now → length snapshot.now.codes ≤ c → c < width → slice_index codes.new (width * k + c) ≡ slice_index codes.old (width * k + c) }
+{
     for column in 0..snapshot.columns() {
         let (shared, own) = snapshot.column(column).parts();
         gather(codes, width, column as usize, shared, own, numbers);

@@ -1,5 +1,7 @@
 // Pairs of rows, one for each agree set that was found.
-ghost use Rattle.std.specs.Prelude.{◌≡◌, ◌<◌, [], IsTrue, Some, None, OnOk, IfOk, length, slice_index_or};
+ghost use Rattle.std.specs.Prelude.{◌≡◌, ◌<◌, [], IsTrue, OnOk, IfOk};
+ghost use Rattle.col_set.specs.Lists.{Listed};
+ghost use Rattle.negative_cover.specs.Witnesses.{sets_of};
 ghost use Rattle.negative_cover.specs.FoundPairs.{AreSeen, AreSetsSeen, HasAdded};
 
 use crate::Witness;
@@ -9,7 +11,7 @@ use std::collections::HashSet;
 use std::hash::{BuildHasher, BuildHasherDefault, DefaultHasher, FoldHasher};
 
 // How many agree sets are remembered as seen lately, a power of two.
-const SLOTS: usize = 512;
+const SLOTS: usize = 1024;
 
 // The agree sets that were found. The hash is SipHash with a fixed key.
 type AgreeSets = HashSet<ColSet, BuildHasherDefault<DefaultHasher>>;
@@ -18,12 +20,13 @@ type AgreeSets = HashSet<ColSet, BuildHasherDefault<DefaultHasher>>;
 //
 // Most pairs of rows have an agree set that others had shortly before. So each agree set is first looked up in one slot of a small table,
 // by a hash that is one multiplication. That it is not there only costs a look-up in the set of all that were found, whose hash resists
-// rows that were chosen to collide.
+// rows that were chosen to collide. The table has no slots until a set is found, and from then on each slot has one that was found: so a
+// slot needs no mark that it is in use.
 #[derive(Drop)]
 pub(crate) struct FoundPairs {
     pub(crate) pairs: Vec<Witness>,
     seen: AgreeSets,
-    recent: Vec<Option<ColSet>>,
+    recent: Vec<ColSet>,
 }
 
 impl FoundPairs {
@@ -35,24 +38,32 @@ impl FoundPairs {
         Ok(FoundPairs {
             pairs: Vec::new(alloc),
             seen: AgreeSets::with_hasher(alloc, BuildHasherDefault::new()),
-            recent: vec![in alloc; None; SLOTS]?,
+            recent: Vec::new(alloc),
         })
     }
 
-    // Adds a pair where there is none with its agree set.
+    // Whether a pair with this agree set is known to be there. Where it is not known, there may be one all the same.
+    #[inline(always)]
+    pub(crate) fn is_recent(&self, agree: ColSet) -> bool
+        requires { AreSeen self.now }
+        ensures { IsTrue result → Listed agree (sets_of self.now.pairs.items) }
+    {
+        let slot = slot_of(agree);
+        slot < self.recent.len() && self.recent[slot] == agree
+    }
+
+    // Adds a pair where there is none with its agree set, which is recent from then on. Few pairs come here: it stays out of the loops over
+    // all of them.
+    #[inline(never)]
     pub(crate) fn add(&mut self, pair: Witness) -> Result<(), AllocError>
         requires { AreSeen self.old }
         ensures seen { OnOk result (AreSeen self.new) }
         ensures added { OnOk result (HasAdded pair self.old.pairs.items self.new.pairs.items) }
     {
-        let slots = self.recent.len();
-        let slot = slot_of(pair.agree, slots);
-        let known = Some(pair.agree);
-        if self.recent[slot] == known {
-            return Ok(());
-        }
+        let agree = pair.agree;
         add_unseen(&mut self.pairs, &mut self.seen, pair)?;
-        self.recent[slot] = known;
+        self.recent.resize(SLOTS, agree)?;
+        self.recent[slot_of(agree)] = agree;
         Ok(())
     }
 }
@@ -75,11 +86,11 @@ fn add_unseen(
     Ok(())
 }
 
-// The slot of an agree set, of so many.
-fn slot_of(agree: ColSet, slots: usize) -> usize
-    requires { 0 < slots }
-    ensures { result < slots }
+// The slot of an agree set.
+#[inline(always)]
+fn slot_of(agree: ColSet) -> usize
+    ensures { result < SLOTS }
 {
     let hash = BuildHasherDefault::<FoldHasher>::new().hash_one(agree);
-    hash as usize & (slots - 1)
+    hash as usize & (SLOTS - 1)
 }

@@ -1,6 +1,8 @@
+ghost use Rattle.std.specs.Prelude.{◌≡◌, ◌<◌, ◌≤◌, ◌+◌, IfOk, length};
+
 use crate::{Concerned, NegativeCover, Witness, all_pairs, ended};
-use rel_base::{Batch, Codes, ColSet, Op, Row, RowNo, Snapshot, Target};
-use std::alloc::Global;
+use rel_base::{Batch, Codes, ColSet, MOST_COLUMNS, Op, Row, RowNo, Snapshot, Target};
+use std::alloc::{AllocError, Global};
 use std::process::Abort;
 use std::test::Fail;
 
@@ -147,5 +149,119 @@ fn late_rows_are_compared_with_all_and_no_agree_set_is_found_twice(
     assert!(rt; first.agree == ColSet::empty().with(1) && second.agree == ColSet::all(2));
     let none = all_pairs(alloc, &snapshot, RowNo::of(5))?;
     assert!(rt; none.is_empty());
+    Ok(())
+}
+
+const MOST_TEST_ROWS: u32 = 1000000;
+
+// Codes that look drawn at random, of so many values.
+fn draw(codes: &mut [u32], seed: u32, values: u32)
+    requires { 0 < values }
+{
+    let mut state = seed;
+    for code in codes.iter_mut() {
+        state = state.wrapping_mul(1664525).wrapping_add(1013904223);
+        *code = (state >> 16) % values;
+    }
+}
+
+fn drawn(alloc: Global, rows: u32, seed: u32, values: u32) -> Result<Codes, AllocError>
+    requires { 0 < values }
+    ensures { IfOk result (λ codes. length codes ≡ rows) }
+{
+    let mut codes = vec![in alloc; 0; rows as usize]?;
+    draw(&mut codes, seed, values);
+    Ok(Codes::of(codes))
+}
+
+// Row 2 is deleted.
+fn table(alloc: Global, columns: u8, rows: u32, values: u32) -> Result<Snapshot, AllocError>
+    requires columns { 0 < columns }
+    requires narrow { columns ≤ MOST_COLUMNS }
+    requires rows { 2 ≤ rows }
+    requires few { rows ≤ MOST_TEST_ROWS }
+    requires values { 0 < values }
+    ensures { IfOk result (λ snapshot. snapshot.to ≡ rows + 1) }
+{
+    let mut codes = Vec::new(alloc);
+    for column in 0..columns {
+        codes.push(drawn(alloc, rows, column as u32, values)?)?;
+    }
+    let mut live = vec![in alloc; true; rows as usize]?;
+    live[1] = false;
+    Ok(Snapshot::of(codes, live, RowNo::of(rows + 1)))
+}
+
+// What two rows agree on, compared column by column.
+fn agree_plainly(snapshot: &Snapshot, i: RowNo, j: RowNo) -> ColSet
+    requires first { i < snapshot.now.to }
+    requires second { j < snapshot.now.to }
+{
+    let mut agree = ColSet::empty();
+    for column in 0..snapshot.columns() {
+        if snapshot.code(i, column) == snapshot.code(j, column) {
+            agree = agree.with(column);
+        }
+    }
+    agree
+}
+
+// What two live rows agree on was found.
+fn is_told(snapshot: &Snapshot, i: RowNo, j: RowNo, found: &[Witness]) -> bool
+    requires first { i < snapshot.now.to }
+    requires second { j < snapshot.now.to }
+{
+    if !snapshot.is_live(i) || !snapshot.is_live(j) {
+        return true;
+    }
+    let agree = agree_plainly(snapshot, i, j);
+    found.iter().any(|pair| pair.agree == agree)
+}
+
+// Each late row and each before it.
+fn all_are_told(snapshot: &Snapshot, from: u32, found: &[Witness]) -> bool
+    requires { 0 < from }
+{
+    let to = snapshot.to().number();
+    for j in from..to {
+        for i in 1..j {
+            if !is_told(snapshot, RowNo::of(i), RowNo::of(j), found) {
+                return false;
+            }
+        }
+    }
+    true
+}
+
+fn are_as_compared_plainly(rt: &impl Abort, snapshot: &Snapshot, found: &[Witness]) {
+    for pair in found.iter() {
+        assert!(rt; pair.i < pair.j && pair.j < snapshot.to());
+        assert!(rt; pair.agree == agree_plainly(snapshot, pair.i, pair.j));
+    }
+}
+
+// From fewer columns than a block of codes has to all of eight blocks.
+#[test]
+fn paddings_agree_nowhere(rt: HostRuntime) -> Result<(), Fail> {
+    let alloc = rt.alloc();
+    for columns in [1u8, 3, 4, 5, 16, 17, 128] {
+        let snapshot = table(alloc, columns, 9, 2)?;
+        for from in [1, 7] {
+            let found = all_pairs(alloc, &snapshot, RowNo::of(from))?;
+            assert!(rt; all_are_told(&snapshot, from, &found));
+            are_as_compared_plainly(&rt, &snapshot, &found);
+        }
+    }
+    Ok(())
+}
+
+// More rows than one block takes.
+#[test]
+fn late_rows_meet_each_block_of_rows(rt: HostRuntime) -> Result<(), Fail> {
+    let alloc = rt.alloc();
+    let snapshot = table(alloc, 5, 1100, 3)?;
+    let found = all_pairs(alloc, &snapshot, RowNo::of(1099))?;
+    assert!(rt; all_are_told(&snapshot, 1099, &found));
+    are_as_compared_plainly(&rt, &snapshot, &found);
     Ok(())
 }

@@ -4,25 +4,14 @@ use Rattle.agree_sets.proofs.agreement.Goals as goal
 
 pub joined-bits-requires-clause-bits : goal.joined-bits-requires-clause-bits
 joined-bits-requires-clause-bits c =
-    let room : 16 * c.whole.k ≤ length c.args.a.now = omega (arith, c.whole-test.true) in
-    set-lt (16 * c.whole.k) c.whole.bits c.args.a.now c.args.b.now c.whole.invariant room (omega (arith, room, c.requires.same))
-
-pub whole-preserved : goal.whole-preserved
-whole-preserved c =
-    let room : 16 * c.whole.k ≤ length c.args.a.now = omega (arith, c.whole-test.true) in
-    set-more (16 * c.whole.k) 16 (16 * (c.whole.k + 1)) c.whole.bits c.block.result c.joined-bits.result c.args.a.now c.args.b.now
-    c.whole.invariant c.block.ensures.value c.joined-bits.ensures (omega arith) room (omega (arith, room, c.requires.same))
-
-pub joined-bits-requires-in-fours-clause-bits : goal.joined-bits-requires-in-fours-clause-bits
-joined-bits-requires-in-fours-clause-bits c =
     let room : 4 * c.fours.k ≤ length c.args.a.now = omega (arith, c.fours-test.true) in
     set-lt (4 * c.fours.k) c.fours.bits c.args.a.now c.args.b.now c.fours.invariant room (omega (arith, room, c.requires.same))
 
 pub fours-preserved : goal.fours-preserved
 fours-preserved c =
     let room : 4 * c.fours.k ≤ length c.args.a.now = omega (arith, c.fours-test.true) in
-    set-more (4 * c.fours.k) 4 (4 * (c.fours.k + 1)) c.fours.bits c.four.result c.joined-bits-in-fours.result c.args.a.now c.args.b.now
-    c.fours.invariant c.four.ensures.value c.joined-bits-in-fours.ensures (omega arith) room (omega (arith, room, c.requires.same))
+    set-more (4 * c.fours.k) 4 (4 * (c.fours.k + 1)) c.fours.bits c.four.result c.joined-bits.result c.args.a.now c.args.b.now
+    c.fours.invariant c.four.ensures.value c.joined-bits.ensures (omega arith) room (omega (arith, room, c.requires.same))
 
 pub joined-bits-requires-in-rest-clause-bits : goal.joined-bits-requires-in-rest-clause-bits
 joined-bits-requires-in-rest-clause-bits c =
