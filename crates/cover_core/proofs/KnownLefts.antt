@@ -1,5 +1,5 @@
 -- Left sides that hold in the rows before the new ones, and candidates that contain them.
-use Rattle.std.proofs.Common.{inl, inr, ◌≡◌, ◌⊎◌, ℕ, ◌<◌, ◌≤◌, true, refl, sym, ◌∙◌, subst, List, ◌&&◌, ◌||◌, nat_lt, nat_le}
+use Rattle.std.proofs.Common.{inl, inr, ◌≡◌, ◌⊎◌, ℕ, ◌≤◌, true, refl, sym, ◌∙◌, subst, List, ◌&&◌, ◌||◌, nat_lt, nat_le}
 use Rattle.std.specs.List.{All, list_any}
 use Rattle.std.proofs.lemmas.Bool.{leb-true, and_parts, or_cases}
 use Rattle.col_set.specs.declared.target.Target.{Target}

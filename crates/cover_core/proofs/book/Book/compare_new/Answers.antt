@@ -1,4 +1,4 @@
-use Rattle.std.proofs.Common.{◌∙◌, List, sym, subst}
+use Rattle.std.proofs.Common.{List, sym, subst}
 use Rattle.std.specs.List.{All}
 use Rattle.rel_base.specs.RowState.{RowState}
 use Rattle.cover_core.specs.KnownLefts.{HoldBelow}

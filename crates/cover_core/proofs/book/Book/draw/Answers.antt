@@ -4,7 +4,6 @@ use Rattle.cover_steps.specs.Steps as steps
 use Rattle.cover_core.specs.Past.{IsPast}
 use Rattle.cover_core.specs.Replies.{reply_of_draw}
 use Rattle.cover_core.specs.declared.answers.Draw.{Draw}
-use Rattle.cover_core.proofs.Calls.{with_lists}
 use Rattle.cover_core.proofs.Whole.{DrawAll, draw-all, draw-target, none_drawable, some_drawable}
 use Rattle.cover_core.proofs.Turn.{on-err}
 use Rattle.cover_core.proofs.Cursors.{past-held, first-told, first-none}
