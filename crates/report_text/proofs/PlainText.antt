@@ -1,7 +1,7 @@
 -- Fields of which no byte calls for quotes stand in a line as they are.
-use Rattle.std.proofs.Common.{◌≡◌, ℕ, ◌+◌, ◌<◌, ◌^◌, ◌/◌, ◌%◌, ◌||◌, ◌++◌, Bool, true, false, List, [], ◌∷◌, map, codes, refl, sym, ap, ◌∙◌, append_assoc, arith, inl, inr}
+use Rattle.std.proofs.Common.{◌≡◌, ℕ, ◌+◌, ◌<◌, ◌^◌, ◌%◌, ◌++◌, true, false, List, [], ◌∷◌, map, codes, refl, sym, ap, ◌∙◌, append_assoc, arith, inl, inr}
 use Rattle.std.specs.Prelude.{decimal}
-use Rattle.std.specs.List.{flat_map, list_any, join_with_byte}
+use Rattle.std.specs.List.{flat_map, join_with_byte}
 use Rattle.std.proofs.lemmas.Bool.{ne_eqb}
 use Rattle.std.proofs.lemmas.List.{append-nil}
 use Rattle.std.proofs.lemmas.Fmt.{decimal_by_steps}
