@@ -1,5 +1,5 @@
 -- A table of the texts of numbers, and a line that takes one of them.
-use Rattle.std.proofs.Common.{◌≡◌, ◌≢◌, ℕ, suc, ◌+◌, ◌<◌, ◌≤◌, List, [], ◌∷◌, ◌++◌, length, take, get_or, set, get_or-set_same, get_or-set_other, length-set, length-take, length-take-le, refl, sym, ap, ap₂, ◌∙◌, append_assoc, arith}
+use Rattle.std.proofs.Common.{◌≡◌, ◌≢◌, ℕ, suc, ◌+◌, ◌<◌, ◌≤◌, List, [], ◌∷◌, ◌++◌, length, take, get_or, set, get_or-set_same, get_or-set_other, length-set, length-take, length-take-le, sym, ap, ap₂, ◌∙◌, append_assoc, arith}
 use Rattle.std.specs.Prelude.{decimal}
 use Rattle.std.proofs.Math.Seq.{take-append-add, take-suc-set}
 use Rattle.std.proofs.lemmas.List.{take-append-le}
@@ -21,7 +21,7 @@ filled-more texts counts text digits n room is short front so_far = record {
   each = below_more (λ k. IsNumberText k (get_or (set counts n (length digits)) k 0) (get_or (set texts n text) k [])) n
       (λ k lt. let other : k ≢ n = λ e. omega arith in rw (get_or-set_other counts n k (length digits) 0 other, get_or-set_other texts n k text [] other) (so_far.each k lt))
       (rw (get_or-set_same counts n (length digits) 0 (omega (arith, so_far.counts_room)), get_or-set_same texts n text [] (omega (arith, so_far.texts_room)))
-          (record { counted = ap length is; short = short; digits = front ∙ is }));
+      (record { counted = ap length is; short = short; digits = front ∙ is }));
 }
 
 -- one more byte behind what stands in front

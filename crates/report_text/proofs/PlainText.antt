@@ -1,7 +1,7 @@
 -- Fields of which no byte calls for quotes stand in a line as they are.
-use Rattle.std.proofs.Common.{◌≡◌, ℕ, ◌+◌, ◌<◌, ◌^◌, ◌/◌, ◌%◌, ◌||◌, ◌++◌, Bool, true, false, List, [], ◌∷◌, map, codes, refl, sym, ap, ◌∙◌, append_assoc, arith, inl, inr}
+use Rattle.std.proofs.Common.{◌≡◌, ℕ, ◌+◌, ◌<◌, ◌^◌, ◌%◌, ◌++◌, true, false, List, [], ◌∷◌, map, codes, refl, sym, ap, ◌∙◌, append_assoc, arith, inl, inr}
 use Rattle.std.specs.Prelude.{decimal}
-use Rattle.std.specs.List.{flat_map, list_any, join_with_byte}
+use Rattle.std.specs.List.{flat_map, join_with_byte}
 use Rattle.std.proofs.lemmas.Bool.{ne_eqb}
 use Rattle.std.proofs.lemmas.List.{append-nil}
 use Rattle.std.proofs.lemmas.Fmt.{decimal_by_steps}
@@ -30,8 +30,8 @@ decimal-unquoted : (n : ℕ) → n < 2 ^ 64 → needs_quotes default_writer (dec
 decimal-unquoted = decimal_by_steps (λ n text. needs_quotes default_writer text ≡ false)
     (λ n small. rw (digit-plain n small) refl)
     (λ n text large so_far.
-        let small : n % 10 < 10 = omega arith in
-        rw (list_any-append (needs_byte default_writer) text ((48 + n % 10) ∷ []), so_far, digit-plain (n % 10) small) refl)
+    let small : n % 10 < 10 = omega arith in
+    rw (list_any-append (needs_byte default_writer) text ((48 + n % 10) ∷ []), so_far, digit-plain (n % 10) small) refl)
 
 pub IsPlain-decimal : (n : ℕ) → n < 2 ^ 64 → IsPlain (decimal n)
 IsPlain-decimal n fits = record { no_quotes = decimal-unquoted n fits }

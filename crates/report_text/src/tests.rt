@@ -142,7 +142,10 @@ fn check_longest_line(rt: &impl Abort, alloc: Global) -> Result<(), AllocError> 
             right: 5,
         },
     ];
-    let covers = Covers::of(Vec::from_slice(alloc, &[all])?, Vec::from_slice(alloc, &fds)?);
+    let covers = Covers::of(
+        Vec::from_slice(alloc, &[all])?,
+        Vec::from_slice(alloc, &fds)?,
+    );
     let names = Row::copied(alloc, &[])?;
     let text = report(alloc, &name(alloc, "r")?, &names, 2, &covers)?;
     let (head, key, fd, short_fd) = (15, 408, 411, 7);

@@ -1,4 +1,4 @@
-use Rattle.std.proofs.Common.{ℕ, ◌≡◌, ◌<◌, ◌≤◌, ◌^◌, List, length, decimal, refl, ap, ◌∙◌, arith}
+use Rattle.std.proofs.Common.{ℕ, ◌≡◌, ◌<◌, ◌≤◌, List, length, decimal, refl, ap, ◌∙◌, arith}
 use Rattle.std.proofs.lemmas.Fmt.{length-decimal-le}
 use Rattle.report_text.proofs.NumberTable.{filled-more}
 use Rattle.report_text.proofs.number_texts.NumberTexts.new.Goals as goal

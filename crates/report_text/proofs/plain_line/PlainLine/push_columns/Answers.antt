@@ -23,7 +23,7 @@ loop-column-smaller c = rw c.without-rest-in-Some-first.ensures (first-Some _ _ 
 pub loop-column-preserved : goal.loop-column-preserved
 loop-column-preserved c =
     HasColumns-more _ _ _ _ _ c.in-Some-first.column _ c.loop-column.invariant c.in-Some-first.ensures.value c.in-Some-first.ensures.bound c.without-rest-in-Some-first.ensures
-      (rw c.from-in-Some-first.ensures at c.push_number-in-Some-first.ensures.text) c.push_number-in-Some-first.ensures.bound
+    (rw c.from-in-Some-first.ensures at c.push_number-in-Some-first.ensures.text) c.push_number-in-Some-first.ensures.bound
 
 pub returns : goal.returns
 returns c =

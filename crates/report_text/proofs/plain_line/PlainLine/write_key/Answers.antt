@@ -1,4 +1,4 @@
-use Rattle.std.proofs.Common.{◌∙◌, sym}
+use Rattle.std.proofs.Common.{sym}
 use Rattle.report_text.proofs.PlainText.{IsPlain-columns, key-plain}
 use Rattle.report_text.proofs.plain_line.PlainLine.write_key.Goals as goal
 
