@@ -664,10 +664,11 @@ pub record EndsSoFar (s free lacked rest left : ℕ) (old mid : List ℕ) : Type
   pub open_ones : IsSubset rest left
   pub among : IsSubset rest lacked
   pub low : IsSubset left free
+  pub gone : (k : ℕ) → has lacked k ≡ true → has rest k ≡ false → has left k ≡ false
   pub ended : (ws pending own : List ℕ) → IsBranch ws s free pending own → 0 < length pending → ((k : ℕ) → has lacked k ≡ true → having k pending ≡ []) → ((k : ℕ) → has lacked k ≡ true → IsOwned (having k own) s) → HasEnded ws s free left pending own old mid
 
 pub ends_first : (s free lacked : ℕ) (old : List ℕ) → IsSubset lacked free → EndsSoFar s free lacked lacked free old old
-ends_first s free lacked old i = record { open_ones = i; among = IsSubset-refl lacked; low = IsSubset-refl free; ended = λ ws pending own b l f g. record { branch = b; whole = λ new h. h } }
+ends_first s free lacked old i = record { open_ones = i; among = IsSubset-refl lacked; low = IsSubset-refl free; gone = λ k h n. absurd (true≢false (sym h ∙ n)); ended = λ ws pending own b l f g. record { branch = b; whole = λ new h. h } }
 
 -- where none of some agree sets has the column, one lacks it
 one_lacks : (pending : List ℕ) (c : ℕ) → 0 < length pending → having c pending ≡ [] → list_any (λ w. not (has w c)) pending ≡ true
@@ -684,6 +685,13 @@ ends_more s free lacked rest left old mid e c had new made rest' left' f g = sub
   open_ones = without_less rest left c e.open_ones;
   among = IsSubset-trans (without_inside rest c) e.among;
   low = IsSubset-trans (without_inside left c) e.low;
+  gone = λ k h n. elim (cases_Bool (has rest k)) as (λ _. has (without left c) k ≡ false) [
+    | inl i ↦ elim (cases_Bool (eqb k c)) as (λ _. has (without left c) k ≡ false) [
+      | inl j ↦ ap (has (without left c)) (eqb-true k c j) ∙ without_lacks left c
+      | inr j ↦ absurd (true≢false (sym (has-without rest c k ∙ and_from _ _ i (ap not j)) ∙ n))
+    ]
+    | inr i ↦ has-without left c k ∙ ap (λ b. b && not (eqb k c)) (e.gone k h i)
+  ];
   ended = λ ws pending own b l none owned.
       let h = e.ended ws pending own b l none owned in
       let free_one : has left c ≡ true = e.open_ones.each c had in
@@ -777,3 +785,21 @@ ended_as ws s free few left lacked pending pending' lists lists' old mid e f l l
     let n = narrowed ws s free few pending' (join lists) b' low (λ k h g. cut_unowned s lists cut k (subst (λ (ls : List (List ℕ)). (vs : List ℕ) × Listed vs ls × (sees vs k ≡ false)) f (unowned k h g))) old in
     ended_after ws s free few left pending' (join lists) old mid n (ended ws pending' (join lists) n.branch l none
     (λ k h. cut_owned s lists cut k (λ vs g. owned k (among.each k h) vs (subst (Listed vs) (sym f) g)))))
+
+-- ---- one pending agree set
+-- where just one agree set is pending, each least set takes one free column that this one lacks
+pub branch_sole : (ws : List ℕ) (s free few left lacked sole : ℕ) (lists : List (List ℕ)) (old mid : List ℕ) → IsSubset few free → ((k : ℕ) → has few k ≡ true → (vs : List ℕ) → Listed vs lists → sees vs k ≡ true)
+    → ((k : ℕ) → has free k ≡ true → has few k ≡ false → (vs : List ℕ) × Listed vs lists × (sees vs k ≡ false)) → lacked ≡ minus few sole → IsSubset left few → ((k : ℕ) → has lacked k ≡ true → has left k ≡ false)
+    → ((vs ps os : List ℕ) → IsBranch vs s few ps os → 0 < length ps → ((k : ℕ) → has lacked k ≡ true → having k ps ≡ []) → ((k : ℕ) → has lacked k ≡ true → IsOwned (having k os) s) → HasEnded vs s few left ps os old mid)
+    → IsCut s lists → IsBranch ws s free (sole ∷ []) (join lists) → HasBranched ws s free old mid
+branch_sole ws s free few left lacked sole lists old mid low owned unowned is left_low gone ended cut b = whole.whole mid (branch_dead ws s left (sole ∷ []) (join lists) whole.branch (covered_at (sole ∷ []) left sole (inl refl) (record { each = inside })) mid)
+  where
+    lack : (k : ℕ) → has lacked k ≡ (has few k && not (has sole k))
+    lack k = ap (λ (v : ℕ). has v k) is ∙ has-minus few sole k
+
+    whole : HasEnded ws s free left (sole ∷ []) (join lists) old mid
+    whole = ended_as ws s free few left lacked (sole ∷ []) (sole ∷ []) lists lists old mid refl refl (omega arith) low (record { each = λ k h. (and_parts (has few k) _ (sym (lack k) ∙ h)).0 }) owned unowned
+        (λ k h. ap (λ d. cond d (sole ∷ []) []) (not-true _ (and_parts (has few k) _ (sym (lack k) ∙ h)).1)) cut b ended
+
+    inside : (k : ℕ) → has left k ≡ true → has sole k ≡ true
+    inside k h = true_from_ne_false _ (λ n. true≢false (sym h ∙ gone k (lack k ∙ and_from _ _ (left_low.each k h) (ap not n))))
