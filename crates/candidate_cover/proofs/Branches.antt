@@ -21,7 +21,7 @@ use Rattle.candidate_cover.specs.Marks.{HasMembers}
 use Rattle.candidate_cover.specs.Branches.{covered, lacking, sees, join, IsRun, IsCut, IsOwned, IsUnowned, IsLeastFrom, IsBranch, HasBranched, HasEnded, pruned}
 
 -- ---- sets that agree sets contain
-covered_at : (ws : List ℕ) (x w : ℕ) → Listed w ws → IsSubset x w → covered ws x ≡ true
+pub covered_at : (ws : List ℕ) (x w : ℕ) → Listed w ws → IsSubset x w → covered ws x ≡ true
 covered_at ws x w h s = list_any_at (λ w. subset x w) w ws h (true-subset s)
 
 pub record Covers (ws : List ℕ) (x : ℕ) : Type 0 where
@@ -785,21 +785,3 @@ ended_as ws s free few left lacked pending pending' lists lists' old mid e f l l
     let n = narrowed ws s free few pending' (join lists) b' low (λ k h g. cut_unowned s lists cut k (subst (λ (ls : List (List ℕ)). (vs : List ℕ) × Listed vs ls × (sees vs k ≡ false)) f (unowned k h g))) old in
     ended_after ws s free few left pending' (join lists) old mid n (ended ws pending' (join lists) n.branch l none
     (λ k h. cut_owned s lists cut k (λ vs g. owned k (among.each k h) vs (subst (Listed vs) (sym f) g)))))
-
--- ---- one pending agree set
--- where just one agree set is pending, each least set takes one free column that this one lacks
-pub branch_sole : (ws : List ℕ) (s free few left lacked sole : ℕ) (lists : List (List ℕ)) (old mid : List ℕ) → IsSubset few free → ((k : ℕ) → has few k ≡ true → (vs : List ℕ) → Listed vs lists → sees vs k ≡ true)
-    → ((k : ℕ) → has free k ≡ true → has few k ≡ false → (vs : List ℕ) × Listed vs lists × (sees vs k ≡ false)) → lacked ≡ minus few sole → IsSubset left few → ((k : ℕ) → has lacked k ≡ true → has left k ≡ false)
-    → ((vs ps os : List ℕ) → IsBranch vs s few ps os → 0 < length ps → ((k : ℕ) → has lacked k ≡ true → having k ps ≡ []) → ((k : ℕ) → has lacked k ≡ true → IsOwned (having k os) s) → HasEnded vs s few left ps os old mid)
-    → IsCut s lists → IsBranch ws s free (sole ∷ []) (join lists) → HasBranched ws s free old mid
-branch_sole ws s free few left lacked sole lists old mid low owned unowned is left_low gone ended cut b = whole.whole mid (branch_dead ws s left (sole ∷ []) (join lists) whole.branch (covered_at (sole ∷ []) left sole (inl refl) (record { each = inside })) mid)
-  where
-    lack : (k : ℕ) → has lacked k ≡ (has few k && not (has sole k))
-    lack k = ap (λ (v : ℕ). has v k) is ∙ has-minus few sole k
-
-    whole : HasEnded ws s free left (sole ∷ []) (join lists) old mid
-    whole = ended_as ws s free few left lacked (sole ∷ []) (sole ∷ []) lists lists old mid refl refl (omega arith) low (record { each = λ k h. (and_parts (has few k) _ (sym (lack k) ∙ h)).0 }) owned unowned
-        (λ k h. ap (λ d. cond d (sole ∷ []) []) (not-true _ (and_parts (has few k) _ (sym (lack k) ∙ h)).1)) cut b ended
-
-    inside : (k : ℕ) → has left k ≡ true → has sole k ≡ true
-    inside k h = true_from_ne_false _ (λ n. true≢false (sym h ∙ gone k (lack k ∙ and_from _ _ (left_low.each k h) (ap not n))))

@@ -4,8 +4,9 @@ use Rattle.col_set.specs.ColSet.{IsSubset, has, with}
 use Rattle.col_set.specs.Members.{has-minus}
 use Rattle.candidate_cover.specs.Growth.{having}
 use Rattle.candidate_cover.specs.Branches.{lacking, parts, join, IsCut}
-use Rattle.candidate_cover.proofs.Branches.{branch_as, branched_as, branch_sole}
+use Rattle.candidate_cover.proofs.Branches.{branch_as, branched_as}
 use Rattle.candidate_cover.proofs.Runs.{OwnedSoFar, owned_also}
+use Rattle.candidate_cover.proofs.Soles.{branch_sole}
 use Rattle.candidate_cover.proofs.branching.push_past_sole.Goals as goal
 
 pub push_ends-requires : goal.push_ends-requires
