@@ -1,5 +1,5 @@
 -- One pending agree set, and the agree sets that are news for a target.
-use Rattle.std.proofs.Common.{inl, inr, ◌≡◌, ℕ, ◌<◌, Bool, true, false, not, ◌&&◌, ◌||◌, refl, sym, ap, ◌∙◌, arith, subst, List, [], ◌∷◌, ◌++◌, cond, length, get_or, take, drop, ◌+◌}
+use Rattle.std.proofs.Common.{inl, inr, ◌≡◌, ℕ, ◌<◌, true, false, not, ◌&&◌, ◌||◌, refl, sym, ap, ◌∙◌, arith, subst, List, [], ◌∷◌, ◌++◌, cond, length, get_or, take, drop, ◌+◌}
 use Rattle.std.specs.List.{list_any}
 use Rattle.std.proofs.lemmas.Bool.{true≢false, and_parts, and_from, or_cases, or_left, or_right, not-true, not_from_false, true_from_ne_false}
 use Rattle.std.proofs.lemmas.List.{take-append-drop, take_more}
@@ -8,8 +8,8 @@ use Rattle.col_set.specs.ColSet.{IsSubset, has, minus, subset}
 use Rattle.col_set.specs.Target.{has_target}
 use Rattle.col_set.specs.Evidence.{refuted}
 use Rattle.col_set.specs.Members.{has-minus}
-use Rattle.col_set.specs.Subsets.{IsSubset-refl, IsSubset-trans, subset-true, true-subset, same_test}
-use Rattle.col_set.specs.Lists.{Listed, Listed-append_left, Listed-append_right, Listed-append_cases, list_any_at, list_any_which}
+use Rattle.col_set.specs.Subsets.{IsSubset-refl, subset-true, true-subset, same_test}
+use Rattle.col_set.specs.Lists.{Listed, Listed-append_right, Listed-append_cases, list_any_at, list_any_which}
 use Rattle.col_set.proofs.Places.{Listed-get_or}
 use Rattle.col_set.proofs.Least.{refuted_inside, lacks_inside}
 use Rattle.candidate_cover.specs.Growth.{having, IsLeastAmong, ListsLeast}

@@ -1,5 +1,5 @@
 // Candidates while many agree sets come in, one after another.
-ghost use Rattle.std.specs.Prelude.{if◌then◌else◌, ◌≡◌, ◌≤◌, ◌<◌, ◌^◌, ◌∷◌, [], ◌++◌, ◌&&◌, ℕ, List, true, false, length, map, take, slice_index_or, IfOk, OnOk};
+ghost use Rattle.std.specs.Prelude.{if◌then◌else◌, ◌≡◌, ◌≤◌, ◌<◌, ◌^◌, ◌∷◌, [], ◌++◌, ◌&&◌, ℕ, List, true, false, length, map, take, IfOk, OnOk};
 ghost use Rattle.std.specs.List.{list_any};
 ghost use Rattle.col_set.specs.ColSet.{has, subset, union, minus};
 ghost use Rattle.col_set.specs.Target.{IsColumnTarget, has_target};
@@ -139,20 +139,13 @@ fn count_old(agree_sets: &[ColSet], old: &[ColSet], target: Target) -> usize
     let mut count = 0;
     for w in old {
         if !w.has_target(target) {
-            if !is_next(agree_sets, count, *w) {
+            if count >= agree_sets.len() || agree_sets[count] != *w {
                 return count;
             }
             count += 1;
         }
     }
     count
-}
-
-// Whether the agree set at the place is w.
-fn is_next(agree_sets: &[ColSet], place: usize, w: ColSet) -> bool
-    ensures { result ≡ true → (place < length agree_sets.now) × (slice_index_or agree_sets.now place w ≡ w) }
-{
-    place < agree_sets.len() && agree_sets[place] == w
 }
 
 // Lists that are made anew for each target, in the same memory.

@@ -124,7 +124,7 @@ returns-in-Some-sole_having-clause-found d c = on_ok_weaker c.branch-frames.resu
     let lacks : list_any (λ w. not (has w k)) pending ≡ true = subst (λ (vs : List ℕ). list_any (λ w. not (has w k)) vs ≡ true) given (c.fewest_lacked.ensures.lacks k c.in-Some.ensures.some) in
     let owned : IsOwned (having k (join lists)) s = cut_owned s lists cut k (λ vs g. c.owned_columns-owned.ensures.owned k (c.in_ok-left.ensures.low.each k choice) vs (subst (Listed vs) (sym lists_given) g)) in
     let inner = ap₂ (λ (ls : List (List ℕ)) (vs : List ℕ). map (having k) ls ++ lacking k vs ∷ [])
-        (ap₂ parts c.as_slice-own.ensures.value (runs_rest rs c.deref-in-Some-sole_having.result.now c.args.runs_from c.deref-in-Some-sole_having.ensures.value)) given in
+    (ap₂ parts c.as_slice-own.ensures.value (runs_rest rs c.deref-in-Some-sole_having.result.now c.args.runs_from c.deref-in-Some-sole_having.ensures.value)) given in
     let first : HasBranched ws (with s k) (without left k) mid between
     = branched_as ws (with s k) (with s k) (without left k) c.without-rest.result mid between between refl c.without-rest.ensures refl
     (c.in_ok-push_past_sole-in-Some.ensures ws (subst (IsCut (with s k)) (sym inner) (cut_with ws s left pending lists ended.branch cut k choice))

@@ -1,6 +1,6 @@
-use Rattle.std.proofs.Common.{◌≡◌, ◌++◌, ◌∷◌, [], ◌∙◌, not, true, false, ℕ, List, map, refl, sym, ap, subst}
+use Rattle.std.proofs.Common.{◌++◌, ◌∷◌, [], ◌∙◌, ℕ, List, map, refl, sym, ap, subst}
 use Rattle.std.proofs.lemmas.Bool.{and_parts}
-use Rattle.col_set.specs.ColSet.{IsSubset, has, with}
+use Rattle.col_set.specs.ColSet.{has, with}
 use Rattle.col_set.specs.Members.{has-minus}
 use Rattle.candidate_cover.specs.Growth.{having}
 use Rattle.candidate_cover.specs.Branches.{lacking, parts, join, IsCut}

@@ -1,9 +1,9 @@
-use Rattle.std.proofs.Common.{true, ◌≡◌, ◌∙◌, ◌++◌, [], ℕ, List, length, take, drop, sym, ap, subst, Vec, rules}
+use Rattle.std.proofs.Common.{true, ◌≡◌, ◌∙◌, ◌++◌, [], ℕ, List, length, take, drop, sym, ap, subst, Vec}
 use Rattle.std.specs.declared.alloc.Global.{Global}
 use Rattle.std.proofs.lemmas.List.{take_rest}
 use Rattle.col_set.specs.ColSet.{IsSubset}
 use Rattle.col_set.specs.Evidence.{refuted}
-use Rattle.candidate_cover.specs.Branches.{covered, HasBranched}
+use Rattle.candidate_cover.specs.Branches.{HasBranched}
 use Rattle.candidate_cover.specs.Growth.{choices, ListsLeast}
 use Rattle.candidate_cover.specs.Drafts.{Drafted, AreDrafted, lists_behind}
 use Rattle.candidate_cover.proofs.Branches.{branched_least}
