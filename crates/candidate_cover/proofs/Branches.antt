@@ -21,7 +21,7 @@ use Rattle.candidate_cover.specs.Marks.{HasMembers}
 use Rattle.candidate_cover.specs.Branches.{covered, lacking, sees, join, IsRun, IsCut, IsOwned, IsUnowned, IsLeastFrom, IsBranch, HasBranched, HasEnded, pruned}
 
 -- ---- sets that agree sets contain
-covered_at : (ws : List ℕ) (x w : ℕ) → Listed w ws → IsSubset x w → covered ws x ≡ true
+pub covered_at : (ws : List ℕ) (x w : ℕ) → Listed w ws → IsSubset x w → covered ws x ≡ true
 covered_at ws x w h s = list_any_at (λ w. subset x w) w ws h (true-subset s)
 
 pub record Covers (ws : List ℕ) (x : ℕ) : Type 0 where
@@ -664,10 +664,11 @@ pub record EndsSoFar (s free lacked rest left : ℕ) (old mid : List ℕ) : Type
   pub open_ones : IsSubset rest left
   pub among : IsSubset rest lacked
   pub low : IsSubset left free
+  pub gone : (k : ℕ) → has lacked k ≡ true → has rest k ≡ false → has left k ≡ false
   pub ended : (ws pending own : List ℕ) → IsBranch ws s free pending own → 0 < length pending → ((k : ℕ) → has lacked k ≡ true → having k pending ≡ []) → ((k : ℕ) → has lacked k ≡ true → IsOwned (having k own) s) → HasEnded ws s free left pending own old mid
 
 pub ends_first : (s free lacked : ℕ) (old : List ℕ) → IsSubset lacked free → EndsSoFar s free lacked lacked free old old
-ends_first s free lacked old i = record { open_ones = i; among = IsSubset-refl lacked; low = IsSubset-refl free; ended = λ ws pending own b l f g. record { branch = b; whole = λ new h. h } }
+ends_first s free lacked old i = record { open_ones = i; among = IsSubset-refl lacked; low = IsSubset-refl free; gone = λ k h n. absurd (true≢false (sym h ∙ n)); ended = λ ws pending own b l f g. record { branch = b; whole = λ new h. h } }
 
 -- where none of some agree sets has the column, one lacks it
 one_lacks : (pending : List ℕ) (c : ℕ) → 0 < length pending → having c pending ≡ [] → list_any (λ w. not (has w c)) pending ≡ true
@@ -684,6 +685,13 @@ ends_more s free lacked rest left old mid e c had new made rest' left' f g = sub
   open_ones = without_less rest left c e.open_ones;
   among = IsSubset-trans (without_inside rest c) e.among;
   low = IsSubset-trans (without_inside left c) e.low;
+  gone = λ k h n. elim (cases_Bool (has rest k)) as (λ _. has (without left c) k ≡ false) [
+    | inl i ↦ elim (cases_Bool (eqb k c)) as (λ _. has (without left c) k ≡ false) [
+      | inl j ↦ ap (has (without left c)) (eqb-true k c j) ∙ without_lacks left c
+      | inr j ↦ absurd (true≢false (sym (has-without rest c k ∙ and_from _ _ i (ap not j)) ∙ n))
+    ]
+    | inr i ↦ has-without left c k ∙ ap (λ b. b && not (eqb k c)) (e.gone k h i)
+  ];
   ended = λ ws pending own b l none owned.
       let h = e.ended ws pending own b l none owned in
       let free_one : has left c ≡ true = e.open_ones.each c had in

@@ -11,6 +11,7 @@ pub mod Parts
 pub mod Places
 pub mod Remarked
 pub mod Runs
+pub mod Soles
 pub mod Sorting
 pub mod Splitting
 pub mod Targets

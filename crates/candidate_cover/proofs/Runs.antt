@@ -1,14 +1,16 @@
 -- Runs of own agree sets, one for each chosen column, and the columns that each has.
-use Rattle.std.proofs.Common.{inl, inr, ◌≡◌, ℕ, ◌+◌, ◌-◌, ◌<◌, ◌≤◌, Bool, true, false, not, ◌&&◌, ◌||◌, refl, sym, ap, ap₂, ◌∙◌, subst, List, [], ◌∷◌, ◌++◌, length, map, get_or, take, drop, arith}
+use Rattle.std.proofs.Common.{inl, inr, ◌≡◌, ℕ, ◌+◌, ◌-◌, ◌<◌, ◌≤◌, Bool, true, false, not, ◌&&◌, ◌||◌, refl, sym, ap, ap₂, ◌∙◌, subst, List, [], ◌∷◌, ◌++◌, length, map, get_or, take, drop, cond, if◌then◌else◌, arith}
 use Rattle.std.proofs.lemmas.Bool.{true≢false, false≢true, and_parts, or_left, cases_Bool}
 use Rattle.std.proofs.lemmas.List.{append-nil, append_assoc, take_more, take_all, take_rest, map-append, length-append, length-drop, get_or-drop, get_or_append_left, drop-append-le, take-append-le, drop_at, take_at, take-append-drop}
+use Rattle.std.specs.List.{filter}
+use Rattle.std.proofs.lemmas.List.Elements.{filter-append}
 use Rattle.std.proofs.lemmas.List.Folds.{list_any-append}
 use Rattle.col_set.specs.ColSet.{IsSubset, has, minus}
 use Rattle.col_set.specs.Members.{has-minus, has-empty}
 use Rattle.col_set.specs.Subsets.{IsSubset-refl, IsSubset-trans}
 use Rattle.col_set.specs.Lists.{Listed, Listed-append_left, Listed-append_right, Listed-append_cases}
 use Rattle.col_set.proofs.Places.{Listed-get_or}
-use Rattle.candidate_cover.proofs.Splitting.{new_end}
+use Rattle.candidate_cover.proofs.Splitting.{filter_next, new_end}
 use Rattle.candidate_cover.specs.Growth.{having}
 use Rattle.candidate_cover.specs.declared.branching.Run.{Run}
 use Rattle.candidate_cover.specs.Branches.{sees, part, parts, IsWithin, AreWithin, IsEntered}
@@ -67,48 +69,85 @@ module _ (vs : List ℕ) (set left : ℕ) (s : SeenSoFar vs set left) where
       by false b e f = absurd (false≢true e)
 
 -- where none is left, agree sets have been seen that have the columns
-pub seen_all : (vs : List ℕ) (set left i : ℕ) → SeenSoFar (take i vs) set left → left ≡ 0 → (k : ℕ) → has set k ≡ true → sees vs k ≡ true
-seen_all vs set left i s e k h =
-    ap (λ us. sees us k) (sym (take-append-drop i vs)) ∙ list_any-append (λ w. has w k) (take i vs) (drop i vs) ∙ or_left _ _ (by (has set k) (sees (take i vs) k) h (sym (s.each k) ∙ ap (λ (v : ℕ). has v k) e ∙ has-empty k))
+seen_when : (vs : List ℕ) (set left : ℕ) → SeenSoFar vs set left → left ≡ 0 → (k : ℕ) → has set k ≡ true → sees vs k ≡ true
+seen_when vs set left s e k h = by (has set k) (sees vs k) h (sym (s.each k) ∙ ap (λ (v : ℕ). has v k) e ∙ has-empty k)
   where
     by : (a b : Bool) → a ≡ true → (a && not b) ≡ false → b ≡ true
     by true true f g = refl
     by true false f g = sym g
     by false b f g = absurd (false≢true f)
 
--- What is known while the runs are gone through: which of the free columns each run seen has an agree set with.
-pub record OwnedSoFar (own : List ℕ) (runs : List Run) (free found : ℕ) : Type 0 where
+pub seen_all : (vs : List ℕ) (set left i : ℕ) → SeenSoFar (take i vs) set left → left ≡ 0 → (k : ℕ) → has set k ≡ true → sees vs k ≡ true
+seen_all vs set left i s e k h =
+    ap (λ us. sees us k) (sym (take-append-drop i vs)) ∙ list_any-append (λ w. has w k) (take i vs) (drop i vs) ∙ or_left _ _ (seen_when (take i vs) set left s e k h)
+
+-- ---- the columns that those of the agree sets have that pass a test
+seen_push : (us : List ℕ) (set left w : ℕ) → SeenSoFar us set left → SeenSoFar (us ++ w ∷ []) set (minus left w)
+seen_push us set left w s = record {
+  each = λ k.
+      has-minus left w k ∙ ap (λ b. b && not (has w k)) (s.each k) ∙ by (has set k) (sees us k) (has w k)
+      ∙ ap (λ b. has set k && not b) (sym (list_any-append (λ v. has v k) us (w ∷ []) ∙ ap (λ b. sees us k || b) (or_false (has w k))));
+}
+  where
+    by : (a b c : Bool) → ((a && not b) && not c) ≡ (a && not (b || c))
+    by true true c = refl
+    by true false c = refl
+    by false b c = refl
+
+pub seen_where_more : (p : ℕ → Bool) (vs : List ℕ) (set left i w new : ℕ) → i < length vs → w ≡ get_or vs i w → new ≡ (if p w then minus left w else left) → SeenSoFar (filter p (take i vs)) set left → SeenSoFar (filter p (take (i + 1) vs)) set new
+seen_where_more p vs set left i w new l is e s = subst (λ (us : List ℕ). SeenSoFar us set new) (sym (filter_next 0 vs i w l is p)) (by (p w) e)
+  where
+    by : (b : Bool) → new ≡ (if b then minus left w else left) → SeenSoFar (filter p (take i vs) ++ cond b (w ∷ []) []) set new
+    by true f = subst (SeenSoFar (filter p (take i vs) ++ w ∷ []) set) (sym f) (seen_push (filter p (take i vs)) set left w s)
+    by false f = subst (SeenSoFar (filter p (take i vs) ++ []) set) (sym f) (subst (λ (us : List ℕ). SeenSoFar us set left) (sym (append-nil (filter p (take i vs)))) s)
+
+pub seen_where_all : (p : ℕ → Bool) (vs : List ℕ) (set left i : ℕ) → SeenSoFar (filter p (take i vs)) set left → left ≡ 0 → (k : ℕ) → has set k ≡ true → sees (filter p vs) k ≡ true
+seen_where_all p vs set left i s e k h =
+    ap (λ us. sees us k) (ap (filter p) (sym (take-append-drop i vs)) ∙ filter-append p (take i vs) (drop i vs)) ∙ list_any-append (λ w. has w k) (filter p (take i vs)) (filter p (drop i vs))
+    ∙ or_left _ _ (seen_when (filter p (take i vs)) set left s e k h)
+
+-- What is known while lists of agree sets are gone through: which of the free columns each list has an agree set with.
+pub record OwnedSoFar (lists : List (List ℕ)) (free found : ℕ) : Type 0 where
   pub low : IsSubset found free
-  pub owned : (k : ℕ) → has found k ≡ true → (vs : List ℕ) → Listed vs (parts own runs) → sees vs k ≡ true
-  pub unowned : (k : ℕ) → has free k ≡ true → has found k ≡ false → (vs : List ℕ) × Listed vs (parts own runs) × (sees vs k ≡ false)
+  pub owned : (k : ℕ) → has found k ≡ true → (vs : List ℕ) → Listed vs lists → sees vs k ≡ true
+  pub unowned : (k : ℕ) → has free k ≡ true → has found k ≡ false → (vs : List ℕ) × Listed vs lists × (sees vs k ≡ false)
 
-pub owned_first : (own : List ℕ) (free : ℕ) → OwnedSoFar own [] free free
-owned_first own free = record { low = IsSubset-refl free; owned = λ k h vs g. absurd g; unowned = λ k h n. absurd (true≢false (sym h ∙ n)) }
+pub owned_first : (free : ℕ) → OwnedSoFar [] free free
+owned_first free = record { low = IsSubset-refl free; owned = λ k h vs g. absurd g; unowned = λ k h n. absurd (true≢false (sym h ∙ n)) }
 
-owned_also : (own : List ℕ) (runs : List Run) (free found : ℕ) (r : Run) (new : ℕ) → IsSubset new found → ((k : ℕ) → has new k ≡ true → sees (part own r) k ≡ true)
-    → ((k : ℕ) → has found k ≡ true → has new k ≡ false → sees (part own r) k ≡ false) → OwnedSoFar own runs free found → OwnedSoFar own (runs ++ r ∷ []) free new
-owned_also own runs free found r new low seen unseen o = record {
+-- a list more
+pub owned_also : (lists : List (List ℕ)) (free found : ℕ) (vs : List ℕ) (new : ℕ) → IsSubset new found → ((k : ℕ) → has new k ≡ true → sees vs k ≡ true)
+    → ((k : ℕ) → has found k ≡ true → has new k ≡ false → sees vs k ≡ false) → OwnedSoFar lists free found → OwnedSoFar (lists ++ vs ∷ []) free new
+owned_also lists free found vs new low seen unseen o = record {
   low = IsSubset-trans low o.low;
-  owned = λ k h vs g. elim (Listed-append_cases vs (parts own runs) (part own r ∷ []) (subst (Listed vs) (map-append (part own) runs (r ∷ [])) g)) as (λ _. sees vs k ≡ true) [
-    | inl f ↦ o.owned k (low.each k h) vs f
-    | inr f ↦ last k h vs f
+  owned = λ k h us g. elim (Listed-append_cases us lists (vs ∷ []) g) as (λ _. sees us k ≡ true) [
+    | inl f ↦ o.owned k (low.each k h) us f
+    | inr f ↦ last k h us f
   ];
-  unowned = λ k h n. elim (cases_Bool (has found k)) as (λ _. (vs : List ℕ) × Listed vs (parts own (runs ++ r ∷ [])) × (sees vs k ≡ false)) [
-    | inl f ↦ (part own r, listed (part own r) (Listed-append_right (part own r) (parts own runs) (part own r ∷ []) (inl refl)), unseen k f n)
-    | inr f ↦ let w = o.unowned k h f in (w.0, listed w.0 (Listed-append_left w.0 (parts own runs) (part own r ∷ []) w.1), w.2)
+  unowned = λ k h n. elim (cases_Bool (has found k)) as (λ _. (us : List ℕ) × Listed us (lists ++ vs ∷ []) × (sees us k ≡ false)) [
+    | inl f ↦ (vs, Listed-append_right vs lists (vs ∷ []) (inl refl), unseen k f n)
+    | inr f ↦ let w = o.unowned k h f in (w.0, Listed-append_left w.0 lists (vs ∷ []) w.1, w.2)
   ];
 }
   where
-    listed : (vs : List ℕ) → Listed vs (parts own runs ++ part own r ∷ []) → Listed vs (parts own (runs ++ r ∷ []))
-    listed vs h = subst (Listed vs) (sym (map-append (part own) runs (r ∷ []))) h
+    last : (k : ℕ) → has new k ≡ true → (us : List ℕ) → Listed us (vs ∷ []) → sees us k ≡ true
+    last k h us (inl e) = subst (λ (ws : List ℕ). sees ws k ≡ true) (sym e) (seen k h)
+    last k h us (inr g) = absurd g
 
-    last : (k : ℕ) → has new k ≡ true → (vs : List ℕ) → Listed vs (part own r ∷ []) → sees vs k ≡ true
-    last k h vs (inl e) = subst (λ (us : List ℕ). sees us k ≡ true) (sym e) (seen k h)
-    last k h vs (inr g) = absurd g
+-- the lists of one run more
+parts_next : (own : List ℕ) (runs : List Run) (i : ℕ) (d : Run) → i < length runs → parts own (take (i + 1) runs) ≡ parts own (take i runs) ++ part own (get_or runs i d) ∷ []
+parts_next own runs i d l = ap (parts own) (take_more runs i d l) ∙ map-append (part own) (take i runs) (get_or runs i d ∷ [])
 
 pub owned_more : (own : List ℕ) (runs : List Run) (free found i : ℕ) (d : Run) (new : ℕ) → i < length runs → IsSubset new found → ((k : ℕ) → has new k ≡ true → sees (part own (get_or runs i d)) k ≡ true)
-    → ((k : ℕ) → has found k ≡ true → has new k ≡ false → sees (part own (get_or runs i d)) k ≡ false) → OwnedSoFar own (take i runs) free found → OwnedSoFar own (take (i + 1) runs) free new
-owned_more own runs free found i d new l low seen unseen o = subst (λ (rs : List Run). OwnedSoFar own rs free new) (sym (take_more runs i d l)) (owned_also own (take i runs) free found (get_or runs i d) new low seen unseen o)
+    → ((k : ℕ) → has found k ≡ true → has new k ≡ false → sees (part own (get_or runs i d)) k ≡ false) → OwnedSoFar (parts own (take i runs)) free found → OwnedSoFar (parts own (take (i + 1) runs)) free new
+owned_more own runs free found i d new l low seen unseen o = subst (λ (ls : List (List ℕ)). OwnedSoFar ls free new) (sym (parts_next own runs i d l)) (owned_also (parts own (take i runs)) free found (part own (get_or runs i d)) new low seen unseen o)
+
+-- of the agree sets that have a column
+pub owned_more_with : (c : ℕ) (own : List ℕ) (runs : List Run) (free found i : ℕ) (d : Run) (new : ℕ) → i < length runs → IsSubset new found → ((k : ℕ) → has new k ≡ true → sees (having c (part own (get_or runs i d))) k ≡ true)
+    → ((k : ℕ) → has found k ≡ true → has new k ≡ false → sees (having c (part own (get_or runs i d))) k ≡ false) → OwnedSoFar (map (having c) (parts own (take i runs))) free found → OwnedSoFar (map (having c) (parts own (take (i + 1) runs))) free new
+owned_more_with c own runs free found i d new l low seen unseen o =
+    subst (λ (ls : List (List ℕ)). OwnedSoFar ls free new) (sym (ap (map (having c)) (parts_next own runs i d l) ∙ map-append (having c) (parts own (take i runs)) (part own (get_or runs i d) ∷ [])))
+    (owned_also (map (having c) (parts own (take i runs))) free found (having c (part own (get_or runs i d))) new low seen unseen o)
 
 -- ---- runs in a list that grows
 part_front : (own more : List ℕ) (r : Run) → IsWithin own r → part (own ++ more) r ≡ part own r

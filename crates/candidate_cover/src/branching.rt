@@ -1,7 +1,7 @@
 // The least column sets that no agree set contains, split by a column: those with it and those without it.
-ghost use Rattle.std.specs.Prelude.{◌≡◌, ◌≤◌, ◌<◌, ◌∷◌, ◌++◌, ◌⊎◌, ◌&&◌, [], not, map, Bool, true, false, None, ℕ, List, length, take, drop, IfOk, OnOk, IfSome};
+ghost use Rattle.std.specs.Prelude.{if◌then◌else◌, ◌≡◌, ◌≤◌, ◌<◌, ◌∷◌, ◌++◌, ◌⊎◌, ◌&&◌, [], not, map, Bool, true, false, None, ℕ, List, length, take, drop, IfOk, OnOk, IfSome};
 ghost use Rattle.std.specs.List.{filter, list_any};
-ghost use Rattle.col_set.specs.ColSet.{IsSubset, empty, has, without, inter, subset};
+ghost use Rattle.col_set.specs.ColSet.{IsSubset, empty, has, with, without, inter, minus, subset};
 ghost use Rattle.col_set.specs.Target.{IsColumnTarget, has_target};
 ghost use Rattle.col_set.specs.Lists.{Listed};
 ghost use Rattle.candidate_cover.specs.Branches.{covered, lacking, sees, part, parts, join, IsWithin, AreWithin, IsEntered, IsCut, IsOwned, IsBranch, HasBranched, HasEnded, pruned};
@@ -200,6 +200,79 @@ fn owned_columns(own: &[ColSet], runs: &[Run], free: ColSet) -> ColSet
     owned
 }
 
+// What is left of the columns after an agree set, which counts where it has the column as wanted.
+fn left_after(left: ColSet, w: ColSet, column: u8, wanted: bool) -> ColSet
+    requires { column < MOST_COLUMNS }
+    ensures { result ≡ (if (if wanted then has w column else not (has w column)) then minus left w else left) }
+{
+    if w.has(column) == wanted {
+        left.minus(w)
+    } else {
+        left
+    }
+}
+
+// Those of the columns that some have of the agree sets that have the column, or of those that lack it. Where all have been seen, it
+// looks no further.
+fn seen_where(sets: &[ColSet], column: u8, wanted: bool, columns: ColSet) -> ColSet
+    requires { column < MOST_COLUMNS }
+    ensures low { IsSubset result columns }
+    ensures seen { (k : ℕ) → has result k ≡ true → sees (filter (λ w. if wanted then has w column else not (has w column)) sets.now) k ≡ true }
+    ensures unseen { (k : ℕ) → has columns k ≡ true → has result k ≡ false → sees (filter (λ w. if wanted then has w column else not (has w column)) sets.now) k ≡ false }
+{
+    let mut left = columns;
+    for w in sets {
+        left = left_after(left, *w, column, wanted);
+        if left == ColSet::empty() {
+            return columns;
+        }
+    }
+    columns.minus(left)
+}
+
+// Those of the columns that some have of the run's agree sets that have the column.
+fn seen_in_run_with(own: &[ColSet], run: Run, column: u8, columns: ColSet) -> ColSet
+    requires column { column < MOST_COLUMNS }
+    requires within { IsWithin own.now run }
+    ensures low { IsSubset result columns }
+    ensures seen { (k : ℕ) → has result k ≡ true → sees (having column (part own.now run)) k ≡ true }
+    ensures unseen { (k : ℕ) → has columns k ≡ true → has result k ≡ false → sees (having column (part own.now run)) k ≡ false }
+{
+    seen_where(&own[run.start..run.stop], column, true, columns)
+}
+
+// Those of the free columns that each run has an agree set with that has the column too.
+fn owned_columns_with(own: &[ColSet], runs: &[Run], column: u8, free: ColSet) -> ColSet
+    requires column { column < MOST_COLUMNS }
+    requires within { AreWithin own.now runs.now }
+    ensures low { IsSubset result free }
+    ensures owned { (k : ℕ) → has result k ≡ true → (vs : List ℕ) → Listed vs (map (having column) (parts own.now runs.now)) → sees vs k ≡ true }
+    ensures unowned { (k : ℕ) → has free k ≡ true → has result k ≡ false → (vs : List ℕ) × Listed vs (map (having column) (parts own.now runs.now)) × (sees vs k ≡ false) }
+{
+    let mut owned = free;
+    for run in runs {
+        owned = seen_in_run_with(own, *run, column, owned);
+    }
+    owned
+}
+
+// The one of the agree sets that has the column, where no other one has it.
+fn sole_having(pending: &[ColSet], column: u8) -> Option<ColSet>
+    requires { column < MOST_COLUMNS }
+    ensures { IfSome result (λ w. having column pending.now ≡ w ∷ []) }
+{
+    let mut sole = None;
+    for w in pending {
+        if w.has(column) {
+            if sole.is_some() {
+                return None;
+            }
+            sole = Some(*w);
+        }
+    }
+    sole
+}
+
 // Adds those of a run's agree sets that have the column, as a run.
 fn push_run(
     own: &mut Vec<ColSet>,
@@ -230,6 +303,7 @@ fn push_ends(
 ) -> Result<ColSet, AllocError>
     requires { IsSubset lacked free }
     ensures low { IfOk result (λ left. IsSubset left free) }
+    ensures gone { IfOk result (λ left. (k : ℕ) → has lacked k ≡ true → has left k ≡ false) }
     ensures ended { IfOk result (λ left. (ws pending own : List ℕ) → IsBranch ws chosen free pending own → 0 < length pending → ((k : ℕ) → has lacked k ≡ true → having k pending ≡ []) → ((k : ℕ) → has lacked k ≡ true → IsOwned (having k own) chosen) → HasEnded ws chosen free left pending own found.old.items found.new.items) }
 {
     let mut left = free;
@@ -240,6 +314,28 @@ fn push_ends(
         rest = rest.without(column);
     }
     Ok(left)
+}
+
+// Adds the least sets that have the chosen columns, the column and else free ones, where just one pending agree set has the column:
+// each takes one free column that this one lacks. No list is copied for them, and most frames would be ones of this kind.
+fn push_past_sole(
+    found: &mut Vec<ColSet>,
+    pending: &[ColSet],
+    own: &[ColSet],
+    runs: &[Run],
+    chosen: ColSet,
+    column: u8,
+    free: ColSet,
+    sole: ColSet,
+) -> Result<(), AllocError>
+    requires column { column < MOST_COLUMNS }
+    requires within { AreWithin own.now runs.now }
+    ensures { OnOk result ((ws : List ℕ) → IsCut (with chosen column) (map (having column) (parts own.now runs.now) ++ lacking column pending.now ∷ []) → IsBranch ws (with chosen column) free (sole ∷ []) (join (map (having column) (parts own.now runs.now) ++ lacking column pending.now ∷ [])) → HasBranched ws (with chosen column) free found.old.items found.new.items) }
+{
+    let owned = owned_columns_with(own, runs, column, free);
+    let owned = seen_where(pending, column, false, owned);
+    let _left = push_ends(found, chosen.with(column), owned, owned.minus(sole))?;
+    Ok(())
 }
 
 // Whether an agree set lies, as far as the free columns go, inside one of the others.
@@ -369,6 +465,13 @@ fn branch(
         }
         Some(column) => {
             let rest = left.without(column);
+            if let Some(sole) = sole_having(pending, column) {
+                let runs = &frames.runs[runs_from..];
+                let own = frames.own.as_slice();
+                push_past_sole(found, pending, own, runs, chosen, column, rest, sole)?;
+                frames.prune(pending_from, column, rest)?;
+                return branch(frames, chosen, rest, pending_from, runs_from, found);
+            }
             let pending_end = frames.pending.len();
             let own_end = frames.own.len();
             let runs_end = frames.runs.len();

@@ -1,11 +1,12 @@
 // Candidates while many agree sets come in, one after another.
-ghost use Rattle.std.specs.Prelude.{if◌then◌else◌, ◌≡◌, ◌≤◌, ◌<◌, ◌^◌, ◌∷◌, [], ◌++◌, ◌&&◌, ℕ, List, true, false, length, map, IfOk, OnOk};
+ghost use Rattle.std.specs.Prelude.{if◌then◌else◌, ◌≡◌, ◌≤◌, ◌<◌, ◌^◌, ◌∷◌, [], ◌++◌, ◌&&◌, ℕ, List, true, false, length, map, take, IfOk, OnOk};
 ghost use Rattle.std.specs.List.{list_any};
 ghost use Rattle.col_set.specs.ColSet.{has, subset, union, minus};
 ghost use Rattle.col_set.specs.Target.{IsColumnTarget, has_target};
 ghost use Rattle.col_set.specs.declared.target.Target.{Target as TargetSpec};
 ghost use Rattle.col_set.specs.declared.target.Target.TheVariants.{Col, RowId};
 ghost use Rattle.col_set.specs.Evidence.{refuted};
+ghost use Rattle.col_set.specs.Lists.{Listed};
 ghost use Rattle.candidate_cover.specs.Growth as words;
 ghost use Rattle.candidate_cover.specs.Growth.{ListsLeast};
 ghost use Rattle.candidate_cover.specs.Drafts as drafts;
@@ -72,10 +73,11 @@ impl Draft {
         ensures { IfOk result (λ sets. ListsLeast (words.choices self.now.width target) self.now.agree_sets target sets.items) }
     {
         let columns = self.filing.columns();
-        let news = &self.filing.agree_sets()[self.made..];
-        if count_lacking(news, target) > FEW {
+        let outer = self.filing.outer(target);
+        let old = &self.filing.agree_sets()[..self.made];
+        let news = &outer[count_old(outer, old, target)..];
+        if news.len() > FEW {
             let choices = choices(columns, target);
-            let outer = self.filing.outer(target);
             let kept = outermost_of_filed(alloc, choices, outer)?;
             let sets = uncovered(alloc, choices, kept)?;
             return Ok(sets);
@@ -128,14 +130,19 @@ fn sides_of<'a>(row_id: &'a [ColSet], columns: &'a [Vec<ColSet>], target: Target
     }
 }
 
-// How many of the agree sets lack the target.
-fn count_lacking(agree_sets: &[ColSet], target: Target) -> usize
+// Of agree sets so many stand first that they are the old ones which lack the target, one after another, as long as they are the same.
+fn count_old(agree_sets: &[ColSet], old: &[ColSet], target: Target) -> usize
     requires { IsColumnTarget MOST_COLUMNS target }
+    ensures bound { result ≤ length agree_sets.now }
+    ensures old { (w : ℕ) → Listed w (take result agree_sets.now) → refuted old.now target w ≡ true }
 {
-    let mut count = 0usize;
-    for w in agree_sets {
+    let mut count = 0;
+    for w in old {
         if !w.has_target(target) {
-            count = count.saturating_add(1);
+            if count >= agree_sets.len() || agree_sets[count] != *w {
+                return count;
+            }
+            count += 1;
         }
     }
     count

@@ -187,6 +187,27 @@ fn branches_make_what_the_plain_program_does(rt: HostRuntime) -> Result<(), Fail
     Ok(())
 }
 
+// Large agree sets of nine columns, so many that branches choose several columns before one or two of the agree sets are pending.
+fn large_sets(alloc: Global, mut seed: u32) -> Result<Vec<ColSet>, AllocError> {
+    let mut sets = Vec::new(alloc);
+    for _ in 0..24 {
+        let half = ColSet::of_bits((seed >> 23) as u128);
+        seed = seed.wrapping_mul(1664525).wrapping_add(1013904223);
+        sets.push(half.union(ColSet::of_bits((seed >> 23) as u128)))?;
+    }
+    Ok(sets)
+}
+
+#[test]
+fn deep_branches_make_what_the_plain_program_does(rt: HostRuntime) -> Result<(), Fail> {
+    let alloc = rt.alloc();
+    for seed in 0..40u32 {
+        let sets = large_sets(alloc, seed.wrapping_mul(2654435761))?;
+        expect_branched_for_all(&rt, alloc, 9, sets.as_slice())?;
+    }
+    Ok(())
+}
+
 // Agree sets of the most columns: half of them, the others with one of these, all but the last, and all but the first twice.
 static WIDE: [u128; 5] = [
     0xffff_ffff_ffff_ffff,

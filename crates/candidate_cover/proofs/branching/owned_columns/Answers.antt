@@ -3,7 +3,7 @@ use Rattle.candidate_cover.proofs.Runs.{owned_first, owned_more}
 use Rattle.candidate_cover.proofs.branching.owned_columns.Goals as goal
 
 pub loop-run-init : goal.loop-run-init
-loop-run-init c = owned_first c.args.own.now c.args.free
+loop-run-init c = owned_first c.args.free
 
 pub seen_in_run-owned-requires : goal.seen_in_run-owned-requires
 seen_in_run-owned-requires c = c.requires.each _ (Listed-get_or c.args.runs.now c.loop-run.run-index (record { start = 0; stop = 0 }) c.loop-run-test.true)

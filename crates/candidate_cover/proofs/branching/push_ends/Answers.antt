@@ -1,6 +1,8 @@
 use Rattle.std.proofs.Common.{◌∙◌, ◌++◌, ◌∷◌, [], ℕ, ap, arith}
-use Rattle.col_set.proofs.EachColumn.{first-Some}
-use Rattle.candidate_cover.proofs.Branches.{ends_first, ends_more}
+use Rattle.col_set.specs.ColSet.{has}
+use Rattle.col_set.specs.Members.{has-empty}
+use Rattle.col_set.proofs.EachColumn.{first-Some, first-None}
+use Rattle.candidate_cover.proofs.Branches.{no_columns, ends_first, ends_more}
 use Rattle.candidate_cover.proofs.branching.push_ends.Goals as goal
 
 pub loop-column-init : goal.loop-column-init
@@ -20,3 +22,6 @@ returns-clause-low c = c.loop-column.invariant.low
 
 pub returns-clause-ended : goal.returns-clause-ended
 returns-clause-ended c = c.loop-column.invariant.ended
+
+pub returns-clause-gone : goal.returns-clause-gone
+returns-clause-gone c = λ k h. c.loop-column.invariant.gone k h (ap (λ (v : ℕ). has v k) (no_columns c.loop-column.rest (first-None c.loop-column.rest (c.in_default.ensures.value))) ∙ has-empty k)
