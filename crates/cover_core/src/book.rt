@@ -167,7 +167,7 @@ impl Book {
             cursors,
             first,
             searcher,
-            outdated: Outdated::of(Vec::new(alloc), None),
+            outdated: Outdated::of(Vec::new(alloc)),
             alloc,
         })
     }
@@ -232,7 +232,7 @@ impl Book {
         }
         let new_lists = specialised(self.alloc, &self.candidates, agree, &concerned)?;
         self.witnesses.add(Witness { i, j, agree })?;
-        self.outdated = Outdated::of(put_all(&mut self.candidates, new_lists), None);
+        self.outdated = Outdated::of(put_all(&mut self.candidates, new_lists));
         let next = self.rows.next();
         move_both_back(&self.candidates, &concerned, &mut self.cursors, next);
         self.first = first_unfinished(&self.candidates, &mut self.cursors.unfinished, next);
@@ -305,7 +305,7 @@ impl Book {
                 let lists = put_all(&mut self.candidates, made.new_lists);
                 let snapshot = mem::replace(&mut self.snapshot, made.snapshot);
                 let groups = self.searcher.stores.renew(self.alloc, made.shared);
-                self.outdated = Outdated::of(lists, Some((groups, snapshot)));
+                self.outdated = Outdated::of_batch(self.alloc, lists, groups, snapshot);
                 self.cursors = Cursors::start();
                 let next = self.rows.next();
                 self.first = first_unfinished(&self.candidates, &mut self.cursors.unfinished, next);
@@ -354,7 +354,7 @@ impl Book {
     pub fn take_outdated(&mut self) -> Outdated
         ensures { self.new ≡ self.old }
     {
-        mem::replace(&mut self.outdated, Outdated::of(Vec::new(self.alloc), None))
+        mem::replace(&mut self.outdated, Outdated::of(Vec::new(self.alloc)))
     }
 
     /// Finds the covers of the rows (HyFD, Papenbrock and Naumann, 2016).
@@ -488,7 +488,7 @@ impl Book {
         ensures witnesses { self.new.witnesses ≡ self.old.witnesses }
         ensures sound { Sound self.new }
     {
-        self.outdated = Outdated::of(Vec::new(self.alloc), None);
+        self.outdated = Outdated::of(Vec::new(self.alloc));
         self.candidates.free();
         self.cursors = Cursors::start();
         let next = self.rows.next();

@@ -1,6 +1,7 @@
 // What calls of the book put something else in place of.
 use candidate_cover::OldList;
 use rel_base::Snapshot;
+use std::alloc::Global;
 use std::marker::Model;
 use std::sync::Arc;
 use validator::OldGroups;
@@ -12,7 +13,15 @@ use validator::OldGroups;
 #[derive(Drop)]
 pub struct Outdated {
     lists: Vec<OldList>,
-    rows: Option<(OldGroups, Arc<Snapshot>)>,
+    // Behind a pointer, since each reply at a desk has room for what it brings.
+    rows: Option<Box<OldRows>>,
+}
+
+// What a batch leaves of the rows before it.
+#[derive(Drop)]
+struct OldRows {
+    groups: OldGroups,
+    snapshot: Arc<Snapshot>,
 }
 
 impl Model for Outdated {
@@ -24,8 +33,19 @@ impl Model for Outdated {
 }
 
 impl Outdated {
-    // The lists, and of a batch the groups and the snapshot.
-    pub(crate) fn of(lists: Vec<OldList>, rows: Option<(OldGroups, Arc<Snapshot>)>) -> Outdated {
+    // The lists.
+    pub(crate) fn of(lists: Vec<OldList>) -> Outdated {
+        Outdated { lists, rows: None }
+    }
+
+    // The lists, and the groups and the snapshot. Where there is no memory to keep these two, they are let go of here.
+    pub(crate) fn of_batch(
+        alloc: Global,
+        lists: Vec<OldList>,
+        groups: OldGroups,
+        snapshot: Arc<Snapshot>,
+    ) -> Outdated {
+        let rows = Box::new(alloc, OldRows { groups, snapshot }).ok();
         Outdated { lists, rows }
     }
 }
