@@ -1,6 +1,7 @@
+pub mod AgreeBits
 pub mod AllPairs
-pub mod CodedRows
 pub mod Concerning
 pub mod EndedRows
 pub mod FoundPairs
+pub mod LiveRows
 pub mod Witnesses

@@ -240,17 +240,29 @@ fn are_as_compared_plainly(rt: &impl Abort, snapshot: &Snapshot, found: &[Witnes
     }
 }
 
-// From fewer columns than a block of codes has to all of eight blocks.
+// On both sides of whole words of columns.
 #[test]
-fn paddings_agree_nowhere(rt: HostRuntime) -> Result<(), Fail> {
+fn words_of_columns_are_compared(rt: HostRuntime) -> Result<(), Fail> {
     let alloc = rt.alloc();
-    for columns in [1u8, 3, 4, 5, 16, 17, 128] {
+    for columns in [1u8, 3, 31, 32, 33, 64, 128] {
         let snapshot = table(alloc, columns, 9, 2)?;
         for from in [1, 7] {
             let found = all_pairs(alloc, &snapshot, RowNo::of(from))?;
             assert!(rt; all_are_told(&snapshot, from, &found));
             are_as_compared_plainly(&rt, &snapshot, &found);
         }
+    }
+    Ok(())
+}
+
+#[test]
+fn a_few_late_rows_are_compared_with_many(rt: HostRuntime) -> Result<(), Fail> {
+    let alloc = rt.alloc();
+    for columns in [1u8, 32, 33, 128] {
+        let snapshot = table(alloc, columns, 300, 2)?;
+        let found = all_pairs(alloc, &snapshot, RowNo::of(298))?;
+        assert!(rt; all_are_told(&snapshot, 298, &found));
+        are_as_compared_plainly(&rt, &snapshot, &found);
     }
     Ok(())
 }

@@ -1,24 +1,17 @@
-use Rattle.std.proofs.Common.{◌<◌, ◌∙◌, ◌++◌, ◌∷◌, [], ℕ, List, length, take, sym, ap, subst, arith}
-use Rattle.std.proofs.lemmas.List.{take_all, take_more}
-use Rattle.negative_cover.specs.FoundPairs.{HasCompared}
-use Rattle.negative_cover.proofs.AllPairs.{compared_later}
+use Rattle.std.proofs.Common.{◌≡◌, ◌+◌, ◌++◌, arith, length, length-append, take, drop}
+use Rattle.std.proofs.lemmas.List.{length-take-le}
+use Rattle.negative_cover.proofs.AllPairs.{compared_before}
 use Rattle.negative_cover.proofs.pairing.push_pairs_with.Goals as goal
-
-pub loop-place-preserved : goal.loop-place-preserved
-loop-place-preserved c =
-    let numbers = c.args.late.now.numbers.items in
-    let place = c.loop-place.place in
-    let within : c.loop-place.place < length c.args.late.now.numbers.items = (let t = c.loop-place-test.true in let e = c.len-place-end.ensures in omega arith) in
-    let more = take_more numbers place 0 within ∙ ap (λ (i : ℕ). take place numbers ++ i ∷ []) (sym c.row.ensures.number) in
-    record {
-      seen = c.in_ok-compare.ensures.seen;
-      compared = λ s p q apart f g.
-          subst (λ (rows : List ℕ). HasCompared s (c.args.first.now.number ∷ []) rows c.args.found.now.pairs.items c.compare.new.found.pairs.items) (sym more)
-          (compared_later s (c.args.first.now.number ∷ []) (take place numbers) c.row.result.number c.args.found.now.pairs.items c.loop-place.found.pairs.items c.compare.new.found.pairs.items
-          (c.loop-place.invariant.compared s p q apart f g) (c.in_ok-compare.ensures.compared s p q apart f (c.row.ensures.codes s q g)));
-    }
 
 pub returns-clause-compared : goal.returns-clause-compared
 returns-clause-compared c =
-    let whole = take_all c.loop-place.place c.args.late.now.numbers.items (let t = c.loop-place-test.false in let e = c.len-place-end.ensures in omega arith) in
-    λ s p q apart f g. subst (λ (rows : List ℕ). HasCompared s (c.args.first.now.number ∷ []) rows c.args.found.now.pairs.items c.loop-place.found.pairs.items) whole (c.loop-place.invariant.compared s p q apart f g)
+    let count = c.min-count.result in
+    let m = c.min-count.ensures in
+    let a = c.number.ensures.value in
+    let b = c.number-2.ensures.value in
+    let first = length-take-le count c.args.sets.now (omega arith) in
+    let same = c.write_agreement.auto.sets in
+    let both = length-append c.write_agreement.new.sets (drop count c.args.sets.now) in
+    let long : length (take count (c.write_agreement.new.sets ++ drop count c.args.sets.now)) ≡ count = length-take-le count (c.write_agreement.new.sets ++ drop count c.args.sets.now) (omega arith) in
+    compared_before c.args.snapshot.now c.args.first (c.args.first + length (take count (c.write_agreement.new.sets ++ drop count c.args.sets.now))) (c.args.first + length c.args.sets.now) c.args.other
+    c.args.found.now.pairs.items c.add_pairs.new.found.pairs.items (λ l. omega arith) c.in_ok-add_pairs.ensures.compared
