@@ -247,6 +247,39 @@ fn is_larger(kept: &[Kept], k: usize, other: Option<usize>) -> bool
     }
 }
 
+// Whether no partition by some of these columns that stays for good is by more of them than the one at a place, if there is one.
+fn is_unmatched(kept: &[Kept], columns: ColSet, found: Option<usize>) -> bool
+    requires { IfSome found (λ k. k < length kept.now) }
+{
+    match found {
+        Some(k) => kept[k].columns == columns || kept[k].columns.len() >= MOST_KEPT_COLUMNS,
+        None => false,
+    }
+}
+
+// Of the kept partitions by some of these columns and those of the path, the place of the one by the most of them, as far as it is
+// found.
+//
+// The path is looked at first: mostly it has the groups by the whole left side, as the verdict before was on another of its targets,
+// and then no column set is hashed.
+fn best_kept(
+    kept: &[Kept],
+    lasting: usize,
+    places: &Places,
+    weights: &[u32; COLUMN_PLACES],
+    columns: ColSet,
+) -> Option<usize>
+    ensures place { IfSome result (λ k. k < length kept.now) }
+    ensures within { (k : ℕ) (d : Kept) → result ≡ Some k → subset (slice_index_or kept.now k d).columns columns ≡ true }
+{
+    let of_path = largest(kept, lasting, columns, None);
+    if is_unmatched(kept, columns, of_path) {
+        return of_path;
+    }
+    let found = lightest_kept(kept, places, weights, columns);
+    largest(kept, lasting, columns, found)
+}
+
 // Refines a kept partition by all but one of the columns that are left, or by all, the lightest first, and keeps what it makes. It
 // answers the place of the last one, and the column that is left to the comparisons, which is the heaviest.
 fn refine_kept(
@@ -626,8 +659,8 @@ impl Cache {
         ensures place { IfOk result (λ k. k < vec_len self.new.kept) }
         ensures within { IfOk result (λ k. (d : Kept) → subset (slice_index_or self.new.kept.items k d).columns columns ≡ true) }
     {
-        let found = lightest_kept(&self.kept, &self.places, &self.order, columns);
-        if let Some(k) = largest(&self.kept, self.lasting, columns, found) {
+        let found = best_kept(&self.kept, self.lasting, &self.places, &self.order, columns);
+        if let Some(k) = found {
             return Ok(k);
         }
         let k = self.kept.len();
