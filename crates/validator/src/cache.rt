@@ -30,7 +30,7 @@ const MOST_LARGE_COLUMNS: u32 = 4;
 const FEW_KEPT_ROWS: usize = 1024;
 
 // The most partitions that are kept.
-const MOST_KEPT: usize = 16384;
+const MOST_KEPT: usize = 65536;
 
 // Of so many columns at most the partitions are made before they are kept, or let go of.
 const MOST_AT_ONCE: u8 = 16;

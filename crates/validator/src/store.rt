@@ -28,7 +28,7 @@ const FEW_ROWS: u32 = 1000;
 /// Stripped partitions of one snapshot, which verdicts start from. One worker owns it.
 ///
 /// It keeps the partition by each single column that a verdict or `weights` asked for, and those by two to four columns that it
-/// made on its way, by up to six where they have few rows, 16,384 of them at most, as long as the rows of all that is kept fit its
+/// made on its way, by up to six where they have few rows, 65,536 of them at most, as long as the rows of all that is kept fit its
 /// room. A partition with more than half of the snapshot's rows is kept only as long as they fit half of it.
 ///
 /// What the last verdict made on its way and may not stay, being by more columns or without room, is the path. The next
