@@ -1,6 +1,7 @@
 -- Candidates and the pairs of a tree: how look-ups and changes of the one read on the other.
 use Rattle.std.proofs.Common.{inl, inr, ◌≡◌, ℕ, zero, suc, ◌<◌, Bool, true, false, cond, not, ◌||◌, eqb, refl, sym, ap, ap₂, ◌∙◌, subst, arith, List, [], ◌∷◌, length, get_or, set, map, if◌then◌else◌, Some, None, Ordering, Greater}
 use Rattle.std.specs.List.{find}
+use Rattle.std.proofs.lemmas.List.{set-get_or}
 use Rattle.std.specs.Option.{option_map}
 use Rattle.std.specs.Cmp.{nat_cmp_is}
 use Rattle.std.specs.Cmp.Lexicographic.{slice_cmp}
@@ -8,7 +9,7 @@ use Rattle.std.specs.Ordering.{is_lt, nat_cmp, ordering_then}
 use Rattle.std.proofs.lemmas.Bool.{eq-eqb, eqb-true, or_parts}
 use Rattle.std.proofs.lemmas.Option.{same_Some, none-some}
 use Rattle.col_set.specs.declared.target.Target.{Target}
-use Rattle.col_set.specs.declared.target.Target.TheVariants.{Col}
+use Rattle.col_set.specs.declared.target.Target.TheVariants.{Col, RowId}
 use Rattle.col_set.specs.Target.{IsColumnTarget}
 use Rattle.col_set.specs.ColSet.{report_cmp, columns, size}
 use Rattle.col_set.specs.Lists.{Listed}
@@ -158,3 +159,8 @@ module _ (r : List (ℕ × Mark)) (ts : List (List (ℕ × Mark))) (now : CandLi
   col_written new cs e =
       ap (λ (us : List (List Cand)). record { row_id = cands r; columns = us }) (map-set cands ts a new ∙ ap (set (map cands ts) a) e)
       ∙ ap (λ (c : CandLists). with_list c (Col a) cs) view ∙ ap (λ (u : Target). with_list now u cs) (sym is)
+
+-- a target's own list in its place
+pub with_list-own : (c : CandLists) (t : Target) → with_list c t (cands_of c t) ≡ c
+with_list-own c (Col a) = ap (λ (ls : List (List Cand)). record { row_id = c.row_id; columns = ls }) (set-get_or c.columns a [])
+with_list-own c RowId = refl

@@ -173,6 +173,13 @@ impl CandList {
         }
     }
 
+    // Has the next look-up begin about a place.
+    pub(crate) fn look_near(&mut self, place: usize)
+        ensures { self.new ≡ self.old }
+    {
+        self.last = place;
+    }
+
     // Notes that x is known to hold up to there at least and that nobody holds it, and answers whether it is there.
     pub(crate) fn mark(&mut self, x: ColSet, to: RowNo) -> bool
         ensures found { result ≡ words.is_listed (cands self.old) x }

@@ -186,7 +186,8 @@ impl CandidateCover {
         }
     }
 
-    /// Notes that a candidate holds among the rows below `to`, and lets go of it. Where it is not listed, nothing changes.
+    /// Notes that a candidate holds among the rows below `to`, and lets go of it. Where it is not listed, nothing changes. It looks the
+    /// candidate up, beginning where the last one of its target was found (`look_near`).
     pub fn mark(&mut self, target: Target, x: ColSet, to: RowNo) -> Marking
         requires { IsColumnTarget (width self.old) target }
         ensures answer { result ≡ (if is_listed (cands_of self.old target) x then Marked else Dropped) }
@@ -195,6 +196,18 @@ impl CandidateCover {
         match target {
             Target::Col(column) => mark_in(&mut self.columns[column as usize], x, to),
             Target::RowId => mark_in(&mut self.row_id, x, to),
+        }
+    }
+
+    /// Has the next look-up among a target's candidates begin about a place in their list, for who marks them in another order and knows
+    /// where each stands. It takes a step, and any place will do: one that is right spares the search through the list.
+    pub fn look_near(&mut self, target: Target, place: usize)
+        requires { IsColumnTarget (width self.old) target }
+        ensures { self.new ≡ self.old }
+    {
+        match target {
+            Target::Col(column) => self.columns[column as usize].look_near(place),
+            Target::RowId => self.row_id.look_near(place),
         }
     }
 

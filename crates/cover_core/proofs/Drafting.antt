@@ -1,9 +1,8 @@
--- Lists that several threads make of one draft.
-use Rattle.std.proofs.Common.{inl, inr, ◌≡◌, ◌∙◌, ◌+◌, ◌<◌, ℕ, zero, suc, arith, refl, sym, ap, subst, List, [], ◌∷◌, ◌++◌, length, map, get_or, Option, None, Result, Ok, Err, Vec, IfOk, Contains, MatchResult}
-use Rattle.std.specs.declared.alloc.Global.{Global}
+-- Lists that are made of one draft, by one thread or several.
+use Rattle.std.proofs.Common.{inl, inr, ◌≡◌, ◌∙◌, ◌+◌, ◌<◌, ℕ, zero, suc, arith, refl, sym, ap, subst, List, [], ◌∷◌, ◌++◌, length, map, take, drop, get_or, Option, None, Result, Ok, Err, IfOk}
 use Rattle.std.specs.declared.alloc.AllocError.{AllocError}
 use Rattle.std.specs.List.{All, AllZip, range_with_len, remove}
-use Rattle.std.proofs.lemmas.List.{map-append, length-map}
+use Rattle.std.proofs.lemmas.List.{map-append, length-map, take_more, take-append-drop}
 use Rattle.std.proofs.lemmas.List.FromFn.{length-range_with_len}
 use Rattle.col_set.specs.ColSet.{upto}
 use Rattle.col_set.specs.AllSets.{Listed-upto_within}
@@ -30,22 +29,27 @@ targets_fit n = All-from (IsColumnTarget n) (targets n) (λ t h. at t h)
     at t (inl e) = subst (IsColumnTarget n) (sym e) tt
     at t (inr h) = let w = Listed-map_which (λ a. Col a) t (upto n) h in subst (IsColumnTarget n) (sym w.2) (Listed-upto_within n w.0 w.1)
 
--- ---- all or an error
-module _ (P : Target → Option (List Cand) → Type 0) where
-  abbrev oks : List (Option (List Cand)) → List (Result (Option (List Cand)) AllocError)
-  oks new_lists = map (λ new_list. Ok new_list) new_lists
+-- ---- two lists beside each other
+module _ {X Y : Type 0} (P : X → Y → Type 0) where
+  pub AllZip-append : (xs ys : List X) (us vs : List Y) → AllZip P xs us → AllZip P ys vs → AllZip P (xs ++ ys) (us ++ vs)
+  AllZip-append [] ys [] vs h g = g
+  AllZip-append [] ys (u ∷ us) vs h g = absurd h
+  AllZip-append (x ∷ xs) ys [] vs h g = absurd h
+  AllZip-append (x ∷ xs) ys (u ∷ us) vs h g = (h.0, AllZip-append xs ys us vs h.1 g)
 
-  parts_zip : (ts : List Target) (new_lists : List (Option (List Cand))) → AllZip (λ t r. IfOk r (P t)) ts (oks new_lists) → AllZip P ts new_lists
-  parts_zip [] [] h = tt
-  parts_zip [] (p ∷ ps) h = absurd h
-  parts_zip (t ∷ ts) [] h = absurd h
-  parts_zip (t ∷ ts) (p ∷ ps) h = (h.0, parts_zip ts ps h.1)
+  -- one more at the end of both
+  pub AllZip-more : (xs : List X) (i : ℕ) (d : X) (us : List Y) (u : Y) → i < length xs → AllZip P (take i xs) us → P (get_or xs i d) u → AllZip P (take (i + 1) xs) (us ++ u ∷ [])
+  AllZip-more xs i d us u l h p = subst (λ (zs : List X). AllZip P zs (us ++ u ∷ [])) (sym (take_more xs i d l)) (AllZip-append (take i xs) (get_or xs i d ∷ []) us (u ∷ []) h (p, tt))
 
-  pub parts_made : (ts : List Target) (made : List (Result (Option (List Cand)) AllocError)) (r : Result (Vec (Option (List Cand)) Global) AllocError)
-      → AllZip (λ t r. IfOk r (P t)) ts made
-      → MatchResult r (λ v. (new_lists : List (Option (List Cand))) × (made ≡ oks new_lists) × (v.items ≡ new_lists)) (λ e. Contains made (Err e)) → IfOk r (λ v. AllZip P ts v.items)
-  parts_made ts made (Ok v) all h = subst (AllZip P ts) (sym h.2) (parts_zip ts h.0 (subst (λ (rs : List (Result (Option (List Cand)) AllocError)). AllZip (λ t r. IfOk r (P t)) ts rs) h.1 all))
-  parts_made ts made (Err e) all h = tt
+-- two parts of a list
+pub AllZip-parts : {X Y : Type 0} (P : X → Y → Type 0) (xs first second : List X) (n : ℕ) (us vs ws : List Y) → first ≡ take n xs → second ≡ drop n xs → ws ≡ us ++ vs → AllZip P first us → AllZip P second vs → AllZip P xs ws
+AllZip-parts P xs first second n us vs ws e f g h k = subst (AllZip P xs) (sym g) (subst (λ zs. AllZip P zs (us ++ vs)) (take-append-drop n xs)
+    (AllZip-append P (take n xs) (drop n xs) us vs (subst (λ zs. AllZip P zs us) e h) (subst (λ zs. AllZip P zs vs) f k)))
+
+-- an answer of which more is known
+pub IfOk-with : {X : Type 0} {P Q : X → Type 0} (r : Result X AllocError) → IfOk r P → ((x : X) → P x → Q x) → IfOk r Q
+IfOk-with (Ok x) h f = f x h
+IfOk-with (Err e) h f = tt
 
 -- ---- the new lists in order of the targets
 module _ (n : ℕ) (ws : List ℕ) (c : CandLists) where

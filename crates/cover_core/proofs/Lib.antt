@@ -8,7 +8,6 @@ pub mod KnownLefts
 mod Measure
 pub mod Booking
 pub mod Refuting
-pub mod Together
 pub mod Calls
 pub mod Cursors
 pub mod Holding

@@ -26,7 +26,7 @@ pub record AreKnownLefts (c : CandLists) (from : ℕ) (known : KnownLefts) : Typ
   pub each : All (IsKnownLeft (cands_of c known.target) from) known.lefts.items
 
 -- each of them determines its target in the rows below a number
-pub record HoldBelow (r : RowState) (from : ℕ) (known : KnownLefts) : Type 0 where
+pub record AreTrueLefts (r : RowState) (from : ℕ) (known : KnownLefts) : Type 0 where
   pub target : IsColumnTarget (width_of r) known.target
   pub each : All (λ x. HoldsBelow from r x known.target) known.lefts.items
 
@@ -41,9 +41,3 @@ pub record IsInside (w : Waiting) (known : KnownLefts) : Type 0 where
 pub record IsKnownBy (c : CandLists) (from : ℕ) (known : KnownLefts) (w : Waiting) : Type 0 where
   pub waits : IsWaiting c w
   pub below : (from ≤ w.cand.upto) ⊎ IsInside w known
-
--- the same of the left sides of all targets
-pub record IsKnownIn (c : CandLists) (from : ℕ) (lists : List KnownLefts) (w : Waiting) : Type 0 where
-  pub known : KnownLefts
-  pub listed : Listed known lists
-  pub by : IsKnownBy c from known w

@@ -18,7 +18,7 @@ ghost use Rattle.candidate_cover.specs.Drafts.{is_news};
 ghost use Rattle.cover_core.specs.Evidences.{IsEvidence, IsAllTold};
 ghost use Rattle.cover_core.specs.Judged.{IsHeld};
 ghost use Rattle.cover_core.specs.Past.{IsFirst};
-ghost use Rattle.cover_core.specs.KnownLefts.{HoldBelow};
+ghost use Rattle.cover_core.specs.KnownLefts.{AreTrueLefts};
 ghost use Rattle.cover_core.specs.Told.{IsTrueOf};
 ghost use Rattle.validator.specs.Stores.{AreOf};
 ghost use Rattle.cover_core.specs.Work.{Extends, work};
@@ -29,7 +29,7 @@ use crate::cursor::{Cursors, Unfinished, is_late};
 use crate::evidence::{Evidence, news_of};
 use crate::judging::{Alone, Beside, Judges, judged_by_parts};
 use crate::known::Known;
-use crate::known_lefts::{KnownLefts, known_in, known_lefts};
+use crate::known_lefts::{KnownLefts, known_by, known_lefts};
 use crate::listed::listed;
 use crate::new_lists::{put_all, specialised};
 use crate::outdated::Outdated;
@@ -56,10 +56,10 @@ const FEW_ROWS: u32 = 1500;
 // Of so many candidates all that are unfinished are validated in one pass, 64 bytes each.
 const MOST_WAITING: usize = 1 << 20;
 
-// To look for one of a target's left sides inside a candidate takes less time than a verdict where there are no more of them than these,
-// or than one to so many live rows.
+// To look for one of a target's left sides inside a candidate takes less time than a verdict where there are no more of them than these.
 const FEW_LEFTS: usize = 64;
 
+// With more rows a verdict takes longer: then one left side to so many live rows is as good.
 const ROWS_A_LEFT: usize = 4;
 
 // For so much work threads are worth their start: rows of all verdicts of a pass, or looks at candidates.
@@ -554,21 +554,24 @@ impl Book {
         let known = known_lefts(alloc, &self.candidates, from, most)?;
         let found = all_pairs(alloc, &self.snapshot, from)?;
         self.book_all(judges, found)?;
-        self.mark_known(known.as_slice(), from)
+        for lefts in known.as_slice() {
+            self.mark_known(lefts, from)?;
+        }
+        Ok(())
     }
 
-    // Marks the candidates that hold below a number, as their marks tell or these left sides inside them, where the witnesses tell of what
-    // each live row from there on and each one before it agree on.
-    fn mark_known(&mut self, known: &[KnownLefts], from: RowNo) -> Result<(), AllocError>
+    // Marks the candidates of a target that hold below a number, as their marks tell or these left sides inside them, where the witnesses
+    // tell of what each live row from there on and each one before it agree on.
+    fn mark_known(&mut self, lefts: &KnownLefts, from: RowNo) -> Result<(), AllocError>
         requires told { IsAllTold self.old from }
-        requires known { All (HoldBelow self.old.rows from) known.now }
+        requires lefts { AreTrueLefts self.old.rows from lefts.now }
         ensures rows { self.new.rows ≡ self.old.rows }
         ensures witnesses { self.new.witnesses ≡ self.old.witnesses }
         ensures sound { Sound self.new }
     {
         let next = self.rows.next();
         let (candidates, order) = (&self.candidates, &self.searcher.order);
-        let found = known_in(self.alloc, candidates, known, order, from, next)?;
+        let found = known_by(self.alloc, candidates, lefts, order, from, next)?;
         let snapshot = self.snapshot.clone()?;
         self.mark_held(&snapshot, found.as_slice())
     }
@@ -629,6 +632,7 @@ impl Book {
         let next = self.rows.next();
         for waiting in held {
             let cand = waiting.cand;
+            self.candidates.look_near(waiting.target, waiting.near);
             let job = Job::of(
                 waiting.target,
                 cand.left,

@@ -18,34 +18,6 @@ use std::alloc::{AllocError, Global};
 // Evidence is what a witness is once it is booked.
 pub(crate) use negative_cover::Witness as Evidence;
 
-// What two rows agree on, where they are different and live.
-fn evidence_of(rows: &RowLog, i: RowNo, j: RowNo) -> Option<Evidence>
-    ensures { IfSome result (IsEvidence rows.now) }
-{
-    if i == j || !rows.is_live(i) || !rows.is_live(j) {
-        return None;
-    }
-    let agree = rows.agree(i, j);
-    Some(Evidence { agree, i, j })
-}
-
-// Adds what each of these pairs of rows agrees on, where they are different and live.
-pub(crate) fn push_evidence(
-    rows: &RowLog,
-    pairs: &[(RowNo, RowNo)],
-    found: &mut Vec<Evidence>,
-) -> Result<(), AllocError>
-    requires { All (IsEvidence rows.now) found.old.items }
-    ensures { OnOk result (All (IsEvidence rows.now) found.new.items) }
-{
-    for pair in pairs {
-        if let Some(evidence) = evidence_of(rows, pair.0, pair.1) {
-            found.push(evidence)?;
-        }
-    }
-    Ok(())
-}
-
 // How much of the evidence that was found last is looked at before a verdict.
 const RECENT: usize = 512;
 

@@ -10,14 +10,14 @@ ghost use Rattle.cover_core.specs.NewLists.{IsLeftBy};
 ghost use Rattle.validator.specs.Stores.{AreOf};
 ghost use denote.Param.Send.{IsSync};
 
-use crate::evidence::{Evidence, is_told, push_evidence};
+use crate::evidence::{Evidence, is_told};
 use crate::new_lists::{NewLists, drafted, drafted_by};
-use crate::sampling::{sampled, sampled_by};
 use crate::waiting::{Waiting, count};
 use candidate_cover::{CandidateCover, Draft};
 use ports::{Gate, Point};
 use rel_base::{ColSet, Job, Snapshot};
 use row_log::RowLog;
+use sampler::{push_witnesses, sampled, sampled_by};
 use std::alloc::{AllocError, Global};
 use std::marker::Brand;
 use std::slice;
@@ -388,7 +388,7 @@ fn judge(
         all.held.push(waiting)?;
         return Ok(());
     }
-    push_evidence(rows, pairs.as_slice(), &mut all.found)
+    push_witnesses(rows, pairs.as_slice(), &mut all.found)
 }
 
 // A thread for each store takes candidates from a queue. Which thread takes which is left to chance, and so is which evidence is found.

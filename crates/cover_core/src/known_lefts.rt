@@ -4,7 +4,7 @@ ghost use Rattle.std.specs.List.{All, list_any};
 ghost use Rattle.col_set.specs.ColSet.{subset};
 ghost use Rattle.col_set.specs.Target.{IsColumnTarget};
 ghost use Rattle.candidate_cover.specs.Cands.{width};
-ghost use Rattle.cover_core.specs.KnownLefts.{IsKnownLeft, AreKnownLefts, IsKnownBy, IsKnownIn};
+ghost use Rattle.cover_core.specs.KnownLefts.{IsKnownLeft, AreKnownLefts, IsKnownBy};
 
 use crate::waiting::Waiting;
 use candidate_cover::{Cand, CandidateCover};
@@ -85,7 +85,7 @@ fn is_known(cand: Cand, from: RowNo, next: RowNo, lefts: &[ColSet]) -> bool
 }
 
 // The unfinished candidates of a target that hold below a number, as their marks tell, or left sides inside them.
-fn known_by(
+pub(crate) fn known_by(
     alloc: Global,
     candidates: &CandidateCover,
     known: &KnownLefts,
@@ -98,34 +98,15 @@ fn known_by(
 {
     let own = candidates.list(alloc, known.target)?;
     let mut found = Vec::new(alloc);
-    for cand in own.as_slice() {
+    for (place, cand) in own.iter().enumerate() {
         if is_known(*cand, from, next, known.lefts.as_slice()) {
             found.push(Waiting {
                 places: order.places_of(cand.left),
                 target: known.target,
+                near: place,
                 cand: *cand,
             })?;
         }
-    }
-    Ok(found)
-}
-
-// Those of all targets.
-pub(crate) fn known_in(
-    alloc: Global,
-    candidates: &CandidateCover,
-    lists: &[KnownLefts],
-    order: &Order,
-    from: RowNo,
-    next: RowNo,
-) -> Result<Vec<Waiting>, AllocError>
-    requires { All (λ known. IsColumnTarget (width candidates.now) known.target) lists.now }
-    ensures { IfOk result (λ found. All (IsKnownIn candidates.now from lists.now) found.items) }
-{
-    let mut found = Vec::new(alloc);
-    for known in lists {
-        let own = known_by(alloc, candidates, known, order, from, next)?;
-        found.extend_from_slice(own.as_slice())?;
     }
     Ok(found)
 }

@@ -13,7 +13,6 @@ mod listed;
 mod new_lists;
 mod outdated;
 mod renewal;
-mod sampling;
 mod searcher;
 mod searching;
 #[cfg(test)]

@@ -1,5 +1,5 @@
 // New lists of candidates, which are all made before the first is put in place.
-ghost use Rattle.std.specs.Prelude.{◌≡◌, ◌∷◌, [], ◌++◌, not, List, length, IfOk};
+ghost use Rattle.std.specs.Prelude.{◌≡◌, ◌<◌, ◌≤◌, ◌∷◌, [], ◌++◌, ℕ, not, List, length, IfOk};
 ghost use Rattle.std.specs.List.{All, AllZip, list_any};
 ghost use Rattle.col_set.specs.ColSet.{Columns};
 ghost use Rattle.col_set.specs.Target.{IsColumnTarget, has_target};
@@ -8,15 +8,16 @@ ghost use Rattle.candidate_cover.specs.Cands.{cands_of, lefts, width};
 ghost use Rattle.cover_steps.specs.Core.{renewed, targets};
 ghost use Rattle.candidate_cover.specs.Drafts.{AreLeast};
 ghost use Rattle.negative_cover.specs.Concerning.{concerns, is_open, AreConcerned};
-ghost use Rattle.cover_core.specs.NewLists.{IsNewList, IsLeftBy};
+ghost use Rattle.cover_core.specs.NewLists.{IsNewList, AreNewLists, IsLeftBy};
+ghost use Rattle.candidate_cover.specs.Lists.{CandLists};
+ghost use denote.Param.Send.{IsSync};
 
 use candidate_cover::{CandidateCover, Draft, NewList, OldList};
 use negative_cover::Concerned;
-use rayon::prelude::*;
 use rel_base::{ColSet, MOST_COLUMNS, Steps, Target};
 use std::alloc::{AllocError, Global};
 use std::sync::ledger::Ledger;
-use std::thread::Threads;
+use std::thread::{Threads, join};
 
 // A new list for each target that has one, and room for the lists that they take the place of.
 #[derive(Drop)]
@@ -130,19 +131,37 @@ pub(crate) fn generalised<L: Ledger>(
     })
 }
 
-// What a draft leaves of a target's candidates, where it has changed them.
-fn drafted_list(
+// What a draft leaves of the candidates of each of these targets, where it has changed them.
+fn drafted_each(
     alloc: Global,
     candidates: &CandidateCover,
     draft: &Draft,
-    target: Target,
-) -> Result<Option<NewList>, AllocError>
-    requires target { IsColumnTarget (width candidates.now) target }
+    targets: &[Target],
+) -> Result<Vec<Option<NewList>>, AllocError>
     requires width { draft.now.width ≡ width candidates.now }
-    ensures { IfOk result (λ new_list. IsNewList (width candidates.now) draft.now.agree_sets candidates.now target new_list) }
+    requires targets { All (IsColumnTarget (width candidates.now)) targets.now }
+    ensures { IfOk result (λ new_lists. AllZip (IsNewList (width candidates.now) draft.now.agree_sets candidates.now) targets.now new_lists.items) }
 {
-    let new_list = candidates.drafted(alloc, draft, target)?;
-    Ok(new_list)
+    let mut new_lists = Vec::with_capacity(alloc, targets.len())?;
+    for target in targets {
+        new_lists.push(candidates.drafted(alloc, draft, *target)?)?;
+    }
+    Ok(new_lists)
+}
+
+// The new lists of the row's identity and of the columns, and room for those that they take the place of.
+fn gathered(alloc: Global, new_lists: Vec<Option<NewList>>) -> Result<NewLists, AllocError>
+    requires { 0 < length new_lists.items }
+    ensures { IfOk result (λ made. (n : ℕ) (ws : List Columns) (c : CandLists) → AllZip (IsNewList n ws c) (targets n) new_lists.items → AreNewLists n ws c made.row_id made.columns.items) }
+{
+    let mut columns = new_lists;
+    let row_id = columns.remove(0);
+    let old = Vec::with_capacity(alloc, columns.len().saturating_add(1))?;
+    Ok(NewLists {
+        row_id,
+        columns,
+        old,
+    })
 }
 
 // What a draft leaves.
@@ -154,18 +173,8 @@ pub(crate) fn drafted(
     requires { draft.now.width ≡ width candidates.now }
     ensures { IfOk result (IsLeftBy candidates.now draft.now.agree_sets) }
 {
-    let row_id = drafted_list(alloc, candidates, draft, Target::RowId)?;
-    let mut columns = Vec::with_capacity(alloc, candidates.columns() as usize)?;
-    for column in 0..candidates.columns() {
-        let new_list = drafted_list(alloc, candidates, draft, Target::Col(column))?;
-        columns.push(new_list)?;
-    }
-    let old = Vec::with_capacity(alloc, columns.len().saturating_add(1))?;
-    Ok(NewLists {
-        row_id,
-        columns,
-        old,
-    })
+    let targets = targets_of(alloc, candidates.columns())?;
+    gathered(alloc, drafted_each(alloc, candidates, draft, &targets)?)
 }
 
 // The row's identity and so many columns.
@@ -180,21 +189,27 @@ fn targets_of(alloc: Global, columns: u8) -> Result<Vec<Target>, AllocError>
     Ok(found)
 }
 
-// How many items a thread takes at least. A list is halved as long as both halves have as many, so there are no more shares than workers,
-// and as many where these are a power of two.
-pub(crate) fn least_share(items: usize, workers: u8) -> usize {
-    let share = match workers {
-        0..=1 => items,
-        2..=3 => items / 2,
-        4..=7 => items / 4,
-        8..=15 => items / 8,
-        _ => items / 16,
-    };
-    share.max(2)
+// How many of these targets have about half of their candidates: so many stand first in the one of two shares.
+fn half_of(candidates: &CandidateCover, targets: &[Target]) -> usize
+    requires { All (IsColumnTarget (width candidates.now)) targets.now }
+    ensures { result ≤ length targets.now }
+{
+    let (mut low, mut high) = (0usize, targets.len());
+    let (mut first, mut second) = (0usize, 0usize);
+    while low < high {
+        if first <= second {
+            first = first.saturating_add(candidates.lefts(targets[low]).len());
+            low += 1;
+        } else {
+            high -= 1;
+            second = second.saturating_add(candidates.lefts(targets[high]).len());
+        }
+    }
+    low
 }
 
 // What a draft leaves of the candidates of each of these targets, by so many threads at most, each of which takes targets that stand side
-// by side.
+// by side and have about as many candidates.
 fn drafted_lists<R: Threads + Sync>(
     rt: &R,
     alloc: Global,
@@ -207,18 +222,27 @@ fn drafted_lists<R: Threads + Sync>(
     requires targets { All (IsColumnTarget (width candidates.now)) targets.now }
     ensures { IfOk result (λ new_lists. AllZip (IsNewList (width candidates.now) draft.now.agree_sets candidates.now) targets.now new_lists.items) }
 {
-    let share = least_share(targets.len(), workers);
-    let new_lists: Result<Vec<Option<NewList>>, AllocError> = targets
-        .par_iter()
-        .with_min_len(share)
-        .map(
-            move |target: &Target| -> Result<Option<NewList>, AllocError>
-                requires { IsColumnTarget (width candidates.now) target.now × (draft.now.width ≡ width candidates.now) }
-                ensures { IfOk result (IsNewList (width candidates.entry.now) draft.entry.now.agree_sets candidates.entry.now target.now) }
-            { drafted_list(alloc, candidates, draft, *target) },
-        )
-        .collect(rt, alloc)?;
-    new_lists
+    if workers < 2 || targets.len() < 2 {
+        return drafted_each(alloc, candidates, draft, targets);
+    }
+    let (first, second) = targets.split_at(half_of(candidates, targets));
+    let few = workers / 2;
+    let others = workers - few;
+    let (one, other) = join(
+        rt,
+        move || -> Result<Vec<Option<NewList>>, AllocError>
+            requires { IsSync R.row × (draft.now.width ≡ width candidates.now) × All (IsColumnTarget (width candidates.now)) first.now }
+            ensures { IfOk result (λ new_lists. AllZip (IsNewList (width candidates.entry.now) draft.entry.now.agree_sets candidates.entry.now) first.entry.now new_lists.items) }
+        { drafted_lists(rt, alloc, candidates, draft, first, few) },
+        move || -> Result<Vec<Option<NewList>>, AllocError>
+            requires { IsSync R.row × (draft.now.width ≡ width candidates.now) × All (IsColumnTarget (width candidates.now)) second.now }
+            ensures { IfOk result (λ new_lists. AllZip (IsNewList (width candidates.entry.now) draft.entry.now.agree_sets candidates.entry.now) second.entry.now new_lists.items) }
+        { drafted_lists(rt, alloc, candidates, draft, second, others) },
+    );
+    let mut new_lists = one?;
+    let mut more = other?;
+    new_lists.append(&mut more)?;
+    Ok(new_lists)
 }
 
 // What a draft leaves, by so many threads at most.
@@ -233,14 +257,10 @@ pub(crate) fn drafted_by<R: Threads + Sync>(
     ensures { IfOk result (IsLeftBy candidates.now draft.now.agree_sets) }
 {
     let targets = targets_of(alloc, candidates.columns())?;
-    let mut columns = drafted_lists(rt, alloc, candidates, draft, &targets, workers)?;
-    let row_id = columns.remove(0);
-    let old = Vec::with_capacity(alloc, columns.len().saturating_add(1))?;
-    Ok(NewLists {
-        row_id,
-        columns,
-        old,
-    })
+    gathered(
+        alloc,
+        drafted_lists(rt, alloc, candidates, draft, &targets, workers)?,
+    )
 }
 
 // Puts the new lists in place, and hands out the lists that stood there. It takes no memory.

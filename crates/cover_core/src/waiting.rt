@@ -10,11 +10,12 @@ use rel_base::{ColSet, RowNo, Target};
 use std::alloc::{AllocError, Global};
 use validator::Order;
 
-// A candidate that waits for its verdict, and the places of its columns in the order of verdicts.
+// A candidate that waits for its verdict, the places of its columns in the order of verdicts, and about where it stands in its target's list.
 #[derive(Clone, Copy)]
 pub(crate) struct Waiting {
     pub(crate) places: ColSet,
     pub(crate) target: Target,
+    pub(crate) near: usize,
     pub(crate) cand: Cand,
 }
 
@@ -77,12 +78,16 @@ fn push_waiting(
     ensures { OnOk result (All (IsWaiting candidates.now) list.new.items) }
 {
     let own = candidates.of_sizes(alloc, target, sizes.least, sizes.most)?;
-    for cand in own.as_slice() {
+    // Those of these sizes stand behind those with fewer columns, one after another.
+    let lefts = candidates.lefts(target);
+    let first = lefts.partition_point(|left| left.len() < sizes.least);
+    for (place, cand) in own.iter().enumerate() {
         if cand.upto < next {
             let places = order.places_of(cand.left);
             list.push(Waiting {
                 places,
                 target,
+                near: first.saturating_add(place),
                 cand: *cand,
             })?;
         }

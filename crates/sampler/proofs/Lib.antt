@@ -1,3 +1,5 @@
+pub mod Agreeing
 pub mod Between
 pub mod Pairs
 pub mod Tables
+pub mod Together

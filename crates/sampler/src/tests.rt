@@ -1,8 +1,11 @@
-// Windows beside all pairs of drawn rows, and neighbours.
-use crate::{neighbours, window};
-use plain_base::Samples;
-use rel_base::{Codes, RowNo, Snapshot};
+// Windows beside all pairs of drawn rows, neighbours, and what pairs agree on.
+use crate::{neighbours, push_witnesses, sampled, sampled_by, window};
+use negative_cover::Witness;
+use plain_base::{Samples, relation_of};
+use rel_base::{Codes, ColSet, Limits, Row, RowNo, Snapshot};
+use row_log::RowLog;
 use std::alloc::{AllocError, Global};
+use std::process::Abort;
 use std::test::Fail;
 
 // The codes of eight rows in one column, and which of the rows are live.
@@ -106,6 +109,59 @@ fn windows_are_all_pairs_of_their_distance(rt: HostRuntime) -> Result<(), Fail> 
             let pairs = window(rt.alloc(), &snapshot, 0, distance)?;
             assert!(rt; pairs.as_slice() == rows.pairs(rt.alloc(), distance)?.as_slice());
         }
+    }
+    Ok(())
+}
+
+// Rows of two columns, of which the first two agree on the first column, and the last two on the second.
+fn letters(rt: &impl Abort, alloc: Global) -> Result<RowLog, AllocError> {
+    let names = Row::copied(alloc, &[b"a", b"b"])?;
+    let mut rows = Vec::new(alloc);
+    rows.push(Row::copied(alloc, &[b"1", b"x"])?)?;
+    rows.push(Row::copied(alloc, &[b"1", b"y"])?)?;
+    rows.push(Row::copied(alloc, &[b"2", b"y"])?)?;
+    let Some(relation) = relation_of(names, rows) else {
+        panic!(rt);
+    };
+    RowLog::open(alloc, relation, Limits::standard())
+}
+
+fn is_witness(witness: Witness, i: u32, j: u32, column: u8) -> bool {
+    witness.i.number() == i
+        && witness.j.number() == j
+        && witness.agree == ColSet::empty().with(column)
+}
+
+#[test]
+fn pairs_with_what_they_agree_on(rt: HostRuntime) -> Result<(), Fail> {
+    let alloc = rt.alloc();
+    let rows = letters(&rt, alloc)?;
+    let (first, second, third) = (RowNo::of(1), RowNo::of(2), RowNo::of(3));
+    let pairs = [
+        (second, first),
+        (second, second),
+        (third, RowNo::of(4)),
+        (second, third),
+    ];
+    let mut found = Vec::new(alloc);
+    push_witnesses(&rows, &pairs, &mut found)?;
+    assert!(rt; found.len() == 2);
+    assert!(rt; is_witness(found[0], 2, 1, 0));
+    assert!(rt; is_witness(found[1], 2, 3, 1));
+    Ok(())
+}
+
+#[test]
+fn samples_are_neighbours_of_each_column(rt: HostRuntime) -> Result<(), Fail> {
+    let alloc = rt.alloc();
+    let rows = letters(&rt, alloc)?;
+    let snapshot = rows.snapshot(alloc)?;
+    let found = sampled(alloc, &rows, &snapshot)?;
+    assert!(rt; found.len() == 2);
+    assert!(rt; is_witness(found[0], 1, 2, 0) && is_witness(found[1], 2, 3, 1));
+    for workers in [1, 2, 16] {
+        let same = sampled_by(&rt, alloc, &rows, &snapshot, workers)?;
+        assert!(rt; same.as_slice() == found.as_slice());
     }
     Ok(())
 }

@@ -5,7 +5,7 @@ use Rattle.col_set.specs.Target.{IsColumnTarget}
 use Rattle.col_set.specs.declared.target.Target.{Target}
 use Rattle.cover_steps.specs.Core.{targets}
 use Rattle.cover_core.specs.NewLists.{IsNewList}
-use Rattle.cover_core.proofs.Drafting.{parts_are, targets_fit}
+use Rattle.cover_core.proofs.Drafting.{IfOk-with, some_parts, targets_fit}
 use Rattle.cover_core.proofs.new_lists.drafted_by.Goals as goal
 
 pub drafted_lists-requires-clause-targets : goal.drafted_lists-requires-clause-targets
@@ -13,8 +13,13 @@ drafted_lists-requires-clause-targets g c κs o k d l =
     let e = c.deref.ensures.value ∙ c.in_ok-targets.ensures ∙ ap targets c.columns.ensures.width in
     subst (λ (ts : List Target). IsColumnTarget (width c.args.candidates.now) (slice_index_or ts k d)) (sym e) (targets_fit (width c.args.candidates.now) k d (subst (λ (ts : List Target). k < length ts) e l))
 
+pub gathered-requires : goal.gathered-requires
+gathered-requires g c =
+    some_parts (width c.args.candidates.now) c.args.draft.now.agree_sets c.args.candidates.now c.in_ok-drafted_lists.field-0.items
+    (subst (λ (ts : List Target). AllZip (IsNewList (width c.args.candidates.now) c.args.draft.now.agree_sets c.args.candidates.now) ts c.in_ok-drafted_lists.field-0.items)
+    (c.deref.ensures.value ∙ c.in_ok-targets.ensures ∙ ap targets c.columns.ensures.width) c.in_ok-drafted_lists.ensures)
+
 pub returns : goal.returns
-returns g c =
-    parts_are (width c.args.candidates.now) c.args.draft.now.agree_sets c.args.candidates.now c.in_ok-columns.columns.items c.remove-row_id.result c.remove-row_id.new.self.items
-    (subst (λ (ts : List Target). AllZip (IsNewList (width c.args.candidates.now) c.args.draft.now.agree_sets c.args.candidates.now) ts c.in_ok-columns.columns.items) (c.deref.ensures.value ∙ c.in_ok-targets.ensures ∙ ap targets c.columns.ensures.width) c.in_ok-columns.ensures)
-    c.remove-row_id.ensures.value c.remove-row_id.ensures.items
+returns g c = IfOk-with c.gathered.result c.gathered.ensures (λ made h. h (width c.args.candidates.now) c.args.draft.now.agree_sets c.args.candidates.now
+    (subst (λ (ts : List Target). AllZip (IsNewList (width c.args.candidates.now) c.args.draft.now.agree_sets c.args.candidates.now) ts c.in_ok-drafted_lists.field-0.items)
+    (c.deref.ensures.value ∙ c.in_ok-targets.ensures ∙ ap targets c.columns.ensures.width) c.in_ok-drafted_lists.ensures))

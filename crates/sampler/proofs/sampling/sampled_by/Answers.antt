@@ -2,13 +2,13 @@ use Rattle.std.proofs.Common.{List, Vec, sym, subst}
 use Rattle.std.specs.declared.alloc.Global.{Global}
 use Rattle.std.specs.List.{All}
 use Rattle.negative_cover.specs.declared.negative_cover.Witness.{Witness}
-use Rattle.cover_core.specs.Evidences.{IsEvidence}
-use Rattle.cover_core.proofs.Together.{all_with}
-use Rattle.cover_core.proofs.sampling.sampled_by.Goals as goal
+use Rattle.sampler.specs.Agreeing.{IsNear}
+use Rattle.sampler.proofs.Together.{all_with}
+use Rattle.sampler.proofs.sampling.sampled_by.Goals as goal
 
 pub loop-own-preserved : goal.loop-own-preserved
 loop-own-preserved g c =
-    let P : Witness → Type 0 = IsEvidence c.args.rows.now in
+    let P : Witness → Type 0 = IsNear c.args.rows.now c.args.snapshot.now in
     let Q : Vec Witness Global → Type 0 = λ own. All P own.items in
     let each = subst (λ (vs : List (Vec Witness Global)). All Q vs) (sym c.as_slice-own-items.ensures.value) c.in_ok-each.ensures in
     let own = subst Q (sym c.own-item.is) (each c.loop-own.own-index c.own-item.result c.loop-own-test.true) in

@@ -1,14 +1,13 @@
-// Pairs of rows that are compared before any candidate is validated.
+// What pairs of rows that are near each other agree on.
 ghost use Rattle.std.specs.Prelude.{◌<◌, length, IfOk};
 ghost use Rattle.std.specs.List.{All};
-ghost use Rattle.cover_core.specs.Evidences.{IsEvidence};
+ghost use Rattle.sampler.specs.Agreeing.{IsNear};
 
-use crate::evidence::{Evidence, push_evidence};
-use crate::new_lists::least_share;
+use crate::{neighbours, push_witnesses};
+use negative_cover::Witness;
 use rayon::prelude::*;
 use rel_base::Snapshot;
 use row_log::RowLog;
-use sampler::neighbours;
 use std::alloc::{AllocError, Global};
 use std::thread::Threads;
 
@@ -21,23 +20,27 @@ fn sampled_in(
     rows: &RowLog,
     snapshot: &Snapshot,
     column: u8,
-) -> Result<Vec<Evidence>, AllocError>
+) -> Result<Vec<Witness>, AllocError>
     requires { column < length snapshot.now.codes }
-    ensures { IfOk result (λ found. All (IsEvidence rows.now) found.items) }
+    ensures { IfOk result (λ found. All (IsNear rows.now snapshot.now) found.items) }
 {
     let mut found = Vec::new(alloc);
     let pairs = neighbours(alloc, snapshot, column, NEIGHBOURS)?;
-    push_evidence(rows, pairs.as_slice(), &mut found)?;
+    push_witnesses(rows, pairs.as_slice(), &mut found)?;
     Ok(found)
 }
 
-// What neighbours agree on in all columns.
-pub(crate) fn sampled(
+/// What neighbours agree on, rows in the groups by each column in turn: some eight thousand pairs a column, spread over its groups
+/// (`neighbours`).
+///
+/// It is where agree sets are sought before any candidate is tried. It takes the time of the columns' partitions, and a step a pair and
+/// column.
+pub fn sampled(
     alloc: Global,
     rows: &RowLog,
     snapshot: &Snapshot,
-) -> Result<Vec<Evidence>, AllocError>
-    ensures { IfOk result (λ found. All (IsEvidence rows.now) found.items) }
+) -> Result<Vec<Witness>, AllocError>
+    ensures { IfOk result (λ found. All (IsNear rows.now snapshot.now) found.items) }
 {
     let mut all = Vec::new(alloc);
     for column in 0..snapshot.columns() {
@@ -55,33 +58,34 @@ fn sampled_in_each<R: Threads + Sync>(
     snapshot: &Snapshot,
     columns: &[u8],
     workers: u8,
-) -> Result<Vec<Vec<Evidence>>, AllocError>
+) -> Result<Vec<Vec<Witness>>, AllocError>
     requires { All (λ column. column < length snapshot.now.codes) columns.now }
-    ensures { IfOk result (λ found. All (λ own. All (IsEvidence rows.now) own.items) found.items) }
+    ensures { IfOk result (λ found. All (λ own. All (IsNear rows.now snapshot.now) own.items) found.items) }
 {
-    let share = least_share(columns.len(), workers);
-    let found: Result<Vec<Vec<Evidence>>, AllocError> = columns
+    // Halves are halved again as long as they have as many, so there are no more shares than workers.
+    let share = (columns.len() >> workers.max(1).ilog2()).max(2);
+    let found: Result<Vec<Vec<Witness>>, AllocError> = columns
         .par_iter()
         .with_min_len(share)
         .map(
-            move |column: &u8| -> Result<Vec<Evidence>, AllocError>
+            move |column: &u8| -> Result<Vec<Witness>, AllocError>
                 requires { column.now < length snapshot.now.codes }
-                ensures { IfOk result (λ own. All (IsEvidence rows.entry.now) own.items) }
+                ensures { IfOk result (λ own. All (IsNear rows.entry.now snapshot.entry.now) own.items) }
             { sampled_in(alloc, rows, snapshot, *column) },
         )
         .collect(rt, alloc)?;
     found
 }
 
-// What `sampled` finds, by so many threads at most.
-pub(crate) fn sampled_by<R: Threads + Sync>(
+/// What `sampled` finds, by so many threads at most, one of which is the caller's. Each takes columns that stand side by side.
+pub fn sampled_by<R: Threads + Sync>(
     rt: &R,
     alloc: Global,
     rows: &RowLog,
     snapshot: &Snapshot,
     workers: u8,
-) -> Result<Vec<Evidence>, AllocError>
-    ensures { IfOk result (λ found. All (IsEvidence rows.now) found.items) }
+) -> Result<Vec<Witness>, AllocError>
+    ensures { IfOk result (λ found. All (IsNear rows.now snapshot.now) found.items) }
 {
     let mut columns = Vec::with_capacity(alloc, snapshot.columns() as usize)?;
     for column in 0..snapshot.columns() {

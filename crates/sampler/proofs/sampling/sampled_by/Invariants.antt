@@ -1,10 +1,10 @@
 use Rattle.std.proofs.Common.{◌<◌, length}
 use Rattle.std.specs.List.{All}
-use Rattle.cover_core.specs.Evidences.{IsEvidence}
-use Rattle.cover_core.proofs.sampling.sampled_by.Given as goal
+use Rattle.sampler.specs.Agreeing.{IsNear}
+use Rattle.sampler.proofs.sampling.sampled_by.Given as goal
 
 abbrev pub invariant-loop-column : goal.invariant-loop-column
 invariant-loop-column g l = All (λ column. column < length l.snapshot.codes) l.columns.items
 
 abbrev pub invariant-loop-own : goal.invariant-loop-own
-invariant-loop-own g l = All (IsEvidence l.rows) l.all.items
+invariant-loop-own g l = All (IsNear l.rows l.snapshot) l.all.items
