@@ -29,6 +29,14 @@ pub struct Refined {
     pub replies: Vec<Applying>,
 }
 
+// Whether evidence is sought before the desk, by how many workers, and how many of them draw at it.
+#[derive(Clone, Copy)]
+struct Plan {
+    workers: u32,
+    drawing: u32,
+    seeks: bool,
+}
+
 /// Applies the batches in order, and has so many workers draw, validate and book beside that, until each candidate is known to
 /// hold in all rows.
 ///
@@ -44,7 +52,7 @@ pub struct Refined {
 ///
 /// Where the rows are many, five thousand, what the batches leave is sought in bulk in far less time than candidate by candidate; where
 /// the batches change many rows, a thousand and an eighth of all, nothing that workers check beside them would last. There the batches
-/// are fed first, evidence is sought in the rows that they leave, and the workers come last.
+/// are fed first, the workers seek evidence in the rows that they leave, and one worker draws what is then known.
 ///
 /// The gate is passed outside turns: by those who seek after each verdict, by each worker after a draw that answered a job, after its
 /// verdict and after it was booked, and by the feeder after each batch that was answered.
@@ -80,11 +88,16 @@ pub fn phase<R: Threads + Wait + Sync, G: Gate + Sync>(
         let fed = fed_alone(rt, alloc, book, batches, replies, gate)?;
         return refine_after(rt, alloc, fed.book, fed.replies, workers, gate);
     }
-    let seeks = book.witnesses().is_empty();
-    refine(rt, alloc, book, batches, replies, workers, gate, seeks)
+    let plan = Plan {
+        workers,
+        drawing: workers,
+        seeks: book.witnesses().is_empty(),
+    };
+    refine(rt, alloc, book, batches, replies, plan, gate)
 }
 
-// Has the workers finish a book whose batches were fed, with these replies.
+// Has the workers finish a book whose batches were fed, with these replies. They seek, and then all verdicts are known: so one of them
+// draws, in less time than threads take to start.
 fn refine_after<R: Threads + Wait + Sync, G: Gate + Sync>(
     rt: &R,
     alloc: Global,
@@ -100,33 +113,43 @@ fn refine_after<R: Threads + Wait + Sync, G: Gate + Sync>(
     ensures same { IfErr result (λ r. r.0.replies ≡ replies) }
 {
     let (batches, none) = (Vec::new(alloc), Vec::new(alloc));
-    match refine(rt, alloc, book, batches, none, workers, gate, true) {
+    let plan = Plan {
+        workers,
+        drawing: 1,
+        seeks: true,
+    };
+    match refine(rt, alloc, book, batches, none, plan, gate) {
         Ok(Refined { book, .. }) => Ok(Refined { book, replies }),
         Err(NoMemory(Refined { book, .. })) => Err(NoMemory(Refined { book, replies })),
     }
 }
 
-// Has the workers refine the book beside the batches and after them, behind a search for evidence if it seeks any.
+// Has workers refine the book beside the batches and after them, behind a search for evidence if it seeks any.
 fn refine<R: Threads + Wait + Sync, G: Gate + Sync>(
     rt: &R,
     alloc: Global,
     mut book: Book,
     batches: Vec<Batch>,
     replies: Vec<Applying>,
-    workers: u32,
+    plan: Plan,
     gate: &G,
-    seeks: bool,
 ) -> Result<Refined, NoMemory<Refined>>
     requires wide { All (All (IsAsWide (width book.rows))) batches.items }
     requires room { (replies.items ≡ []) × (length batches.items ≤ vec_capacity replies) }
-    requires workers { (0 < workers) × (workers ≤ 16) }
+    requires workers { (0 < plan.workers) × (plan.workers ≤ 16) }
+    requires drawing { (0 < plan.drawing) × (plan.drawing ≤ 16) }
     ensures whole { IfOk result (λ r. IsWhole book batches.items r.book r.replies.items) }
     ensures so_far { IfErr result (λ r. IsSoFar book batches.items r.0.book r.0.replies.items) }
 {
+    let Plan {
+        workers,
+        drawing,
+        seeks,
+    } = plan;
     let Ok(prepared) = prepare(rt, &mut book, workers, gate, seeks) else {
         return Err(NoMemory(Refined { book, replies }));
     };
-    let (desk, feeder) = match Desk::open(alloc, book, 2 * workers + 1) {
+    let (desk, feeder) = match Desk::open(alloc, book, 2 * drawing + 1) {
         Ok(opened) => opened,
         Err(NoMemory(book)) => return Err(NoMemory(Refined { book, replies })),
     };
@@ -138,7 +161,7 @@ fn refine<R: Threads + Wait + Sync, G: Gate + Sync>(
         feeder,
         batches,
         replies,
-        workers,
+        drawing,
         gate,
         known.as_ref(),
         lent.as_mut_slice(),
