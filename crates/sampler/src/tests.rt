@@ -1,8 +1,10 @@
 // Windows beside all pairs of drawn rows, neighbours, and what pairs agree on.
+ghost use Rattle.std.specs.Prelude.{◌<◌};
+
 use crate::{neighbours, push_witnesses, sampled, sampled_by, window};
 use negative_cover::Witness;
 use plain_base::{Samples, relation_of};
-use rel_base::{Codes, ColSet, Limits, Row, RowNo, Snapshot};
+use rel_base::{Codes, ColSet, Limits, MOST_COLUMNS, Row, RowNo, Snapshot};
 use row_log::RowLog;
 use std::alloc::{AllocError, Global};
 use std::process::Abort;
@@ -126,7 +128,9 @@ fn letters(rt: &impl Abort, alloc: Global) -> Result<RowLog, AllocError> {
     RowLog::open(alloc, relation, Limits::standard())
 }
 
-fn is_witness(witness: Witness, i: u32, j: u32, column: u8) -> bool {
+fn is_witness(witness: Witness, i: u32, j: u32, column: u8) -> bool
+    requires { column < MOST_COLUMNS }
+{
     witness.i.number() == i
         && witness.j.number() == j
         && witness.agree == ColSet::empty().with(column)
