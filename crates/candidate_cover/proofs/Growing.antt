@@ -1,5 +1,5 @@
 -- One more agree set: the sets that lie inside it give way to those that grow out of them.
-use Rattle.std.proofs.Common.{inl, inr, ◌≡◌, ◌⊎◌, ℕ, ◌+◌, ◌^◌, ◌<◌, Bool, true, false, cond, not, ◌&&◌, eqb, refl, sym, ap, ◌∙◌, subst, arith, List, [], ◌∷◌, ◌++◌, map, length, get_or, take, zero, suc, append_assoc, append-nil, add-zero, zero-add, if◌then◌else◌}
+use Rattle.std.proofs.Common.{inl, inr, ◌≡◌, ◌⊎◌, ℕ, ◌+◌, ◌^◌, ◌<◌, Bool, true, false, cond, not, ◌&&◌, eqb, refl, sym, ap, ◌∙◌, subst, arith, List, [], ◌∷◌, ◌++◌, map, length, get_or, take, zero, suc, append_assoc, append-nil, add-zero, zero-add, if◌then◌else◌, ap₂, IsPermutation}
 use Rattle.std.specs.List.{list_any, flat_map, range_with_len}
 use Rattle.std.proofs.lemmas.List.{take_more, map-append}
 use Rattle.std.proofs.lemmas.List.Concat.{flat_map-append}
@@ -17,6 +17,7 @@ use Rattle.col_set.specs.Lists.{Listed, Listed-filter, Listed-filter_parts, List
 use Rattle.col_set.proofs.Least.{stands_above}
 use Rattle.col_set.proofs.Outside.{Outside, outside_of}
 use Rattle.candidate_cover.specs.Growth.{IsLeastAmong, ListsLeast, one_outside, inside, outside, near, having, unblocked, grown_by, grown}
+use Rattle.candidate_cover.proofs.Splitting.{lists_permuted}
 use Rattle.candidate_cover.proofs.Evidence.{stands_before, stands_after, HasLeast, least_under}
 
 -- ---- columns outside a set
@@ -230,6 +231,21 @@ lists_untouched u ws t z apart xs none l = record {
   where
     out : (x : ℕ) → Listed x xs → subset x z ≡ false
     out x h = false_from_ne_true _ (λ e. true≢false (sym (list_any_at (λ x. subset x z) x xs h e) ∙ none))
+
+-- the same where the list was read in another order, those inside z first
+module _ (u : ℕ) (ws : List ℕ) (t : Target) (z : ℕ) (apart : has_target z t ≡ false) (old inner rest : List ℕ) (p : IsPermutation old (inner ++ rest)) (out : rest ≡ outside z (inner ++ rest)) (l : ListsLeast u ws t old) where
+  pub lists_after_split : (n : ℕ) → u < 2 ^ n → (nears : List ℕ) → inner ≡ inside z (inner ++ rest) → nears ≡ near z rest → ListsLeast u (ws ++ z ∷ []) t (rest ++ grown n u z inner nears)
+  lists_after_split n few nears ins is =
+      subst (ListsLeast u (ws ++ z ∷ []) t) (ap₂ (λ (xs ys : List ℕ). xs ++ ys) (sym out) (ap₂ (grown n u z) (sym ins) (ap (near z) (sym out) ∙ sym is)))
+      (lists_after n u ws t z few apart (inner ++ rest) (lists_permuted u ws t old (inner ++ rest) p l))
+
+  pub lists_untouched_split : inner ≡ [] → ListsLeast u (ws ++ z ∷ []) t rest
+  lists_untouched_split none = lists_untouched u ws t z apart rest outer (lists_permuted u ws t old rest (subst (λ (xs : List ℕ). IsPermutation old (xs ++ rest)) none p) l)
+    where
+      outer : list_any (λ x. subset x z) rest ≡ false
+      outer = false_from_ne_true _ (λ e.
+          let w = list_any_which (λ x. subset x z) rest e in
+          true≢false (sym w.2 ∙ not-true _ (Listed-filter_parts (λ x. not (subset x z)) w.0 (inner ++ rest) (subst (Listed w.0) out w.1)).1))
 
 -- ---- the loops
 pub unblocked_more : (blockers : List ℕ) (k : ℕ) (ins : List ℕ) (i c x : ℕ) → i < length ins → c ≡ get_or ins i c → x ≡ with c k → list_any (λ y. subset y x) blockers ≡ false

@@ -1,72 +1,36 @@
 -- A list of column sets, split in place by how they lie to a set.
-use Rattle.std.proofs.Common.{◌≡◌, ℕ, ◌+◌, ◌<◌, ◌≤◌, Bool, true, false, cond, not, eqb, sym, ap, ◌∙◌, subst, arith, List, [], ◌∷◌, ◌++◌, ◌-◌, length, get_or, set, take, drop, append_assoc, length-append, length-drop}
-use Rattle.std.specs.List.{filter}
+use Rattle.std.proofs.Common.{◌≡◌, ℕ, ◌+◌, ◌<◌, ◌≤◌, Bool, true, false, cond, not, eqb, sym, ap, ◌∙◌, subst, arith, List, [], ◌∷◌, ◌++◌, ◌-◌, length, get_or, set, take, drop, append_assoc, length-append, length-drop, IsPermutation, ap₂}
+use Rattle.std.specs.List.{filter, swap_remove}
 use Rattle.std.proofs.lemmas.Bool.{true≢false, and_parts, and_from, not-true, not_from_false, false_from_ne_true, true_from_ne_false, eqb-true, eq-eqb, ne_eqb}
 use borrow.Rule.Slice.PartMut.{post_of}
 use Rattle.std.proofs.Math.Seq.{take-append-add}
-use Rattle.std.proofs.lemmas.List.{append-nil, drop_all, drop_at, drop_more, length-take-le, take_at, take_rest, take-take, length-set, take-set-le, drop-set-lt}
+use Rattle.std.proofs.lemmas.List.{append-nil, drop_all, drop_at, length-take-le, take_at, take_more, take_rest, take-set, take-take, length-set, take-set-le, drop-set-lt}
 use Rattle.std.proofs.lemmas.List.Elements.{filter_more, filter-append}
-use Rattle.std.proofs.lemmas.List.Filters.{FiltersInPlace, FiltersInPlace-more_no, FiltersInPlace-more_set, FiltersInPlace-more_here}
+use Rattle.std.proofs.lemmas.List.Filters.{FiltersInPlace, FiltersInPlace-more_no}
+use Rattle.std.proofs.lemmas.List.Sorted.{Contains-permutation, IsPermutation-append_right, IsPermutation-swap_remove, IsPermutation-sym, IsPermutation-trans}
 use Rattle.col_set.specs.ColSet.{has, subset, minus, size}
 use Rattle.col_set.specs.Members.{has-minus, has-empty, same_set}
 use Rattle.col_set.specs.Subsets.{subset-true, true-subset, same_test}
-use Rattle.candidate_cover.specs.Growth.{inside, outside, near, one_outside}
+use Rattle.col_set.specs.declared.target.Target.{Target}
+use Rattle.col_set.specs.Lists.{Listed}
+use Rattle.col_set.proofs.Places.{Contains-listed, Listed-contained}
+use Rattle.candidate_cover.specs.Growth.{ListsLeast, inside, outside, near, one_outside}
 
--- the sets before the place i are split, and those that stay stand first
-pub record SplitSoFar (z : ℕ) (old now inner nearby : List ℕ) (kept i : ℕ) : Type 0 where
-  pub rest : FiltersInPlace (λ x. not (subset x z)) old now kept i
-  pub taken : inner ≡ inside z (take i old)
-  pub copied : nearby ≡ near z (outside z (take i old))
+-- the sets before the place i lie not inside z, and those that lie inside it were taken out
+pub record SplitSoFar (z : ℕ) (old now inner nearby : List ℕ) (i : ℕ) : Type 0 where
+  pub all : IsPermutation old (inner ++ now)
+  pub taken : inside z inner ≡ inner
+  pub no_others : outside z inner ≡ []
+  pub stay : outside z (take i now) ≡ take i now
+  pub none_stays : inside z (take i now) ≡ []
+  pub copied : nearby ≡ near z (take i now)
+  pub within : i ≤ length now
 
 -- a set lies inside z where no column of it is left outside z
 pub subset_minus : (x z : ℕ) → eqb (minus x z) 0 ≡ subset x z
 subset_minus x z = same_test _ _
     (λ e. true-subset (record { each = λ k h. true_from_ne_false _ (λ f. true≢false (sym (and_from _ _ h (not_from_false _ f)) ∙ sym (has-minus x z k) ∙ ap (λ (v : ℕ). has v k) (eqb-true _ 0 e) ∙ has-empty k)) }))
     (λ e. eq-eqb _ 0 (same_set _ _ (λ k. has-minus x z k ∙ false_from_ne_true _ (λ g. let q = and_parts (has x k) _ g in true≢false (sym ((subset-true e).each k q.0) ∙ not-true _ q.1)) ∙ sym (has-empty k))))
-
-module _ (z : ℕ) (old now inner nearby : List ℕ) (kept i x r : ℕ) (s : SplitSoFar z old now inner nearby kept i) (l : i < length now) (is : x ≡ get_or now i x) (left : r ≡ minus x z) where
-  within : i < length old
-  within = omega (arith, s.rest.long)
-
-  read : get_or old i x ≡ x
-  read = let a = drop_more now i x l in let b = drop_more old i x within in let e = s.rest.rest in cc
-
-  next : (p : ℕ → Bool) → filter p (take (i + 1) old) ≡ filter p (take i old) ++ cond (p x) (x ∷ []) []
-  next p = filter_more p old i x within ∙ ap (λ (y : ℕ). filter p (take i old) ++ cond (p y) (y ∷ []) []) read
-
-  side : (b : Bool) → eqb r 0 ≡ b → subset x z ≡ b
-  side b e = sym (subset_minus x z) ∙ ap (λ (v : ℕ). eqb v 0) (sym left) ∙ e
-
-  pub split_inside : eqb r 0 ≡ true → SplitSoFar z old now (inner ++ x ∷ []) nearby kept (i + 1)
-  split_inside e = record {
-    rest = FiltersInPlace-more_no s.rest l (ap not (side true e)) is;
-    taken = ap (λ xs. xs ++ x ∷ []) s.taken ∙ sym (next (λ x. subset x z) ∙ ap (λ b. inside z (take i old) ++ cond b (x ∷ []) []) (side true e));
-    copied = s.copied ∙ ap (near z) (sym (next (λ x. not (subset x z)) ∙ ap (λ b. outside z (take i old) ++ cond (not b) (x ∷ []) []) (side true e) ∙ append-nil _));
-  }
-
-  -- one that stays, wherever it stands now, and is copied where just one column of it is left
-  module _ (e : eqb r 0 ≡ false) (new more : List ℕ) (copy : more ≡ nearby ++ cond (eqb (size r) 1) (x ∷ []) []) where
-    stays : FiltersInPlace (λ x. not (subset x z)) old new (kept + 1) (i + 1) → SplitSoFar z old new inner more (kept + 1) (i + 1)
-    stays f = record {
-      rest = f;
-      taken = s.taken ∙ sym (next (λ x. subset x z) ∙ ap (λ b. inside z (take i old) ++ cond b (x ∷ []) []) (side false e) ∙ append-nil _);
-      copied = copy ∙ ap (λ xs. xs ++ cond (eqb (size r) 1) (x ∷ []) []) s.copied ∙ ap (λ (v : ℕ). near z (outside z (take i old)) ++ cond (eqb (size v) 1) (x ∷ []) []) left
-          ∙ sym (ap (near z) (next (λ x. not (subset x z)) ∙ ap (λ b. outside z (take i old) ++ cond (not b) (x ∷ []) []) (side false e)) ∙ filter-append (one_outside z) (outside z (take i old)) (x ∷ []));
-    }
-
-    pub split_moved : new ≡ set now kept x → SplitSoFar z old new inner more (kept + 1) (i + 1)
-    split_moved m = stays (subst (λ xs. FiltersInPlace (λ x. not (subset x z)) old xs (kept + 1) (i + 1)) (sym m) (FiltersInPlace-more_set s.rest l (ap not (side false e)) is))
-
-    pub split_here : new ≡ now → i ≤ kept → SplitSoFar z old new inner more (kept + 1) (i + 1)
-    split_here m g = stays (subst (λ xs. FiltersInPlace (λ x. not (subset x z)) old xs (kept + 1) (i + 1)) (sym m) (FiltersInPlace-more_here s.rest l (ap not (side false e)) is (let b = s.rest.behind in omega arith)))
-
--- what is copied, by how many columns of the set are left
-module _ (nearby more : List ℕ) (x r n : ℕ) (size_is : n ≡ size r) where
-  pub copy_one : n ≡ 1 → more ≡ nearby ++ x ∷ [] → more ≡ nearby ++ cond (eqb (size r) 1) (x ∷ []) []
-  copy_one e m = m ∙ sym (ap (λ b. nearby ++ cond b (x ∷ []) []) (eq-eqb (size r) 1 (sym size_is ∙ e)))
-
-  pub copy_none : (n ≡ 1 → ⊥) → more ≡ nearby → more ≡ nearby ++ cond (eqb (size r) 1) (x ∷ []) []
-  copy_none e m = m ∙ sym (ap (λ b. nearby ++ cond b (x ∷ []) []) (ne_eqb (size r) 1 (λ i. e (size_is ∙ i))) ∙ append-nil nearby)
 
 -- ---- one set more of a list that stays as it is
 module _ (z : ℕ) (xs : List ℕ) (i x : ℕ) (l : i < length xs) (is : x ≡ get_or xs i x) where
@@ -83,6 +47,57 @@ module _ (z : ℕ) (xs : List ℕ) (i x : ℕ) (l : i < length xs) (is : x ≡ g
   near_next b e f =
       ap (near z) (filter_next (λ x. not (subset x z)) ∙ ap (λ c. outside z (take i xs) ++ cond (not c) (x ∷ []) []) e) ∙ filter-append (one_outside z) (outside z (take i xs)) (x ∷ [])
       ∙ ap (λ c. near z (outside z (take i xs)) ++ cond c (x ∷ []) []) f
+
+module _ (z : ℕ) (old now inner nearby : List ℕ) (i x r : ℕ) (s : SplitSoFar z old now inner nearby i) (l : i < length now) (is : x ≡ get_or now i x) (left : r ≡ minus x z) where
+  side : (b : Bool) → eqb r 0 ≡ b → subset x z ≡ b
+  side b e = sym (subset_minus x z) ∙ ap (λ (v : ℕ). eqb v 0) (sym left) ∙ e
+
+  -- one that lies inside z is taken out, and another one stands in its place
+  pub split_inside : eqb r 0 ≡ true → (new : List ℕ) → new ≡ swap_remove now i x → SplitSoFar z old new (inner ++ x ∷ []) nearby i
+  split_inside e new m = record {
+    all = subst (IsPermutation old) (sym (append_assoc inner (x ∷ []) new ∙ ap (λ (xs : List ℕ). inner ++ x ∷ xs) m))
+        (IsPermutation-trans old (inner ++ now) (inner ++ x ∷ swap_remove now i x) s.all (IsPermutation-append_right inner now (x ∷ swap_remove now i x) (IsPermutation-swap_remove now i x l is)));
+    taken = filter-append (λ x. subset x z) inner (x ∷ []) ∙ ap₂ (λ (xs ys : List ℕ). xs ++ ys) s.taken (ap (λ b. cond b (x ∷ []) []) (side true e));
+    no_others = filter-append (λ x. not (subset x z)) inner (x ∷ []) ∙ ap₂ (λ (xs ys : List ℕ). xs ++ ys) s.no_others (ap (λ b. cond (not b) (x ∷ []) []) (side true e));
+    stay = subst (λ xs. outside z xs ≡ xs) (sym front) s.stay;
+    none_stays = subst (λ xs. inside z xs ≡ []) (sym front) s.none_stays;
+    copied = s.copied ∙ ap (near z) (sym front);
+    within = omega (arith, ap length m, length-take-le (length now - 1) (set now i (get_or now (length now - 1) x)) (omega (arith, length-set now i (get_or now (length now - 1) x))));
+  }
+    where
+      front : take i new ≡ take i now
+      front = ap (take i) m ∙ take-take i (length now - 1) (set now i (get_or now (length now - 1) x)) (omega arith) ∙ take-set now i (get_or now (length now - 1) x)
+
+  -- one that stays, and is copied where just one column of it is left
+  module _ (e : eqb r 0 ≡ false) where
+    pub split_here : (more : List ℕ) → more ≡ nearby ++ cond (eqb (size r) 1) (x ∷ []) [] → SplitSoFar z old now inner more (i + 1)
+    split_here more copy = record {
+      all = s.all;
+      taken = s.taken;
+      no_others = s.no_others;
+      stay = filter_next z now i x l is (λ x. not (subset x z)) ∙ ap₂ (λ (xs ys : List ℕ). xs ++ ys) s.stay (ap (λ b. cond (not b) (x ∷ []) []) (side false e)) ∙ sym (take_more now i x l ∙ ap (λ (y : ℕ). take i now ++ y ∷ []) (sym is));
+      none_stays = filter_next z now i x l is (λ x. subset x z) ∙ ap₂ (λ (xs ys : List ℕ). xs ++ ys) s.none_stays (ap (λ b. cond b (x ∷ []) []) (side false e));
+      copied = copy ∙ ap (λ (v : ℕ). nearby ++ cond (eqb (size v) 1) (x ∷ []) []) left ∙ ap (λ (xs : List ℕ). xs ++ cond (one_outside z x) (x ∷ []) []) s.copied ∙ sym (filter_next z now i x l is (one_outside z));
+      within = omega arith;
+    }
+
+-- what is copied, by how many columns of the set are left
+module _ (nearby more : List ℕ) (x r n : ℕ) (size_is : n ≡ size r) where
+  pub copy_one : n ≡ 1 → more ≡ nearby ++ x ∷ [] → more ≡ nearby ++ cond (eqb (size r) 1) (x ∷ []) []
+  copy_one e m = m ∙ sym (ap (λ b. nearby ++ cond b (x ∷ []) []) (eq-eqb (size r) 1 (sym size_is ∙ e)))
+
+  pub copy_none : (n ≡ 1 → ⊥) → more ≡ nearby → more ≡ nearby ++ cond (eqb (size r) 1) (x ∷ []) []
+  copy_none e m = m ∙ sym (ap (λ b. nearby ++ cond b (x ∷ []) []) (ne_eqb (size r) 1 (λ i. e (size_is ∙ i))) ∙ append-nil nearby)
+
+-- what the list holds where it was read in another order
+pub Listed-permuted : (xs ys : List ℕ) (x : ℕ) → IsPermutation xs ys → Listed x xs → Listed x ys
+Listed-permuted xs ys x p h = Listed-contained x ys (Contains-permutation xs ys x p (Contains-listed x xs h))
+
+pub lists_permuted : (u : ℕ) (ws : List ℕ) (t : Target) (xs ys : List ℕ) → IsPermutation xs ys → ListsLeast u ws t xs → ListsLeast u ws t ys
+lists_permuted u ws t xs ys p l = record {
+  each = λ x h. l.each x (Listed-permuted ys xs x (IsPermutation-sym xs ys p) h);
+  every = λ x i. Listed-permuted xs ys x p (l.every x i);
+}
 
 -- one set more, where it passes
 pub kept_next : (p : ℕ → Bool) (xs : List ℕ) (i x : ℕ) → i < length xs → x ≡ get_or xs i x → (old now : List ℕ) → now ≡ old ++ filter p (take i xs) → (b : Bool) → p x ≡ b → now ++ cond b (x ∷ []) [] ≡ old ++ filter p (take (i + 1) xs)

@@ -1,6 +1,5 @@
 // Candidates while many agree sets come in, one after another.
-ghost use Rattle.std.specs.Prelude.{if◌then◌else◌, ◌≡◌, ◌≤◌, ◌<◌, ◌^◌, ◌∷◌, [], ◌++◌, ◌&&◌, ℕ, List, true, false, length, map, take, IfOk, OnOk};
-ghost use Rattle.std.specs.List.{list_any};
+ghost use Rattle.std.specs.Prelude.{if◌then◌else◌, ◌≡◌, ◌≤◌, ◌<◌, ◌^◌, ◌∷◌, [], ◌++◌, ◌&&◌, ℕ, List, true, false, length, map, take, IfOk, OnOk, IsPermutation};
 ghost use Rattle.col_set.specs.ColSet.{has, subset, union, minus};
 ghost use Rattle.col_set.specs.Target.{IsColumnTarget, has_target};
 ghost use Rattle.col_set.specs.declared.target.Target.{Target as TargetSpec};
@@ -166,36 +165,33 @@ impl Scratch {
     }
 }
 
-// Takes the sets inside z out of the list, and copies those with exactly one column outside z. The rest keep their order.
+// Takes the sets inside z out of the list, in which others take their places, and copies those with exactly one column outside z.
 fn split_off(
     sets: &mut Vec<ColSet>,
     z: ColSet,
     inner: &mut Vec<ColSet>,
     nearby: &mut Vec<ColSet>,
 ) -> Result<(), AllocError>
-    ensures inner { OnOk result (inner.new.items ≡ words.inside z sets.old.items) }
-    ensures nearby { OnOk result (nearby.new.items ≡ words.near z (words.outside z sets.old.items)) }
-    ensures rest { OnOk result (sets.new.items ≡ words.outside z sets.old.items) }
+    ensures all { OnOk result (IsPermutation sets.old.items (inner.new.items ++ sets.new.items)) }
+    ensures inner { OnOk result (inner.new.items ≡ words.inside z (inner.new.items ++ sets.new.items)) }
+    ensures rest { OnOk result (sets.new.items ≡ words.outside z (inner.new.items ++ sets.new.items)) }
+    ensures nearby { OnOk result (nearby.new.items ≡ words.near z sets.new.items) }
 {
     inner.clear();
     nearby.clear();
-    let mut kept = 0;
-    for place in 0..sets.len() {
+    let mut place = 0;
+    while place < sets.len() {
         let x = sets[place];
         let out = x.minus(z);
         if out == ColSet::empty() {
-            inner.push(x)?;
+            inner.push(sets.swap_remove(place))?;
         } else {
             if out.len() == 1 {
                 nearby.push(x)?;
             }
-            if kept < place {
-                sets[kept] = x;
-            }
-            kept += 1;
+            place += 1;
         }
     }
-    sets.truncate(kept);
     Ok(())
 }
 
@@ -213,6 +209,9 @@ fn grow_past(
     ensures { OnOk result ((ws : List ℕ) → ListsLeast (words.choices columns target) ws target sets.old.items → ListsLeast (words.choices columns target) (ws ++ z ∷ []) target sets.new.items) }
 {
     split_off(sets, z, &mut scratch.inner, &mut scratch.nearby)?;
+    if scratch.inner.is_empty() {
+        return Ok(());
+    }
     let choices = choices(columns, target);
     push_all_grown(
         sets,
@@ -225,14 +224,7 @@ fn grow_past(
     )
 }
 
-// Whether one of the sets lies inside z.
-fn has_inside(sets: &[ColSet], z: ColSet) -> bool
-    ensures { result ≡ list_any (λ x. subset x z) sets.now }
-{
-    sets.iter().any(|x| x.subset_of(z))
-}
-
-// Grows the sets past an agree set, which may have the target or contain none of them: then they stay.
+// Grows the sets past an agree set, which may have the target: then they stay.
 fn grow_unless(
     columns: u8,
     target: Target,
@@ -245,9 +237,6 @@ fn grow_unless(
     ensures { OnOk result ((ws : List ℕ) → ListsLeast (words.choices columns target) ws target sets.old.items → ListsLeast (words.choices columns target) (ws ++ z ∷ []) target sets.new.items) }
 {
     if z.has_target(target) {
-        return Ok(());
-    }
-    if !has_inside(sets.as_slice(), z) {
         return Ok(());
     }
     grow_past(columns, target, sets, z, scratch)

@@ -1,7 +1,6 @@
 // Evidence: what pairs of rows agree on, and what much of it at once leaves of the candidates.
 ghost use Rattle.std.specs.Prelude.{◌≡◌, ◌<◌, ℕ, List, false, OnOk, IfOk, IfSome};
 ghost use Rattle.std.specs.List.{All};
-ghost use Rattle.col_set.specs.Target.{IsColumnTarget};
 ghost use Rattle.rel_base.specs.RowState.{RowState};
 ghost use Rattle.candidate_cover.specs.Cands.{width};
 ghost use Rattle.candidate_cover.specs.Drafts.{AreLeast, is_news};
@@ -11,24 +10,11 @@ ghost use Rattle.cover_core.specs.Evidences.{IsEvidence, IsNews};
 
 use candidate_cover::{CandidateCover, Draft};
 use negative_cover::{NegativeCover, Witness};
-use rel_base::{ColSet, MOST_COLUMNS, RowNo, Target};
 use row_log::RowLog;
 use std::alloc::{AllocError, Global};
 
 // Evidence is what a witness is once it is booked.
 pub(crate) use negative_cover::Witness as Evidence;
-
-// How much of the evidence that was found last is looked at before a verdict.
-const RECENT: usize = 512;
-
-// Whether some of the evidence that was found last refutes this dependency.
-pub(crate) fn is_told(found: &[Evidence], target: Target, left: ColSet) -> bool
-    requires { IsColumnTarget MOST_COLUMNS target }
-{
-    found[found.len().saturating_sub(RECENT)..]
-        .iter()
-        .any(|evidence| evidence.agree.refutes(left, target))
-}
 
 // The evidence that no witness had told, as witnesses, and what these leave.
 #[derive(Drop)]

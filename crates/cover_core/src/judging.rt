@@ -10,8 +10,9 @@ ghost use Rattle.cover_core.specs.NewLists.{IsLeftBy};
 ghost use Rattle.validator.specs.Stores.{AreOf};
 ghost use denote.Param.Send.{IsSync};
 
-use crate::evidence::{Evidence, is_told};
+use crate::evidence::Evidence;
 use crate::new_lists::{NewLists, drafted, drafted_by};
+use crate::recent::Recent;
 use crate::waiting::{Waiting, count};
 use candidate_cover::{CandidateCover, Draft};
 use ports::{Gate, Point};
@@ -50,6 +51,7 @@ const SEEKER: u32 = 0;
 pub(crate) struct Verdicts {
     pub(crate) held: Vec<Waiting>,
     pub(crate) found: Vec<Evidence>,
+    recent: Recent,
 }
 
 impl Verdicts {
@@ -60,6 +62,7 @@ impl Verdicts {
         Verdicts {
             held: Vec::new(alloc),
             found: Vec::new(alloc),
+            recent: Recent::none(alloc),
         }
     }
 }
@@ -329,7 +332,7 @@ fn judge_all(
     ensures store { store.new ≡ store.old }
 {
     for waiting in list {
-        if !is_told(all.found.as_slice(), waiting.target, waiting.cand.left) {
+        if !all.recent.tells(waiting.target, waiting.cand.left) {
             judge(alloc, rows, snapshot, *waiting, store, all)?;
         }
     }
@@ -388,7 +391,10 @@ fn judge(
         all.held.push(waiting)?;
         return Ok(());
     }
-    push_witnesses(rows, pairs.as_slice(), &mut all.found)
+    let known = all.found.len();
+    push_witnesses(rows, pairs.as_slice(), &mut all.found)?;
+    all.recent.note(&all.found[known..]);
+    Ok(())
 }
 
 // A thread for each store takes candidates from a queue. Which thread takes which is left to chance, and so is which evidence is found.
@@ -455,9 +461,9 @@ fn together(first: Verdicts, second: Verdicts) -> Result<Verdicts, AllocError>
     ensures held { IfOk result (λ all. all.held.items ≡ first.held.items ++ second.held.items) }
     ensures found { IfOk result (λ all. all.found.items ≡ first.found.items ++ second.found.items) }
 {
-    let (mut held, mut found) = (first.held, first.found);
+    let mut all = first;
     let (mut more, mut others) = (second.held, second.found);
-    held.append(&mut more)?;
-    found.append(&mut others)?;
-    Ok(Verdicts { held, found })
+    all.held.append(&mut more)?;
+    all.found.append(&mut others)?;
+    Ok(all)
 }

@@ -12,6 +12,7 @@ mod known_lefts;
 mod listed;
 mod new_lists;
 mod outdated;
+mod recent;
 mod renewal;
 mod searcher;
 mod searching;
