@@ -10,6 +10,7 @@ pub mod Booking
 pub mod Refuting
 pub mod Calls
 pub mod Cursors
+pub mod Marked
 pub mod Holding
 pub mod Upto
 pub mod Whole

@@ -1,11 +1,17 @@
 -- Candidates that wait for a verdict.
+use Rattle.std.specs.Prelude.{ℕ, List, [], ◌∷◌}
 use Rattle.col_set.specs.Target.{IsColumnTarget}
 use Rattle.col_set.specs.Lists.{Listed}
 use Rattle.candidate_cover.specs.Lists.{CandLists}
-use Rattle.candidate_cover.specs.Cands.{width, cands_of}
+use Rattle.candidate_cover.specs.Cands.{width, cands_of, with_list, marked}
 use Rattle.cover_core.specs.declared.waiting.Waiting.{Waiting}
 
 -- it is a candidate of its target
 pub record IsWaiting (c : CandLists) (w : Waiting) : Type 0 where
   pub target : IsColumnTarget (width c) w.target
   pub listed : Listed w.cand (cands_of c w.target)
+
+-- the candidates after these were marked up to a number, one after another
+unfoldable pub marked_each : CandLists → List Waiting → ℕ → CandLists
+marked_each c [] to = c
+marked_each c (w ∷ list) to = marked_each (with_list c w.target (marked (cands_of c w.target) w.cand.left to)) list to

@@ -3,6 +3,7 @@ ghost use Rattle.std.specs.Prelude.{◌≡◌, ◌≢◌, ◌<◌, ◌^◌, ◌�
 ghost use Rattle.std.specs.Bool.{OnTrue, OnFalse};
 ghost use Rattle.std.specs.List.{All};
 ghost use Rattle.col_set.specs.Target.{IsColumnTarget};
+ghost use Rattle.rel_base.specs.CodeTable.{CodeTable};
 ghost use Rattle.rel_base.specs.JobParts.{JobParts};
 ghost use Rattle.rel_base.specs.RowState.{opened, width};
 ghost use Rattle.rel_base.specs.Shows.{Shows, holds_in};
@@ -36,7 +37,7 @@ use crate::outdated::Outdated;
 use crate::renewal::renewed_after;
 use crate::searcher::Searcher;
 use crate::searching::{first_drawable, first_unfinished, move_both_back};
-use crate::waiting::{Sizes, Waiting, count, of_sizes, worth_comparing};
+use crate::waiting::{Sizes, Waiting, count, mark_each, of_sizes, worth_comparing};
 use candidate_cover::{CandidateCover, Marking};
 use negative_cover::{Concerned, NegativeCover, Witness, all_pairs};
 use ports::{Gate, OpenGate};
@@ -572,8 +573,8 @@ impl Book {
         let next = self.rows.next();
         let (candidates, order) = (&self.candidates, &self.searcher.order);
         let found = known_by(self.alloc, candidates, lefts, order, from, next)?;
-        let snapshot = self.snapshot.clone()?;
-        self.mark_held(&snapshot, found.as_slice())
+        self.mark_held(found.as_slice());
+        Ok(())
     }
 
     // Marks all candidates, where the witnesses tell of what all pairs of live rows agree on.
@@ -617,32 +618,23 @@ impl Book {
             stores,
         )?;
         let few = judged.found.len() < list.len();
-        self.mark_held(&snapshot, judged.held.as_slice())?;
+        self.mark_held(judged.held.as_slice());
         self.book_all(judges, judged.found)?;
         Ok(few)
     }
 
-    // Marks candidates of which the dependency was seen to hold in a snapshot of the rows.
-    fn mark_held(&mut self, snapshot: &Arc<Snapshot>, held: &[Waiting]) -> Result<(), AllocError>
-        requires { All (IsHeld self.old.rows snapshot.now.value) held.now }
+    // Marks candidates of which the dependency was seen to hold in a snapshot of the rows, and seeks the first unfinished one when all are
+    // marked: after each of them it would be sought by its left side.
+    fn mark_held(&mut self, held: &[Waiting])
+        requires { (table : CodeTable) × All (IsHeld self.old.rows table) held.now }
         ensures rows { self.new.rows ≡ self.old.rows }
         ensures witnesses { self.new.witnesses ≡ self.old.witnesses }
         ensures sound { Sound self.new }
     {
         let next = self.rows.next();
-        for waiting in held {
-            let cand = waiting.cand;
-            self.candidates.look_near(waiting.target, waiting.near);
-            let job = Job::of(
-                waiting.target,
-                cand.left,
-                cand.upto,
-                next,
-                snapshot.clone()?,
-            );
-            self.mark(&job);
-        }
-        Ok(())
+        mark_each(&mut self.candidates, held, next);
+        self.cursors = Cursors::start();
+        self.first = first_unfinished(&self.candidates, &mut self.cursors.unfinished, next);
     }
 
     // Books the evidence that is news, all of it or none.

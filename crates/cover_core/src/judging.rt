@@ -16,7 +16,7 @@ use crate::recent::Recent;
 use crate::waiting::{Waiting, count};
 use candidate_cover::{CandidateCover, Draft};
 use ports::{Gate, Point};
-use rel_base::{ColSet, Job, Snapshot};
+use rel_base::{Job, Snapshot};
 use row_log::RowLog;
 use sampler::{push_witnesses, sampled, sampled_by};
 use std::alloc::{AllocError, Global};
@@ -26,7 +26,7 @@ use std::sync::Arc;
 use std::sync::atomic::{AtomicUsize, Ordering};
 use std::sync::ledger::Blank;
 use std::thread::{Threads, join_mut};
-use validator::{Store, Stores, violations};
+use validator::{Store, Stores, first_places, violations};
 
 // How many pairs of rows a pass asks for where a dependency does not hold.
 const MOST_VIOLATIONS: usize = 64;
@@ -112,22 +112,11 @@ fn cut(list: &[Waiting], place: usize, most: usize) -> usize
 {
     let start = place.min(list.len());
     for k in start..place.saturating_add(most).min(list.len()) {
-        if k == 0 || head(list[k].places) != head(list[k - 1].places) {
+        if k == 0 || first_places(list[k].places) != first_places(list[k - 1].places) {
             return k;
         }
     }
     start
-}
-
-// The first two of some columns.
-fn head(columns: ColSet) -> ColSet {
-    let mut head = ColSet::empty();
-    for _ in 0..2 {
-        if let Some(column) = columns.minus(head).first() {
-            head = head.with(column);
-        }
-    }
-    head
 }
 
 // Who makes the verdicts of a pass.

@@ -41,14 +41,20 @@ fn letter_rows(alloc: Global) -> Result<Vec<Row>, AllocError> {
 fn letters(rt: &impl Abort, alloc: Global) -> Result<Book, AllocError> {
     let rows = letter_rows(alloc)?;
     let names = Row::copied(alloc, &[b"k", b"v"])?;
-    Book::open(alloc, relation_with(rt, names, rows), Limits::standard())
+    let relation = relation_with(rt, alloc, names, &rows)?;
+    Book::open(alloc, relation, Limits::standard())
 }
 
 // The relation of these names and rows, which are one's.
-fn relation_with(rt: &impl Abort, names: Row, rows: Vec<Row>) -> Relation {
-    let relation = relation_of(names, rows);
+fn relation_with(
+    rt: &impl Abort,
+    alloc: Global,
+    names: Row,
+    rows: &[Row],
+) -> Result<Relation, AllocError> {
+    let relation = relation_of(alloc, names, rows)?;
     assert!(rt; relation.is_some());
-    relation.unwrap()
+    Ok(relation.unwrap())
 }
 
 fn columns(list: &[u8]) -> ColSet {

@@ -1,19 +1,19 @@
 // The candidates of a pass.
-ghost use Rattle.std.specs.Prelude.{OnOk, IfOk};
+ghost use Rattle.std.specs.Prelude.{◌≡◌, OnOk, IfOk};
 ghost use Rattle.std.specs.List.{All};
 ghost use Rattle.col_set.specs.Target.{IsColumnTarget};
 ghost use Rattle.candidate_cover.specs.Cands.{width};
-ghost use Rattle.cover_core.specs.Waiting.{IsWaiting};
+ghost use Rattle.cover_core.specs.Waiting.{IsWaiting, marked_each};
 
 use candidate_cover::{Cand, CandidateCover};
-use rel_base::{ColSet, RowNo, Target};
+use rel_base::{RowNo, Target};
 use std::alloc::{AllocError, Global};
 use validator::Order;
 
 // A candidate that waits for its verdict, the places of its columns in the order of verdicts, and about where it stands in its target's list.
 #[derive(Clone, Copy)]
 pub(crate) struct Waiting {
-    pub(crate) places: ColSet,
+    pub(crate) places: u128,
     pub(crate) target: Target,
     pub(crate) near: usize,
     pub(crate) cand: Cand,
@@ -59,7 +59,7 @@ pub(crate) fn of_sizes(
         let target = Target::Col(column);
         push_waiting(alloc, candidates, target, order, sizes, next, &mut list)?;
     }
-    list.sort_unstable_by_key(|waiting| waiting.places);
+    list.sort_unstable_by_key(|waiting| (waiting.cand.left.len(), !waiting.places));
     Ok(list)
 }
 
@@ -93,6 +93,17 @@ fn push_waiting(
         }
     }
     Ok(())
+}
+
+// Marks candidates up to a number, one after another. Where one is not listed nothing changes.
+pub(crate) fn mark_each(candidates: &mut CandidateCover, list: &[Waiting], to: RowNo)
+    requires { All (λ w. IsColumnTarget (width candidates.old) w.target) list.now }
+    ensures { candidates.new ≡ marked_each candidates.old list.now to }
+{
+    for waiting in list {
+        candidates.look_near(waiting.target, waiting.near);
+        candidates.mark(waiting.target, waiting.cand.left, to);
+    }
 }
 
 // For so many candidates it is worth while to compare rows that came since they were validated with all rows: a row is compared with

@@ -49,11 +49,11 @@ no_long_cell limit cells short =
     list_any_none (λ cell. nat_lt limit (length cell)) cells (All-weaker (λ cell. length cell ≤ limit) (λ cell. nat_lt limit (length cell) ≡ false) (λ cell h. le-ltb limit (length cell) h) cells short)
 
 -- a header that no rule refuses
-record IsHeader (limits : Limits) (names : Row) : Type 0 where
-  columns : length names ≤ limits.columns
-  cells : All (λ cell. length cell ≤ limits.cell) names
+pub record IsHeader (limits : Limits) (names : Row) : Type 0 where
+  pub columns : length names ≤ limits.columns
+  pub cells : All (λ cell. length cell ≤ limits.cell) names
 
-header_accepted : (limits : Limits) (names : Row) → header_refusal limits names ≡ None → IsHeader limits names
+pub header_accepted : (limits : Limits) (names : Row) → header_refusal limits names ≡ None → IsHeader limits names
 header_accepted limits names = by (nat_lt limits.columns (length names)) (has_long_cell limits.cell names) refl refl
   where
     by : (wide long : Bool) → nat_lt limits.columns (length names) ≡ wide → has_long_cell limits.cell names ≡ long
@@ -66,12 +66,12 @@ accepts_header : (limits : Limits) (names : Row) → IsHeader limits names → h
 accepts_header limits names h = rw (le-ltb limits.columns (length names) h.columns, no_long_cell limits.cell names h.cells) refl
 
 -- a row that no rule refuses
-record IsRow (limits : Limits) (width rec : ℕ) (row : Row) : Type 0 where
-  fields : length row ≡ width
-  cells : All (λ cell. length cell ≤ limits.cell) row
-  number : rec - 1 ≤ limits.rows
+pub record IsRow (limits : Limits) (width rec : ℕ) (row : Row) : Type 0 where
+  pub fields : length row ≡ width
+  pub cells : All (λ cell. length cell ≤ limits.cell) row
+  pub number : rec - 1 ≤ limits.rows
 
-row_accepted : (limits : Limits) (width rec : ℕ) (cells : Row) → row_refusal limits width rec cells ≡ None → IsRow limits width rec cells
+pub row_accepted : (limits : Limits) (width rec : ℕ) (cells : Row) → row_refusal limits width rec cells ≡ None → IsRow limits width rec cells
 row_accepted limits width rec cells = by (length cells == width) (has_long_cell limits.cell cells) (nat_lt limits.rows (rec - 1)) refl refl refl
   where
     by : (same long many : Bool) → length cells == width ≡ same → has_long_cell limits.cell cells ≡ long

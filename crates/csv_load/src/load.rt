@@ -72,13 +72,13 @@ fn try_read(alloc: Global, bytes: &[u8], limits: &Limits) -> Result<Loaded, Allo
         return Ok(Loaded::Refused { rec: 1, why });
     }
     let names = Row::of(record.clone()?);
-    let mut rows = Vec::new(alloc);
+    let mut relation = Relation::without_rows(alloc, names)?;
     while reader.next(&mut record)? {
-        let rec = rows.len() as u64 + 2;
+        let rec = relation.len() as u64 + 2;
         if let Some(why) = row_refusal(limits, width, rec, &record) {
             return Ok(Loaded::Refused { rec, why });
         }
-        rows.push(Row::of(record.clone()?))?;
+        relation = relation.with_record(&record)?;
     }
-    Ok(Loaded::Read(Relation::of(names, rows)))
+    Ok(Loaded::Read(relation))
 }

@@ -25,7 +25,7 @@ fn shown_once(alloc: Global, bytes: &[u8], limits: &Limits) -> Result<Vec<u8>, A
     match read_relation(alloc, bytes, limits) {
         Loaded::Read(relation) => {
             show_row(&mut out, relation.names())?;
-            for row in relation.rows() {
+            for row in &relation.rows(alloc)? {
                 show_row(&mut out, row)?;
             }
         }

@@ -124,6 +124,7 @@ pub fn covers(alloc: Global, nulls: Nulls, relation: &Relation) -> Result<Covers
     ensures { IfOk result (λ found. (limit : ℕ) → found ≡ cover_words.covers (opened nulls limit relation.now)) }
 {
     let columns = relation.names().len() as u8;
-    let sets = agree_sets(alloc, nulls, columns, relation.rows())?;
+    let rows = relation.rows(alloc)?;
+    let sets = agree_sets(alloc, nulls, columns, &rows)?;
     least_covers(alloc, columns, sets.as_slice())
 }

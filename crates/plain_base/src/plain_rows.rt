@@ -41,7 +41,8 @@ impl PlainRows {
     ) -> Result<PlainRows, AllocError>
         ensures { IfOk result (λ rows. rows ≡ opened nulls limits.rows relation) }
     {
-        let (names, given) = relation.into_parts();
+        let names = relation.names().clone()?;
+        let given = relation.rows(alloc)?;
         let live = numbers_to(alloc, given.len() as u32)?;
         Ok(PlainRows {
             names,

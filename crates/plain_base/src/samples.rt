@@ -7,22 +7,25 @@ ghost use Rattle.rel_base.specs.Batches.{IsAsWide};
 use rel_base::{Batch, MOST_COLUMNS, MOST_ROWS, Op, Relation, Row, RowNo};
 use std::alloc::{AllocError, Global};
 
-/// The relation of these names and rows, or none where these are not a relation's.
-pub fn relation_of(names: Row, rows: Vec<Row>) -> Option<Relation>
-    ensures names { IfSome result (λ relation. relation.names ≡ names) }
-    ensures rows { IfSome result (λ relation. relation.rows ≡ rows.items) }
-    ensures some { IsContent (record { names = names; rows = rows.items }) → IsSome result }
+/// The relation of these names and copies of these rows, or none where they are not a relation's.
+pub fn relation_of(alloc: Global, names: Row, rows: &[Row]) -> Result<Option<Relation>, AllocError>
+    ensures names { IfOk result (λ found. IfSome found (λ relation. relation.names ≡ names)) }
+    ensures rows { IfOk result (λ found. IfSome found (λ relation. relation.rows ≡ rows.now)) }
+    ensures some { IsContent (record { names = names; rows = rows.now }) → IfOk result (λ found. IsSome found) }
 {
     let width = names.len();
-    if 0 < width
-        && width <= MOST_COLUMNS as usize
-        && rows.len() <= MOST_ROWS as usize
-        && are_wide(&rows, width)
+    if width == 0
+        || width > MOST_COLUMNS as usize
+        || rows.len() > MOST_ROWS as usize
+        || !are_wide(rows, width)
     {
-        Some(Relation::of(names, rows))
-    } else {
-        None
+        return Ok(None);
     }
+    let mut relation = Relation::without_rows(alloc, names)?;
+    for row in rows {
+        relation = relation.with_row(row)?;
+    }
+    Ok(Some(relation))
 }
 
 /// Whether no operation of the batch brings a row of another width.

@@ -27,7 +27,7 @@ fn letters(alloc: Global) -> Result<Option<Relation>, AllocError> {
         two(alloc, b"1", b"y")?,
         two(alloc, b"2", b"z")?,
     ]?;
-    Ok(relation_of(two(alloc, b"k", b"v")?, rows))
+    relation_of(alloc, two(alloc, b"k", b"v")?, &rows)
 }
 
 // The rows of `letters`, where no number above this one is given.
@@ -88,7 +88,8 @@ fn rows_agree_on_equal_cells(rt: HostRuntime) -> Result<(), Fail> {
 fn two_letters_agree_on_their_keys(rt: HostRuntime) -> Result<(), Fail> {
     let relation = letters(rt.alloc())?.ok_or("no relation")?;
     assert!(rt; relation.names().len() == 2);
-    let sets = agree_sets(rt.alloc(), Nulls::Equal, 2, relation.rows())?;
+    let rows = relation.rows(rt.alloc())?;
+    let sets = agree_sets(rt.alloc(), Nulls::Equal, 2, &rows)?;
     assert!(rt; sets.as_slice() == [one(0), ColSet::empty(), ColSet::empty()].as_slice());
     Ok(())
 }
@@ -245,7 +246,7 @@ fn samples_are_drawn(rt: HostRuntime) -> Result<(), Fail> {
     let alloc = rt.alloc();
     let mut samples = Samples::from_seed(7);
     let rows = samples.rows(alloc, 4, 3)?;
-    assert!(rt; relation_of(samples.row(alloc, 3)?, rows).is_some());
+    assert!(rt; relation_of(alloc, samples.row(alloc, 3)?, &rows)?.is_some());
     let batch = samples.batch(alloc, 5, 3, 9)?;
     assert!(rt; batch.len() == 5 && are_as_wide(&batch, 3));
     Ok(())

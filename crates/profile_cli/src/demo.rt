@@ -1,6 +1,7 @@
 // The relation that `demo` makes, and the counts of what `normalize` would write for it.
 ghost use Rattle.std.specs.Prelude.{◌≡◌, ◌++◌, ◌∷◌, ◌<◌, ◌≤◌, ◌^◌, [], None, length, map, decimal, IfOk, OnOk};
 ghost use Rattle.csv.specs.Records.{fields_of, partial_of};
+ghost use Rattle.rel_base.specs.declared.limits.TheConstants.{MOST_ROWS};
 ghost use Rattle.rel_base.specs.declared.nulls.Nulls.TheVariants.{Equal};
 ghost use Rattle.rel_base.specs.Inclusion.{all_columns, inclusions};
 ghost use Rattle.rel_base.specs.RowState.{opened};
@@ -99,19 +100,22 @@ fn next_row(alloc: Global, generator: &mut Generator, number: u32) -> Result<Row
     row_of(alloc, &numbers, last)
 }
 
-// The first so many rows of a seed.
-fn rows_of(alloc: Global, seed: u32, count: u32) -> Result<Vec<Row>, AllocError>
-    requires { count < 2 ^ 31 }
-    ensures { IfOk result (λ rows. rows.items ≡ words.rows_from count 1 seed) }
+// The relation of these names and the first so many rows of a seed.
+fn relation_of(alloc: Global, names: Row, seed: u32, count: u32) -> Result<Relation, AllocError>
+    requires wide { length names ≡ 12 }
+    requires few { count ≤ MOST_ROWS }
+    ensures names { IfOk result (λ relation. relation.names ≡ names) }
+    ensures rows { IfOk result (λ relation. relation.rows ≡ words.rows_from count 1 seed) }
 {
     let mut generator = Generator {
         state: u64::from(seed),
     };
-    let mut rows = Vec::new(alloc);
+    let mut relation = Relation::without_rows(alloc, names)?;
     for place in 0..count {
-        rows.push(next_row(alloc, &mut generator, place + 1)?)?;
+        let row = next_row(alloc, &mut generator, place + 1)?;
+        relation = relation.with_row(&row)?;
     }
-    Ok(rows)
+    Ok(relation)
 }
 
 fn names(alloc: Global) -> Result<Row, AllocError>
@@ -128,8 +132,7 @@ fn names(alloc: Global) -> Result<Row, AllocError>
 pub fn demo_relation(alloc: Global, seed: u32) -> Result<Relation, AllocError>
     ensures { IfOk result (λ relation. relation ≡ words.demo_content seed) }
 {
-    let rows = rows_of(alloc, seed, ROWS)?;
-    Ok(Relation::of(names(alloc)?, rows))
+    relation_of(alloc, names(alloc)?, seed, ROWS)
 }
 
 // How many inclusions there are among the columns of these rows.

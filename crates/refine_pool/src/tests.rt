@@ -21,8 +21,8 @@ use std::thread::Threads;
 static LETTERS: [(&[u8], &[u8]); 3] = [(b"1", b"x"), (b"1", b"y"), (b"2", b"z")];
 
 // A book of these rows.
-fn book_of(rt: &impl Abort, alloc: Global, names: Row, rows: Vec<Row>) -> Result<Book, AllocError> {
-    let relation = relation_of(names, rows);
+fn book_of(rt: &impl Abort, alloc: Global, names: Row, rows: &[Row]) -> Result<Book, AllocError> {
+    let relation = relation_of(alloc, names, rows)?;
     assert!(rt; relation.is_some());
     Book::open(alloc, relation.unwrap(), Limits::standard())
 }
@@ -34,7 +34,7 @@ fn letters(rt: &impl Abort, alloc: Global) -> Result<Book, AllocError> {
     for letters in &LETTERS {
         rows.push(Row::copied(alloc, &[letters.0, letters.1])?)?;
     }
-    book_of(rt, alloc, names, rows)
+    book_of(rt, alloc, names, &rows)
 }
 
 fn columns(list: &[u8]) -> ColSet {

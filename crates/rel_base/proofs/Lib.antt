@@ -1,3 +1,5 @@
+pub mod Packed
+pub mod Across
 pub mod Fields
 pub mod Agree
 pub mod Valid

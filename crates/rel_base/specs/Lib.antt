@@ -1,4 +1,5 @@
 pub mod Cells
+pub mod Packed
 pub mod Relation
 pub mod RowState
 pub mod Agreement

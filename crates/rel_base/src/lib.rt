@@ -5,6 +5,7 @@
 
 mod batch;
 mod cell;
+mod cells;
 mod dependency;
 mod job;
 pub mod laws;
@@ -22,6 +23,7 @@ mod why;
 
 pub use batch::{Batch, Op};
 pub use cell::Cell;
+pub use cells::Cells;
 pub use col_set::{COLUMN_PLACES, ColSet, MOST_COLUMNS, Target};
 pub use dependency::{Covers, Fd, Table};
 pub use job::Job;

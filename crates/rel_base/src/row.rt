@@ -65,7 +65,14 @@ impl Row {
         requires { place < length self.now }
         ensures { result.now ≡ slice_index_or self.now place [] }
     {
-        self.record.get(place).unwrap()
+        field(&self.record, place)
+    }
+
+    /// The cells as a record of a text.
+    pub fn record(&self) -> &ByteRecord
+        ensures { fields_of result.now ≡ self.now }
+    {
+        &self.record
     }
 
     /// The record back, which takes no memory.
@@ -74,6 +81,14 @@ impl Row {
     {
         self.record
     }
+}
+
+// The bytes of the field at this place of a record.
+pub(crate) fn field(fields: &ByteRecord, place: usize) -> &[u8]
+    requires { place < length (fields_of fields.now) }
+    ensures { result.now ≡ slice_index_or (fields_of fields.now) place [] }
+{
+    fields.get(place).unwrap()
 }
 
 impl Clone for Row {

@@ -174,7 +174,7 @@ fn one_delete(alloc: Global) -> Result<Batch, AllocError> {
 
 // A relation of one column and no rows.
 fn without_rows(alloc: Global) -> Result<Relation, AllocError> {
-    Ok(Relation::of(Row::copied(alloc, &[b"k"])?, Vec::new(alloc)))
+    Relation::without_rows(alloc, Row::copied(alloc, &[b"k"])?)
 }
 
 fn move_job_and_batch<R: Threads + Sync + Abort>(rt: &R, job: Job, batch: Batch) {
@@ -188,11 +188,7 @@ fn move_snapshot_and_relation<R: Threads + Sync + Abort>(
     snapshot: Arc<Snapshot>,
     relation: Relation,
 ) {
-    let (live, rows) = join(
-        rt,
-        move || snapshot.live_count(),
-        move || relation.rows().len(),
-    );
+    let (live, rows) = join(rt, move || snapshot.live_count(), move || relation.len());
     assert!(rt; live == 1);
     assert!(rt; rows == 0);
 }
@@ -258,11 +254,27 @@ fn smaller_limits_keep_what_they_are_given(rt: HostRuntime) {
 }
 
 #[test]
-fn a_relation_keeps_its_names(rt: HostRuntime) -> Result<(), Fail> {
-    let names = Row::copied(rt.alloc(), &[b"k", b"v"])?;
-    let relation = Relation::of(names, Vec::new(rt.alloc()));
-    assert!(rt; relation.names().len() == 2);
-    assert!(rt; relation.rows().is_empty());
+fn a_relation_keeps_its_names_and_rows(rt: HostRuntime) -> Result<(), Fail> {
+    let alloc = rt.alloc();
+    let names = Row::copied(alloc, &[b"k", b"v"])?;
+    let rows = [
+        Row::copied(alloc, &[b"1", b""])?,
+        Row::copied(alloc, &[b"", b"xy"])?,
+    ];
+    let mut relation = Relation::without_rows(alloc, names)?;
+    assert!(rt; relation.is_empty());
+    for row in &rows {
+        assert!(rt; relation.len() < 2 && relation.names().len() == 2);
+        relation = relation.with_row(row)?;
+    }
+    assert!(rt; relation.len() == 2);
+    assert!(rt; relation.rows(alloc)?.as_slice() == rows.as_slice());
+    let (names, columns) = relation.into_columns();
+    assert!(rt; names.len() == 2 && columns.len() == 2);
+    assert!(rt; columns[0].len() == 2 && columns[0].size() == 1 && !columns[0].is_empty());
+    let second = &columns[1];
+    assert!(rt; second.len() == 2);
+    assert!(rt; second.get(0).is_empty() && second.get(1) == b"xy".as_slice());
     Ok(())
 }
 

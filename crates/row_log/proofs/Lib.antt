@@ -1,4 +1,4 @@
-pub mod Blocks
+pub mod Opened
 pub mod Columns
 pub mod Rows
 pub mod Flags

@@ -1,9 +1,9 @@
 -- How the rows and live numbers of a row state are kept: the rows by column, the numbers as a flag a row.
-use Rattle.std.specs.Prelude.{◌≡◌, ◌<◌, ◌≤◌, ◌+◌, ◌-◌, ◌++◌, ◌∷◌, ℕ, Bool, false, List, [], length, map, slice_index_or}
+use Rattle.std.specs.Prelude.{◌≡◌, ◌<◌, ◌≤◌, ◌-◌, ◌++◌, ◌∷◌, ℕ, Bool, false, List, [], length, map, slice_index_or}
 use Rattle.std.specs.List.{All, filter, range_with_len}
 use Rattle.rel_base.specs.declared.nulls.Nulls.{Nulls}
 use Rattle.rel_base.specs.declared.nulls.Nulls.TheVariants.{Equal}
-use Rattle.rel_base.specs.Cells.{Row, cell}
+use Rattle.rel_base.specs.Cells.{Cell, Row, cell}
 use Rattle.rel_base.specs.Relation.{IsContent}
 use Rattle.col_set.specs.ColSet.{upto}
 use Rattle.col_set.specs.declared.col_set.TheConstants.{MOST_COLUMNS}
@@ -39,19 +39,19 @@ column_at columns j = slice_index_or columns j no_column
 abbrev pub with_cell : ColumnCells → Row → ℕ → ColumnCells
 with_cell c row j = record { nulls = c.nulls; cells = c.cells ++ cell row j ∷ [] }
 
--- the column with its cells of more rows, where it is the column at place j
-abbrev pub with_cells : ColumnCells → List Row → ℕ → ColumnCells
-with_cells c rows j = record { nulls = c.nulls; cells = c.cells ++ map (λ row. cell row j) rows }
+-- the column of these cells
+abbrev pub coded_cells : Nulls → List Cell → ColumnCells
+coded_cells nulls cells = record { nulls = nulls; cells = cells }
 
--- so many columns of these rows, from a place on
-pub record AreColumnsOf (nulls : Nulls) (rows : List Row) (from count : ℕ) (columns : List ColumnCells) : Type 0 where
+-- so many columns of these rows
+pub record AreColumnsOf (nulls : Nulls) (rows : List Row) (count : ℕ) (columns : List ColumnCells) : Type 0 where
   pub long : length columns ≡ count
-  pub each : (j : ℕ) → j < count → column_at columns j ≡ record { nulls = nulls; cells = map (λ row. cell row (from + j)) rows }
+  pub each : (j : ℕ) → j < count → column_at columns j ≡ coded_cells nulls (map (λ row. cell row j) rows)
 
 -- so many rows, that a relation of these names may have, and their columns
 pub record AreCodedRows (names : Row) (nulls : Nulls) (rows : List Row) (count : ℕ) (columns : List ColumnCells) : Type 0 where
   pub content : IsContent (record { names = names; rows = rows })
-  pub columns_are : AreColumnsOf nulls rows 0 (length names) columns
+  pub columns_are : AreColumnsOf nulls rows (length names) columns
   pub many : length rows ≡ count
 
 -- each column got its cell of this row

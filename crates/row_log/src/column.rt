@@ -1,7 +1,5 @@
 // The cells of one column, as codes.
 ghost use Rattle.std.specs.Prelude.{◌≡◌, ◌≢◌, ◌<◌, ◌≤◌, ◌+◌, ◌-◌, ◌↔◌, ◌∷◌, [], ◌++◌, ℕ, true, false, OnOk, OnErr, IfOk, length, map, take, slice_index, slice_index_or, slice_set, vec_len, vec_capacity};
-ghost use Rattle.std.specs.List.{All};
-ghost use Rattle.rel_base.specs.Cells.{cell};
 ghost use Rattle.rel_base.specs.Agreement.{Agrees};
 ghost use Rattle.row_log.specs.Column.{AreCodes};
 ghost use Rattle.row_log.specs.Distinct.{AreFlaggedCells, AreUsed, unmarked};
@@ -10,9 +8,12 @@ ghost use Rattle.row_log.specs.Live.{AreMarked};
 use crate::codes::{CodeList, code_in};
 use crate::live::MarkedCells;
 use column_dict::{Dict, Text};
-use rel_base::{Codes, MOST_ROWS, Nulls, Row};
+use rel_base::{Cells, Codes, MOST_ROWS, Nulls, Row};
 use std::alloc::{AllocError, Global};
 use std::marker::Model;
+
+// After so many rows it is looked at once more what is to be expected of those that follow.
+const BLOCK: usize = 16384;
 
 /// The cells of one column, of all rows in order, as codes.
 ///
@@ -64,15 +65,16 @@ impl Column {
         self.codes.own.reserve(rows)
     }
 
-    /// Codes the cells at this place of more rows. After want of memory it has those of some of them.
-    pub fn extend(&mut self, rows: &[Row], place: usize) -> Result<(), AllocError>
-        requires wide { All (λ row. place < length row) rows.now }
-        requires few { length self.old.cells + length rows.now ≤ MOST_ROWS }
-        ensures { OnOk result (self.new ≡ record { nulls = self.old.nulls; cells = self.old.cells ++ map (λ row. cell row place) rows.now }) }
+    /// Codes the cells of more rows. After want of memory it has those of some of them.
+    pub fn extend(&mut self, cells: &Cells) -> Result<(), AllocError>
+        requires { length self.old.cells + length cells.now ≤ MOST_ROWS }
+        ensures { OnOk result (self.new ≡ record { nulls = self.old.nulls; cells = self.old.cells ++ cells.now }) }
     {
-        self.expect_as_before();
-        for row in rows {
-            self.push(row.cell(place))?;
+        for place in 0..cells.len() {
+            if place % BLOCK == 0 {
+                self.expect_as_before();
+            }
+            self.push(cells.get(place))?;
         }
         Ok(())
     }

@@ -17,8 +17,8 @@ use crate::applying::{Applying, Halt};
 use crate::column::Column;
 use crate::live::LiveCells;
 use crate::table::{
-    agreement, append_live, columns_letting_go, columns_taking, handed_codes, marked_columns,
-    push_row, share_codes, truncate_rows,
+    agreement, append_live, columns_by, columns_of, handed_codes, marked_columns, push_row,
+    share_codes, truncate_rows,
 };
 use column_dict::Text;
 use rel_base::{Batch, ColSet, Limits, Nulls, Op, Relation, Row, RowNo, Snapshot, Why};
@@ -66,9 +66,8 @@ impl RowLog {
 
     /// The rows of a relation, all live, with this reading of NULL.
     ///
-    /// The relation is coded in large blocks of rows, column by column, which takes a step a cell. Each block is let go as soon as it is
-    /// coded, so that its memory serves the dictionaries. Where the relation has more rows than the limit, it is taken as it is, and no
-    /// row can come.
+    /// The relation is coded column by column, which takes a step a cell. Each column's cells are let go as soon as they are coded, so that
+    /// their memory serves the dictionaries. Where the relation has more rows than the limit, it is taken as it is, and no row can come.
     pub fn open_with(
         alloc: Global,
         relation: Relation,
@@ -77,15 +76,14 @@ impl RowLog {
     ) -> Result<RowLog, AllocError>
         ensures { IfOk result (λ log. log ≡ opened nulls limits.rows relation) }
     {
-        let (names, rows) = relation.into_parts();
-        let count = rows.len();
-        let columns = columns_letting_go(alloc, nulls, rows, 0, names.len())?;
+        let count = relation.len();
+        let (names, cells) = relation.into_columns();
+        let columns = columns_of(alloc, nulls, cells)?;
         RowLog::coded(alloc, names, count, columns, limits, nulls)
     }
 
     /// The rows of a relation as `open_with` has them, whose columns are coded beside each other by so many workers at most. One worker
-    /// is the thread of the caller and no other. The codes are the same, however many there are. Several workers read all rows to the
-    /// end, so that the relation is let go after them.
+    /// is the thread of the caller and no other. The codes are the same, however many there are.
     pub fn open_by<R: Threads + Sync>(
         rt: &R,
         alloc: Global,
@@ -96,9 +94,9 @@ impl RowLog {
     ) -> Result<RowLog, AllocError>
         ensures { IfOk result (λ log. log ≡ opened nulls limits.rows relation) }
     {
-        let (names, rows) = relation.into_parts();
-        let count = rows.len();
-        let columns = columns_taking(rt, alloc, nulls, rows, 0, names.len(), workers)?;
+        let count = relation.len();
+        let (names, cells) = relation.into_columns();
+        let columns = columns_by(rt, alloc, nulls, cells, workers)?;
         RowLog::coded(alloc, names, count, columns, limits, nulls)
     }
 

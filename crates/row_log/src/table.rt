@@ -2,57 +2,48 @@
 ghost use Rattle.std.specs.Prelude.{◌≡◌, ◌≢◌, ◌<◌, ◌≤◌, ◌+◌, ◌^◌, ◌∷◌, [], ◌++◌, ℕ, true, OnOk, OnErr, IfOk, length, map, take, slice_index_or, vec_len, vec_capacity};
 ghost use Rattle.std.specs.List.{All};
 ghost use Rattle.rel_base.specs.Agreement.{agree};
-ghost use Rattle.rel_base.specs.Cells.{cell};
 ghost use Rattle.row_log.specs.Column.{AreCodes};
 ghost use Rattle.row_log.specs.Live.{AreMarked, marked_at};
-ghost use Rattle.row_log.specs.Table.{row_at, HasRow, column_at, with_cells, AreColumnsOf};
+ghost use Rattle.row_log.specs.Table.{row_at, HasRow, column_at, coded_cells};
 ghost use denote.Param.Send.{IsSync};
 
 use crate::column::Column;
 use crate::live::MarkedCells;
 use agree_sets::agree_codes;
-use rel_base::{COLUMN_PLACES, Codes, ColSet, MOST_COLUMNS, MOST_ROWS, Nulls, Row};
+use rel_base::{COLUMN_PLACES, Cells, Codes, ColSet, MOST_COLUMNS, MOST_ROWS, Nulls, Row};
 use std::alloc::{AllocError, Global};
 use std::thread::{Threads, join};
 
-// How many rows are coded together: so many stay in a processor's cache while the columns take their cells.
-const BLOCK: usize = 16384;
-
-/// So many columns of these rows, from a place on, made by so many workers at most: one is the thread of the caller and no other.
+/// Columns of these cells, made by so many workers at most: one is the thread of the caller and no other.
 ///
-/// Each worker takes columns that stand side by side.
+/// Each worker takes columns that stand side by side and have about as much to be coded as those of another.
 pub fn columns_by<R: Threads + Sync>(
     rt: &R,
     alloc: Global,
     nulls: Nulls,
-    rows: &[Row],
-    from: usize,
-    count: usize,
+    cells: Vec<Cells>,
     workers: u8,
 ) -> Result<Vec<Column>, AllocError>
-    requires room { from + count < 2 ^ 64 }
-    requires wide { All (λ row. from + count ≤ length row) rows.now }
-    requires few { length rows.now ≤ MOST_ROWS }
-    ensures { IfOk result (λ columns. AreColumnsOf nulls rows.now from count columns.items) }
+    requires { All (λ each. length each ≤ MOST_ROWS) cells.items }
+    ensures { IfOk result (λ columns. columns.items ≡ map (coded_cells nulls) cells.items) }
 {
-    if count < 2 || workers < 2 {
-        return columns_of(alloc, nulls, rows, from, count);
+    if workers < 2 {
+        return columns_of(alloc, nulls, cells);
     }
-    let low = count / 2;
-    let high = count - low;
-    let middle = from + low;
     let few = workers / 2;
     let others = workers - few;
+    let mut cells = cells;
+    let later = cells.split_off(middle(&cells))?;
     let (first, second) = join(
         rt,
         move || -> Result<Vec<Column>, AllocError>
-            requires { IsSync R.row × (from + low < 2 ^ 64) × All (λ row. from + low ≤ length row) rows.now × (length rows.now ≤ MOST_ROWS) }
-            ensures { IfOk result (λ columns. AreColumnsOf nulls rows.entry.now from low columns.items) }
-        { columns_by(rt, alloc, nulls, rows, from, low, few) },
+            requires { IsSync R.row × All (λ each. length each ≤ MOST_ROWS) cells.items }
+            ensures { IfOk result (λ columns. columns.items ≡ map (coded_cells nulls) cells.items) }
+        { columns_by(rt, alloc, nulls, cells, few) },
         move || -> Result<Vec<Column>, AllocError>
-            requires { IsSync R.row × (middle + high < 2 ^ 64) × All (λ row. middle + high ≤ length row) rows.now × (length rows.now ≤ MOST_ROWS) }
-            ensures { IfOk result (λ columns. AreColumnsOf nulls rows.entry.now middle high columns.items) }
-        { columns_by(rt, alloc, nulls, rows, middle, high, others) },
+            requires { IsSync R.row × All (λ each. length each ≤ MOST_ROWS) later.items }
+            ensures { IfOk result (λ columns. columns.items ≡ map (coded_cells nulls) later.items) }
+        { columns_by(rt, alloc, nulls, later, others) },
     );
     let mut columns = first?;
     let mut others = second?;
@@ -60,110 +51,50 @@ pub fn columns_by<R: Threads + Sync>(
     Ok(columns)
 }
 
-/// So many columns of these rows, from a place on.
-///
-/// Blocks of rows are coded column by column: a column's dictionary stays in the cache for a block, and each row is
-/// fetched once.
-pub fn columns_of(
-    alloc: Global,
-    nulls: Nulls,
-    rows: &[Row],
-    from: usize,
-    count: usize,
-) -> Result<Vec<Column>, AllocError>
-    requires room { from + count < 2 ^ 64 }
-    requires wide { All (λ row. from + count ≤ length row) rows.now }
-    requires few { length rows.now ≤ MOST_ROWS }
-    ensures { IfOk result (λ columns. AreColumnsOf nulls rows.now from count columns.items) }
+// The place at which the columns before it have about as much to be coded as the others.
+fn middle(cells: &[Cells]) -> usize
+    ensures { result ≤ length cells.now }
 {
-    let mut columns = empty_columns(alloc, nulls, rows.len(), count)?;
-    let mut left = rows;
-    while !left.is_empty() {
-        let (block, rest) = left.split_at(left.len().min(BLOCK));
-        push_rows(&mut columns, block, from)?;
-        left = rest;
-    }
-    Ok(columns)
-}
-
-/// What `columns_by` makes, where the rows are not wanted any more: one worker lets go of each block of them as soon as it is coded, so
-/// that the rows make room for the dictionaries. Several workers share the rows to the end.
-pub fn columns_taking<R: Threads + Sync>(
-    rt: &R,
-    alloc: Global,
-    nulls: Nulls,
-    rows: Vec<Row>,
-    from: usize,
-    count: usize,
-    workers: u8,
-) -> Result<Vec<Column>, AllocError>
-    requires room { from + count < 2 ^ 64 }
-    requires wide { All (λ row. from + count ≤ length row) rows.items }
-    requires few { length rows.items ≤ MOST_ROWS }
-    ensures { IfOk result (λ columns. AreColumnsOf nulls rows.items from count columns.items) }
-{
-    if workers < 2 {
-        return columns_letting_go(alloc, nulls, rows, from, count);
-    }
-    columns_by(rt, alloc, nulls, &rows, from, count, workers)
-}
-
-/// What `columns_of` makes. Each block of rows is let go as soon as it is coded.
-pub fn columns_letting_go(
-    alloc: Global,
-    nulls: Nulls,
-    rows: Vec<Row>,
-    from: usize,
-    count: usize,
-) -> Result<Vec<Column>, AllocError>
-    requires room { from + count < 2 ^ 64 }
-    requires wide { All (λ row. from + count ≤ length row) rows.items }
-    requires few { length rows.items ≤ MOST_ROWS }
-    ensures { IfOk result (λ columns. AreColumnsOf nulls rows.items from count columns.items) }
-{
-    let mut columns = empty_columns(alloc, nulls, rows.len(), count)?;
-    let mut block = Vec::with_capacity(alloc, BLOCK)?;
-    for row in rows {
-        block.push(row)?;
-        if block.len() >= BLOCK {
-            push_rows(&mut columns, &block, from)?;
-            block.clear();
+    let whole = cells
+        .iter()
+        .fold(0u64, |sum, each| sum.saturating_add(weight(each)));
+    let mut left = whole / 2;
+    for (place, each) in cells.iter().enumerate() {
+        let own = weight(each);
+        if left <= own / 2 {
+            return place;
         }
+        left = left.saturating_sub(own);
     }
-    push_rows(&mut columns, &block, from)?;
+    cells.len()
+}
+
+// How long a column takes to be coded, as it seems: a cell takes as long as so many bytes.
+fn weight(cells: &Cells) -> u64 {
+    let bytes = cells.size() as u64;
+    bytes.saturating_add((cells.len() as u64).saturating_mul(8))
+}
+
+/// Columns of these cells, each of which are let go as soon as they are coded, so that their memory serves the dictionaries.
+pub fn columns_of(alloc: Global, nulls: Nulls, cells: Vec<Cells>) -> Result<Vec<Column>, AllocError>
+    requires { All (λ each. length each ≤ MOST_ROWS) cells.items }
+    ensures { IfOk result (λ columns. columns.items ≡ map (coded_cells nulls) cells.items) }
+{
+    let mut columns = Vec::with_capacity(alloc, cells.len())?;
+    for each in cells {
+        columns.push(column_of(alloc, nulls, each)?)?;
+    }
     Ok(columns)
 }
 
-// So many columns without rows, with room for the codes of so many.
-fn empty_columns(
-    alloc: Global,
-    nulls: Nulls,
-    rows: usize,
-    width: usize,
-) -> Result<Vec<Column>, AllocError>
-    ensures long { IfOk result (λ columns. length columns.items ≡ width) }
-    ensures each { IfOk result (λ columns. (j : ℕ) → j < width → column_at columns.items j ≡ record { nulls = nulls; cells = [] }) }
+// The column of these cells.
+fn column_of(alloc: Global, nulls: Nulls, cells: Cells) -> Result<Column, AllocError>
+    requires { length cells ≤ MOST_ROWS }
+    ensures { IfOk result (λ column. column ≡ coded_cells nulls cells) }
 {
-    let mut columns = Vec::with_capacity(alloc, width)?;
-    for _place in 0..width {
-        columns.push(Column::with_room(alloc, nulls, rows)?)?;
-    }
-    Ok(columns)
-}
-
-// Codes the cells of more rows, where the first column has those at a place. After want of memory some columns have the cells of
-// more rows than others.
-fn push_rows(columns: &mut [Column], rows: &[Row], from: usize) -> Result<(), AllocError>
-    requires room { from + length columns.old < 2 ^ 64 }
-    requires wide { All (λ row. from + length columns.old ≤ length row) rows.now }
-    requires few { (j : ℕ) → j < length columns.old → length (column_at columns.old j).cells + length rows.now ≤ MOST_ROWS }
-    ensures long { OnOk result (length columns.new ≡ length columns.old) }
-    ensures each { OnOk result ((j : ℕ) → j < length columns.old → column_at columns.new j ≡ with_cells (column_at columns.old j) rows.now (from + j)) }
-{
-    for place in 0..columns.len() {
-        columns[place].extend(rows, from + place)?;
-    }
-    Ok(())
+    let mut column = Column::with_room(alloc, nulls, cells.len())?;
+    column.extend(&cells)?;
+    Ok(column)
 }
 
 /// Codes the cells of one more row. After want of memory the columns, of so many rows, are as before.

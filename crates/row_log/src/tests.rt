@@ -13,7 +13,7 @@ use std::thread::Threads;
 // A relation of three columns and four rows, where they are one.
 fn drawn_from(alloc: Global, samples: &mut Samples) -> Result<Option<Relation>, AllocError> {
     let names = samples.row(alloc, 3)?;
-    Ok(relation_of(names, samples.rows(alloc, 4, 3)?))
+    relation_of(alloc, names, &samples.rows(alloc, 4, 3)?)
 }
 
 // Such a relation.

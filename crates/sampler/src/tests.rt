@@ -122,7 +122,7 @@ fn letters(rt: &impl Abort, alloc: Global) -> Result<RowLog, AllocError> {
     rows.push(Row::copied(alloc, &[b"1", b"x"])?)?;
     rows.push(Row::copied(alloc, &[b"1", b"y"])?)?;
     rows.push(Row::copied(alloc, &[b"2", b"y"])?)?;
-    let Some(relation) = relation_of(names, rows) else {
+    let Some(relation) = relation_of(alloc, names, &rows)? else {
         panic!(rt);
     };
     RowLog::open(alloc, relation, Limits::standard())

@@ -54,7 +54,7 @@ fn rows_of(alloc: Global, columns: &[Column; 3], bound: u32) -> Result<PlainRows
         )?)?;
     }
     let names = Row::copied(alloc, &[b"a", b"b", b"c"])?;
-    let relation = relation_of(names, rows).ok_or("no relation")?;
+    let relation = relation_of(alloc, names, &rows)?.ok_or("no relation")?;
     let rows = PlainRows::opened(alloc, Nulls::Equal, Limits::standard(), relation)?;
     Ok(rows.below(alloc, bound)?)
 }

@@ -20,7 +20,7 @@ mod weighed;
 
 pub use judge::validate;
 pub use old_groups::OldGroups;
-pub use order::Order;
+pub use order::{Order, first_places};
 pub use store::Store;
 pub use stores::{Stores, violations};
 pub use verdict::Verdict;

@@ -8,7 +8,7 @@ ghost use Rattle.validator.specs.Verdicts.{IsFitting};
 mod sample;
 
 use self::sample::{COLUMNS, ROWS, Sample, drawn};
-use crate::{Order, Store, Stores, Verdict, validate, violations};
+use crate::{Order, Store, Stores, Verdict, first_places, validate, violations};
 use col_set::{ColSet, Target};
 use plain_base::Samples;
 use rel_base::{COLUMN_PLACES, Job, MOST_COLUMNS, RowNo, Steps};
@@ -340,9 +340,11 @@ fn light_columns_have_the_first_places(rt: HostRuntime) -> Result<(), Fail> {
     weights[1] = 4;
     let order = Order::of(&weights);
     let both = ColSet::empty().with(1).with(3);
-    assert!(rt; order.places_of(both) == ColSet::empty().with(0).with(1));
-    assert!(rt; order.places_of(ColSet::empty().with(3)) == ColSet::empty().with(0));
-    assert!(rt; order.places_of(ColSet::empty().with(0)) == ColSet::empty().with(2));
+    assert!(rt; order.places_of(both) == 3 << 126);
+    assert!(rt; order.places_of(ColSet::empty().with(3)) == 1 << 127);
+    assert!(rt; order.places_of(ColSet::empty().with(0)) == 1 << 125);
+    assert!(rt; first_places(order.places_of(both.with(0))) == 3 << 126);
+    assert!(rt; first_places(1 << 127) == 1 << 127 && first_places(0) == 0);
     Ok(())
 }
 

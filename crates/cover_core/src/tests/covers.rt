@@ -27,7 +27,7 @@ fn wide_relation(
     let mut samples = Samples::from_seed(seed);
     let names = samples.row(alloc, columns)?;
     let rows = samples.rows(alloc, rows, columns)?;
-    Ok(relation_with(rt, names, rows))
+    relation_with(rt, alloc, names, &rows)
 }
 
 pub(super) fn are_same(found: &Covers, wanted: &Covers) -> bool {

@@ -109,7 +109,8 @@ static DEMOS: [&[&str]; 3] = [
 // A file of the relation of the seed 1.
 fn demo_file(alloc: Global) -> Result<Vec<u8>, AllocError> {
     let relation = demo_relation(alloc, 1)?;
-    table_file(alloc, relation.names(), relation.rows())
+    let rows = relation.rows(alloc)?;
+    table_file(alloc, relation.names(), &rows)
 }
 
 // What these words come to beside these files.

@@ -17,7 +17,7 @@ fn opened(rt: &impl Abort, alloc: Global, seed: u64) -> Result<Book, AllocError>
     let mut samples = Samples::from_seed(seed);
     let names = samples.row(alloc, COLUMNS)?;
     let rows = samples.rows(alloc, 9, COLUMNS)?;
-    book_of(rt, alloc, names, rows)
+    book_of(rt, alloc, names, &rows)
 }
 
 fn batches(alloc: Global, seed: u64, count: u32) -> Result<Vec<Batch>, AllocError> {

@@ -184,7 +184,7 @@ fn wide_row(alloc: Global) -> Result<Row, AllocError> {
 fn wide(rt: &impl Abort, alloc: Global) -> Result<Book, AllocError> {
     let mut rows = Vec::with_capacity(alloc, 1)?;
     rows.push(wide_row(alloc)?)?;
-    book_of(rt, alloc, wide_row(alloc)?, rows)
+    book_of(rt, alloc, wide_row(alloc)?, &rows)
 }
 
 fn opened(rt: &impl Abort, alloc: Global, rows: Rows) -> Result<Book, AllocError> {

@@ -1,11 +1,10 @@
-use Rattle.std.proofs.Common.{◌≡◌, ◌∙◌, sym, ap, ◌+◌, arith, length}
+use Rattle.std.proofs.Common.{◌≡◌, ◌∙◌, sym, ap, refl, ◌+◌, arith, length}
 use Rattle.csv.specs.Records.{fields_of}
 use Rattle.rel_base.specs.declared.why.Why.TheVariants.{Columns, NoHeader}
 use Rattle.rel_base.specs.Relation.{Content}
 use Rattle.csv_load.specs.Records.{records_of}
-use Rattle.csv_load.proofs.FirstRefused.{no_records, read_header, read_row, read_whole, reads_as_refused, reads_as_relation, refuse_row, refused_header, wide_refused}
+use Rattle.csv_load.proofs.FirstRefused.{header_accepted, no_records, read_header, read_row, read_whole, reads_as_refused, reads_as_relation, refuse_row, refused_header, row_accepted, wide_refused}
 use Rattle.csv_load.proofs.load.try_read.Goals as goal
-use Rattle.csv_load.proofs.load.try_read.Goals.{After-names}
 
 pub returns-then-not-branch : goal.returns-then-not-branch
 returns-then-not-branch c =
@@ -22,16 +21,28 @@ returns-in-Some c =
     reads_as_refused c.args.limits.now (records_of c.args.bytes.now) 1 c.in-Some.why
     (rw (← c.new-reader.ensures.records, found) (refused_header c.args.limits.now (fields_of c.next.new.fields) c.next.new.self.left c.in-Some.why (sym c.in-Some.ensures)))
 
--- the names are the cells of the first record
-names_are : (c : After-names) → fields_of c.names.inside.record ≡ fields_of c.next.new.fields
-names_are c = c.names.view_is ∙ c.of-names.ensures ∙ ap fields_of c.in_ok-clone.ensures.cases
+pub without_rows-requires-clause-some : goal.without_rows-requires-clause-some
+without_rows-requires-clause-some c =
+    let some = rw c.if-not-branch.false at c.in_ok-next.ensures.some in
+    let names = ap length (c.of-names.ensures ∙ ap fields_of c.in_ok-clone.ensures.cases) in
+    omega (arith, some, names)
 
-pub loop-rows-init : goal.loop-rows-init
-loop-rows-init c =
+-- a header that no rule refuses is as narrow as a relation's
+pub without_rows-requires-clause-narrow : goal.without_rows-requires-clause-narrow
+without_rows-requires-clause-narrow c =
+    let header = header_accepted c.args.limits.now (fields_of c.next.new.fields) (sym c.in_default.ensures) in
+    let names = ap length (c.of-names.ensures ∙ ap fields_of c.in_ok-clone.ensures.cases) in
+    let narrow = header.columns in
+    let few = c.args.limits.now.few_columns in
+    omega (arith, narrow, few, names)
+
+pub loop-relation-init : goal.loop-relation-init
+loop-relation-init c =
     let found = rw c.if-not-branch.false at c.in_ok-next.ensures.found in
     let some = rw c.if-not-branch.false at c.in_ok-next.ensures.some in
     let all = sym c.new-reader.ensures.records ∙ found in
-    rw (names_are c, c.new-rows.ensures.items) record {
+    let names : c.in_ok-relation.relation.names ≡ fields_of c.next.new.fields = c.in_ok-relation.ensures.names ∙ c.of-names.ensures ∙ ap fields_of c.in_ok-clone.ensures.cases in
+    rw (names, c.in_ok-relation.ensures.rows) record {
       read = read_header c.args.limits.now (records_of c.args.bytes.now) (fields_of c.next.new.fields) c.next.new.self.left all (sym c.in_default.ensures);
       width = c.len-width.ensures;
       some = some;
@@ -40,35 +51,39 @@ loop-rows-init c =
 pub returns-in-Some-row_refusal : goal.returns-in-Some-row_refusal
 returns-in-Some-row_refusal c =
     let found = rw c.if-branch.true at c.in_ok-next-2.ensures.found in
-    let count : c.len.result ≡ length c.loop-rows.rows.items = omega (arith, c.loop-rows.rows.ok.0, c.len.ensures) in
-    let refuses = rw (c.loop-rows.invariant.width, count) at (sym c.in-Some-row_refusal.ensures) in
+    let refuses = rw (c.loop-relation.invariant.width, c.len.ensures.value) at (sym c.in-Some-row_refusal.ensures) in
     reads_as_refused c.args.limits.now (records_of c.args.bytes.now) (c.len.result + 2) c.in-Some-row_refusal.why
-    (rw count (refuse_row c.args.limits.now (records_of c.args.bytes.now) (fields_of c.names.inside.record) c.loop-rows.rows.items c.loop-rows.reader.left
-    (fields_of c.next-in-loop-rows.new.fields) c.next-in-loop-rows.new.self.left c.in-Some-row_refusal.why c.loop-rows.invariant.read found refuses))
+    (rw c.len.ensures.value (refuse_row c.args.limits.now (records_of c.args.bytes.now) c.loop-relation.relation.names c.loop-relation.relation.rows c.loop-relation.reader.left
+    (fields_of c.next-in-loop-relation.new.fields) c.next-in-loop-relation.new.self.left c.in-Some-row_refusal.why c.loop-relation.invariant.read found refuses))
 
-pub loop-rows-preserved : goal.loop-rows-preserved
-loop-rows-preserved c =
+-- a row that no rule refuses is one of the relation
+pub with_record-requires-clause-wide : goal.with_record-requires-clause-wide
+with_record-requires-clause-wide c =
+    (row_accepted c.args.limits.now c.len-width.result (c.len.result + 2) (fields_of c.next-in-loop-relation.new.fields) (sym c.in_default-row_refusal.ensures)).fields ∙ c.loop-relation.invariant.width
+
+pub with_record-requires-clause-room : goal.with_record-requires-clause-room
+with_record-requires-clause-room c =
+    let row = row_accepted c.args.limits.now c.len-width.result (c.len.result + 2) (fields_of c.next-in-loop-relation.new.fields) (sym c.in_default-row_refusal.ensures) in
+    let number = row.number in
+    let few = c.args.limits.now.few_rows in
+    let count = c.len.ensures.value in
+    omega (arith, number, few, count)
+
+pub loop-relation-preserved : goal.loop-relation-preserved
+loop-relation-preserved c =
     let found = rw c.if-branch.true at c.in_ok-next-2.ensures.found in
-    let count : c.len.result ≡ length c.loop-rows.rows.items = omega (arith, c.loop-rows.rows.ok.0, c.len.ensures) in
-    let accepts = rw (c.loop-rows.invariant.width, count) at (sym c.in_default-row_refusal.ensures) in
-    let read = read_row c.args.limits.now (records_of c.args.bytes.now) (fields_of c.names.inside.record) c.loop-rows.rows.items c.loop-rows.reader.left
-    (fields_of c.next-in-loop-rows.new.fields) c.next-in-loop-rows.new.self.left c.loop-rows.invariant.read found accepts in
-    let row : c.of.result ≡ fields_of c.next-in-loop-rows.new.fields = c.of.ensures ∙ ap fields_of c.in_ok-clone-2.ensures.cases in
-    record {
-      read = rw (c.in_ok-push.ensures.items, row) read;
-      width = c.loop-rows.invariant.width;
-      some = c.loop-rows.invariant.some;
+    let accepts = rw (c.loop-relation.invariant.width, c.len.ensures.value) at (sym c.in_default-row_refusal.ensures) in
+    let read = read_row c.args.limits.now (records_of c.args.bytes.now) c.loop-relation.relation.names c.loop-relation.relation.rows c.loop-relation.reader.left
+    (fields_of c.next-in-loop-relation.new.fields) c.next-in-loop-relation.new.self.left c.loop-relation.invariant.read found accepts in
+    rw (c.in_ok-relation-2.ensures.names, c.in_ok-relation-2.ensures.rows) record {
+      read = read;
+      width = c.loop-relation.invariant.width;
+      some = c.loop-relation.invariant.some;
     }
-
-pub of-requires-2 : goal.of-requires-2
-of-requires-2 c =
-    let end = rw c.if-branch.false at c.in_ok-next-2.ensures.end in
-    let content : Content = record { names = fields_of c.names.inside.record; rows = c.loop-rows.rows.items } in
-    rw (← c.names.view_is) (read_whole c.args.limits.now (records_of c.args.bytes.now) content c.loop-rows.reader.left c.loop-rows.invariant.read end.0 c.loop-rows.invariant.some).bounds
 
 pub returns : goal.returns
 returns c =
     let end = rw c.if-branch.false at c.in_ok-next-2.ensures.end in
-    let content : Content = record { names = fields_of c.names.inside.record; rows = c.loop-rows.rows.items } in
-    let whole = read_whole c.args.limits.now (records_of c.args.bytes.now) content c.loop-rows.reader.left c.loop-rows.invariant.read end.0 c.loop-rows.invariant.some in
-    reads_as_relation c.args.limits.now (records_of c.args.bytes.now) content c.of-2.result whole (c.of-2.ensures.names ∙ sym c.names.view_is) c.of-2.ensures.rows
+    let content : Content = c.loop-relation.relation in
+    let whole = read_whole c.args.limits.now (records_of c.args.bytes.now) content c.loop-relation.reader.left c.loop-relation.invariant.read end.0 c.loop-relation.invariant.some in
+    reads_as_relation c.args.limits.now (records_of c.args.bytes.now) content content whole refl refl

@@ -2,10 +2,10 @@ use Rattle.std.proofs.Common.{◌+◌, ◌*◌}
 use Rattle.row_log.proofs.table.+columns_by+fn-columns_by-join+arg2+fn-columns_by-join+arg3.Given as goal
 
 abbrev pub decreases-join+arg2 : goal.decreases-join+arg2
-decreases-join+arg2 g l = 2 * l.low + 1
+decreases-join+arg2 g l = 2 * l.few + 1
 
 abbrev pub decreases-join+arg3 : goal.decreases-join+arg3
-decreases-join+arg3 g l = 2 * l.high + 1
+decreases-join+arg3 g l = 2 * l.others + 1
 
 abbrev pub decreases-columns_by : goal.decreases-columns_by
-decreases-columns_by g l = 2 * l.count
+decreases-columns_by g l = 2 * l.workers

@@ -1,4 +1,4 @@
-use Rattle.std.proofs.Common.{List, sym, subst}
+use Rattle.std.proofs.Common.{List, refl, sym, subst}
 use Rattle.std.specs.List.{All}
 use Rattle.cover_core.specs.KnownLefts.{IsKnownBy}
 use Rattle.cover_core.specs.declared.waiting.Waiting.{Waiting}
@@ -9,5 +9,8 @@ pub known_by-requires : goal.known_by-requires
 known_by-requires c = known_target _ c.args.self.now c.self.inside.snapshot.value c.args.from c.self.invariant.0 c.self.view_is c.args.lefts.now c.requires.lefts
 
 pub mark_held-requires : goal.mark_held-requires
-mark_held-requires c = held_by _ c.args.self.now c.self.inside.snapshot.value c.in_ok-snapshot.snapshot.value c.args.from c.self.invariant.0 c.self.view_is c.in_ok-snapshot.ensures.cases c.requires.told c.args.lefts.now c.requires.lefts c.as_slice.result.now
-    (subst (λ (ws : List Waiting). All (IsKnownBy c.self.inside.candidates c.args.from c.args.lefts.now) ws) (sym c.as_slice.ensures.value) c.in_ok-found.ensures)
+mark_held-requires c = (
+  c.self.inside.snapshot.value,
+  held_by _ c.args.self.now c.self.inside.snapshot.value c.self.inside.snapshot.value c.args.from c.self.invariant.0 c.self.view_is refl c.requires.told c.args.lefts.now c.requires.lefts c.as_slice.result.now
+      (subst (λ (ws : List Waiting). All (IsKnownBy c.self.inside.candidates c.args.from c.args.lefts.now) ws) (sym c.as_slice.ensures.value) c.in_ok-found.ensures),
+)

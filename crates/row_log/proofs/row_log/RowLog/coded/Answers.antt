@@ -1,4 +1,4 @@
-use Rattle.std.proofs.Common.{◌≡◌, ◌<◌, ◌+◌, ◌∙◌, ℕ, List, ap, sym, length, map, refl, arith}
+use Rattle.std.proofs.Common.{◌≡◌, ◌<◌, ◌∙◌, ℕ, List, ap, sym, length, map, refl}
 use Rattle.rel_base.specs.Cells.{Row, cell}
 use Rattle.rel_base.specs.declared.nulls.Nulls.{Nulls}
 use Rattle.rel_base.specs.Relation.{Content}
@@ -11,11 +11,10 @@ use Rattle.row_log.proofs.row_log.RowLog.coded.Goals as goal
 long_columns : (columns shared : List ColumnCells) (w : ℕ) → shared ≡ columns → length columns ≡ w → length shared ≡ w
 long_columns columns shared w e l = ap length e ∙ l
 
-each_column : (nulls : Nulls) (w : ℕ) (rows : List Row) (columns shared : List ColumnCells) → shared ≡ columns → AreColumnsOf nulls rows 0 w columns
+each_column : (nulls : Nulls) (w : ℕ) (rows : List Row) (columns shared : List ColumnCells) → shared ≡ columns → AreColumnsOf nulls rows w columns
     → (j : ℕ) → j < w → column_at shared j ≡ record { nulls = nulls; cells = map (λ row. cell row j) rows }
 each_column nulls w rows columns shared e h j l =
     ap (λ (cs : List ColumnCells). column_at cs j) e ∙ h.each j l
-    ∙ ap (λ (n : ℕ). let x : ColumnCells = record { nulls = nulls; cells = map (λ row. cell row n) rows } in x) (let z : 0 + j ≡ j = omega arith in z)
 
 pub invariant_of-result : goal.invariant_of-result
 invariant_of-result c =

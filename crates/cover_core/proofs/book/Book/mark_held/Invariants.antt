@@ -1,6 +1,0 @@
-use Rattle.std.proofs.Common.{◌≡◌}
-use Rattle.cover_steps.specs.Sound.{Sound}
-use Rattle.cover_core.proofs.book.Book.mark_held.Given as goal
-
-abbrev pub invariant-loop-waiting : goal.invariant-loop-waiting
-invariant-loop-waiting l = (l.self.rows ≡ l.fn.self.rows) × (l.self.witnesses ≡ l.fn.self.witnesses) × Sound l.self

@@ -1,0 +1,113 @@
+// The cells of a column, packed.
+ghost use Rattle.std.specs.Prelude.{◌≡◌, ◌<◌, ◌≤◌, ◌==◌, ◌++◌, ◌∷◌, length, slice_range, slice_index_or, [], OnOk, OnErr, vec_len, vec_capacity};
+ghost use Rattle.rel_base.specs.Packed as packed;
+
+use std::alloc::{AllocError, Global};
+use std::marker::Model;
+
+// So many bytes are packed at most: a place in them takes four bytes.
+const MOST_PACKED: usize = u32::MAX as usize;
+
+/// The cells of a column, one after another in one buffer beside the places where they end: the bytes, and four more a cell.
+///
+/// Contracts see the list of the cells.
+#[derive(Drop)]
+pub struct Cells {
+    bytes: Vec<u8>,
+    ends: Vec<u32>,
+}
+
+impl Model for Cells {
+    ghost use Rattle.std.specs.Prelude.{List, ℕ};
+    ghost use Rattle.rel_base.specs.Packed.{packed_cells, ArePacked};
+
+    ghost Value = { List (List ℕ) };
+
+    ghost view = { λ c. packed_cells c.bytes.items c.ends.items };
+
+    ghost invariant = { λ c. ArePacked c.bytes.items c.ends.items };
+}
+
+impl Cells {
+    /// No cells, which takes no memory.
+    pub fn new(alloc: Global) -> Cells
+        ensures { result ≡ [] }
+    {
+        Cells {
+            bytes: Vec::new(alloc),
+            ends: Vec::new(alloc),
+        }
+    }
+
+    /// How many cells there are.
+    pub fn len(&self) -> usize
+        ensures { result ≡ length self.now }
+    {
+        self.ends.len()
+    }
+
+    /// Whether there are none.
+    pub fn is_empty(&self) -> bool
+        ensures { result ≡ (length self.now == 0) }
+    {
+        self.ends.is_empty()
+    }
+
+    /// How many bytes they have together.
+    pub fn size(&self) -> usize {
+        self.bytes.len()
+    }
+
+    /// The bytes of the cell at this place.
+    pub fn get(&self, place: usize) -> &[u8]
+        requires { place < length self.now }
+        ensures { result.now ≡ slice_index_or self.now place [] }
+    {
+        let start = start_at(&self.ends, place);
+        part(&self.bytes, start, self.ends[place] as usize)
+    }
+
+    /// Puts a copy of one more cell behind the others. Where memory is wanting they stay as they are; so they do where they would have
+    /// 4 GiB together, which no file of a relation has.
+    pub fn push(&mut self, cell: &[u8]) -> Result<(), AllocError>
+        ensures pushed { OnOk result (self.new ≡ self.old ++ cell.now ∷ []) }
+        ensures refused { OnErr result (self.new ≡ self.old) }
+    {
+        if cell.len() > MOST_PACKED - self.bytes.len() {
+            return Err(AllocError);
+        }
+        self.ends.reserve(1)?;
+        self.bytes.extend_from_slice(cell)?;
+        append(&mut self.ends, self.bytes.len() as u32);
+        Ok(())
+    }
+}
+
+// Where the cell at a place starts, of cells that end at these places.
+fn start_at(ends: &[u32], place: usize) -> usize
+    requires { place ≤ length ends.now }
+    ensures { result ≡ packed.start_at ends.now place }
+{
+    if place == 0 {
+        0
+    } else {
+        ends[place - 1] as usize
+    }
+}
+
+// The bytes from one place to another.
+fn part(bytes: &[u8], start: usize, end: usize) -> &[u8]
+    requires order { start ≤ end }
+    requires within { end ≤ length bytes.now }
+    ensures { result.now ≡ slice_range bytes.now start end }
+{
+    &bytes[start..end]
+}
+
+// Appends to a list that has room.
+fn append(list: &mut Vec<u32>, item: u32)
+    requires { vec_len list.old < vec_capacity list.old }
+    ensures { list.new.items ≡ list.old.items ++ item ∷ [] }
+{
+    let _ = list.push(item);
+}
