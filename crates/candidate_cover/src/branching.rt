@@ -7,6 +7,7 @@ ghost use Rattle.col_set.specs.Lists.{Listed};
 ghost use Rattle.candidate_cover.specs.Branches.{covered, lacking, sees, part, parts, join, IsWithin, AreWithin, IsEntered, IsCut, IsOwned, IsBranch, HasBranched, HasEnded, pruned};
 ghost use Rattle.candidate_cover.specs.Growth.{having, ListsLeast};
 
+use crate::index::Index;
 use crate::new_list::sorted;
 use rel_base::{ColSet, MOST_COLUMNS, Target};
 use std::alloc::{AllocError, Global};
@@ -347,6 +348,16 @@ fn is_inside(others: &[ColSet], free: ColSet, w: ColSet) -> bool
     others.iter().any(|v| own.subset_of(*v))
 }
 
+// Whether an agree set lies, as far as the free columns go, inside the one of the others at a place, if there is one.
+fn is_inside_one(others: &[ColSet], free: ColSet, w: ColSet, place: Option<usize>) -> bool
+    ensures { result ≡ true → list_any (λ v. subset (inter w free) v) others.now ≡ true }
+{
+    match place {
+        Some(place) if place < others.len() => w.inter(free).subset_of(others[place]),
+        _ => false,
+    }
+}
+
 // Whether an agree set has the column, and lies inside one of the others as far as the free columns go.
 fn goes(others: &[ColSet], column: u8, free: ColSet, w: ColSet) -> bool
     requires { column < MOST_COLUMNS }
@@ -430,7 +441,18 @@ impl Frames {
     }
 }
 
-// Adds the least sets that have all of the chosen columns and else free ones.
+// Whether no set with one more than the chosen columns and a further one is asked for.
+fn is_last(chosen: ColSet, most: Option<u32>) -> bool
+    ensures { most ≡ None → result ≡ false }
+{
+    match most {
+        Some(most) => chosen.len() + 1 >= most,
+        None => false,
+    }
+}
+
+// Adds the least sets that have all of the chosen columns and else free ones. Where a bound on columns is given it goes no further where
+// it is reached, and contracts say nothing of what it adds.
 //
 // A free column with which a chosen one keeps no agree set of its own is in none of them. The column to go by is one of the fewest
 // that a pending set lacks, which bounds the branches by what any order needs; at most a frame for each column stands at a time.
@@ -441,6 +463,7 @@ fn branch(
     free: ColSet,
     pending_from: usize,
     runs_from: usize,
+    most: Option<u32>,
     found: &mut Vec<ColSet>,
 ) -> Result<(), AllocError>
     requires pending_from { pending_from ≤ length frames.old.pending.items }
@@ -449,7 +472,7 @@ fn branch(
     ensures pending { OnOk result (frames.new.pending.items ≡ take pending_from frames.old.pending.items) }
     ensures own { OnOk result (frames.new.own.items ≡ frames.old.own.items) }
     ensures runs { OnOk result (frames.new.runs.items ≡ frames.old.runs.items) }
-    ensures found { OnOk result ((ws : List ℕ) → IsCut chosen (parts frames.old.own.items (drop runs_from frames.old.runs.items)) → IsBranch ws chosen free (drop pending_from frames.old.pending.items) (join (parts frames.old.own.items (drop runs_from frames.old.runs.items))) → HasBranched ws chosen free found.old.items found.new.items) }
+    ensures found { OnOk result (most ≡ None → (ws : List ℕ) → IsCut chosen (parts frames.old.own.items (drop runs_from frames.old.runs.items)) → IsBranch ws chosen free (drop pending_from frames.old.pending.items) (join (parts frames.old.own.items (drop runs_from frames.old.runs.items))) → HasBranched ws chosen free found.old.items found.new.items) }
 {
     let pending = &frames.pending[pending_from..];
     if pending.is_empty() {
@@ -459,6 +482,10 @@ fn branch(
     let owned = owned_columns(frames.own.as_slice(), &frames.runs[runs_from..], free);
     let lacked = lacked_by_all(owned, pending);
     let left = push_ends(found, chosen, owned, lacked)?;
+    if is_last(chosen, most) {
+        frames.pending.truncate(pending_from);
+        return Ok(());
+    }
     match most_lacked(fewest_lacked(left, pending), pending) {
         None => {
             frames.pending.truncate(pending_from);
@@ -471,7 +498,7 @@ fn branch(
                 let own = frames.own.as_slice();
                 push_past_sole(found, pending, own, runs, chosen, column, rest, sole)?;
                 frames.prune(pending_from, column, rest)?;
-                return branch(frames, chosen, rest, pending_from, runs_from, found);
+                return branch(frames, chosen, rest, pending_from, runs_from, most, found);
             }
             let pending_end = frames.pending.len();
             let own_end = frames.own.len();
@@ -483,12 +510,13 @@ fn branch(
                 rest,
                 pending_end,
                 runs_end,
+                most,
                 found,
             )?;
             frames.own.truncate(own_end);
             frames.runs.truncate(runs_end);
             frames.prune(pending_from, column, rest)?;
-            branch(frames, chosen, rest, pending_from, runs_from, found)
+            branch(frames, chosen, rest, pending_from, runs_from, most, found)
         }
     }
 }
@@ -541,6 +569,7 @@ pub(crate) fn outermost_of_filed(
 ) -> Result<Vec<ColSet>, AllocError>
     ensures { IfOk result (λ kept. (x : ℕ) → IsSubset x columns → covered kept.items x ≡ covered agree_sets.now x) }
 {
+    let index = Index::of(alloc, agree_sets)?;
     let mut kept = Vec::with_capacity(alloc, agree_sets.len())?;
     let mut end = 0;
     for place in 0..agree_sets.len() {
@@ -548,20 +577,23 @@ pub(crate) fn outermost_of_filed(
             end = run_end(agree_sets, place);
         }
         let w = agree_sets[place];
-        if !is_inside(&agree_sets[end..], columns, w) {
+        let around = index.place_around(w, end);
+        if !is_inside_one(&agree_sets[end..], columns, w, around) {
             kept.push(w)?;
         }
     }
     Ok(kept)
 }
 
-// The least sets among the columns that none of these agree sets contains, in no order.
+// The least sets among the columns that none of these agree sets contains, in no order; with a bound on columns, such sets up to it, and
+// perhaps some beyond.
 pub(crate) fn uncovered(
     alloc: Global,
     columns: ColSet,
     agree_sets: Vec<ColSet>,
+    most: Option<u32>,
 ) -> Result<Vec<ColSet>, AllocError>
-    ensures { IfOk result (λ sets. HasBranched agree_sets.items empty columns [] sets.items) }
+    ensures { IfOk result (λ sets. most ≡ None → HasBranched agree_sets.items empty columns [] sets.items) }
 {
     let mut frames = Frames {
         pending: agree_sets,
@@ -569,7 +601,7 @@ pub(crate) fn uncovered(
         runs: Vec::new(alloc),
     };
     let mut found = Vec::new(alloc);
-    branch(&mut frames, ColSet::empty(), columns, 0, 0, &mut found)?;
+    branch(&mut frames, ColSet::empty(), columns, 0, 0, most, &mut found)?;
     Ok(found)
 }
 
@@ -589,6 +621,6 @@ pub(crate) fn least(
             lacking.push(*w)?;
         }
     }
-    let found = uncovered(alloc, columns, outermost(alloc, columns, lacking)?)?;
+    let found = uncovered(alloc, columns, outermost(alloc, columns, lacking)?, None)?;
     Ok(found)
 }

@@ -173,11 +173,13 @@ impl CandList {
         }
     }
 
-    // Has the next look-up begin about a place.
+    // Has the next look-up begin about a place, if the list has it.
     pub(crate) fn look_near(&mut self, place: usize)
         ensures { self.new ≡ self.old }
     {
-        self.last = place;
+        if place < self.lists.sets.len() {
+            self.last = place;
+        }
     }
 
     // Notes that x is known to hold up to there at least and that nobody holds it, and answers whether it is there.

@@ -200,7 +200,8 @@ impl CandidateCover {
     }
 
     /// Has the next look-up among a target's candidates begin about a place in their list, for who marks them in another order and knows
-    /// where each stands. It takes a step, and any place will do: one that is right spares the search through the list.
+    /// where each stands. It takes a step, and any place will do: one that is right spares the search through the list, and one behind its
+    /// end has the look-up begin where it would without.
     pub fn look_near(&mut self, target: Target, place: usize)
         requires { IsColumnTarget (width self.old) target }
         ensures { self.new ≡ self.old }

@@ -1,4 +1,5 @@
 // Candidates while many agree sets come in, one after another.
+ghost use Rattle.std.specs.List.{All};
 ghost use Rattle.std.specs.Prelude.{if◌then◌else◌, ◌≡◌, ◌≤◌, ◌<◌, ◌^◌, ◌∷◌, [], ◌++◌, ◌&&◌, ℕ, List, true, false, length, map, take, IfOk, OnOk, IsPermutation};
 ghost use Rattle.col_set.specs.ColSet.{has, subset, union, minus};
 ghost use Rattle.col_set.specs.Target.{IsColumnTarget, has_target};
@@ -62,6 +63,14 @@ impl Draft {
         }
     }
 
+    /// How many columns there are.
+    pub fn columns(&self) -> u8
+        ensures width { result ≡ self.now.width }
+        ensures bound { result ≤ MOST_COLUMNS }
+    {
+        self.filing.columns()
+    }
+
     // The left sides of a target past all agree sets, in no order.
     pub(crate) fn left_sides(
         &self,
@@ -78,13 +87,40 @@ impl Draft {
         if news.len() > FEW {
             let choices = choices(columns, target);
             let kept = outermost_of_filed(alloc, choices, outer)?;
-            let sets = uncovered(alloc, choices, kept)?;
+            let sets = uncovered(alloc, choices, kept, None)?;
             return Ok(sets);
         }
         let own = sides_of(self.row_id.as_slice(), self.columns.as_slice(), target);
         let mut sets = Vec::with_capacity(alloc, own.len())?;
         sets.extend_from_slice(own)?;
         grow_past_all(alloc, columns, target, &mut sets, news)?;
+        Ok(sets)
+    }
+
+    /// Left sides of a target with so many columns, each once, that the agree sets leave: those that are least among all that no agree set
+    /// contains which lacks the target.
+    ///
+    /// They are found by the branches by which all left sides are found, which go no further than so many columns: that takes a small
+    /// part of the time as long as most left sides have more. No contract says that none is missing. Who validates what comes and
+    /// books what that brings to light gets right what is found, and later passes find what is not.
+    pub fn of_size(
+        &self,
+        alloc: Global,
+        target: Target,
+        size: u32,
+    ) -> Result<Vec<ColSet>, AllocError>
+        requires { IsColumnTarget self.now.width target }
+        ensures { IfOk result (λ sets. All (λ x. x < 2 ^ self.now.width) sets.items) }
+    {
+        let choices = choices(self.filing.columns(), target);
+        let kept = outermost_of_filed(alloc, choices, self.filing.outer(target))?;
+        let found = uncovered(alloc, choices, kept, Some(size))?;
+        let mut sets = Vec::new(alloc);
+        for x in found.as_slice() {
+            if x.len() == size && x.subset_of(choices) {
+                sets.push(*x)?;
+            }
+        }
         Ok(sets)
     }
 

@@ -10,6 +10,7 @@ mod draft;
 mod explore;
 mod filing;
 mod growth;
+mod index;
 mod new_list;
 mod old_list;
 mod order;

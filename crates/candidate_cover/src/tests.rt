@@ -6,6 +6,7 @@ ghost use Rattle.candidate_cover.specs.Cands.{width, cands_of, lefts, kept_or_fr
 
 use crate::branching::least as least_by_branches;
 use crate::growth::choices;
+use crate::index::Index;
 use crate::new_list::sorted;
 use crate::{Cand, CandidateCover, Draft, Marking, NewList};
 use plain_base::least_sets;
@@ -322,6 +323,38 @@ fn drafts_leave_what_one_set_after_another_does(rt: HostRuntime) -> Result<(), F
         let cover = drafted(alloc, 6, Target::Col(2), sets.as_slice())?;
         expect_least(&rt, alloc, &cover, Target::Col(2), sets.as_slice())?;
     }
+    Ok(())
+}
+
+// The left sides with no column, with one, and so on are together those that the plain program makes.
+#[test]
+fn left_sides_of_each_size_are_those_of_the_whole_list(rt: HostRuntime) -> Result<(), Fail> {
+    let alloc = rt.alloc();
+    for count in [0usize, 1, 12, 900] {
+        let sets = some_sets(alloc, count, 11)?;
+        let draft = draft_of(alloc, 6, sets.as_slice())?;
+        let mut found = Vec::new(alloc);
+        for size in 0..7 {
+            let mut own = draft.of_size(alloc, Target::Col(2), size)?;
+            found.append(&mut own)?;
+        }
+        let wanted = least_sets(alloc, 6, Target::Col(2), sets.as_slice())?;
+        assert!(rt; sorted(found).as_slice() == wanted.as_slice());
+    }
+    Ok(())
+}
+
+// A set that contains another is found in whatever block it stands, and none is found before the start.
+#[test]
+fn a_set_around_another_is_found_in_a_later_block(rt: HostRuntime) -> Result<(), Fail> {
+    let alloc = rt.alloc();
+    let mut sets = vec![in alloc; set(&[0]); 1100]?;
+    sets.push(set(&[1, 2, 127]))?;
+    let index = Index::of(alloc, sets.as_slice())?;
+    assert!(rt; index.place_around(set(&[1, 127]), 3) == Some(1097));
+    assert!(rt; index.place_around(set(&[1, 127]), 1101).is_none());
+    assert!(rt; index.place_around(set(&[0]), 600) == Some(0));
+    assert!(rt; index.place_around(set(&[0, 1]), 0).is_none());
     Ok(())
 }
 

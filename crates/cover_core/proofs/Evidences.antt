@@ -1,9 +1,9 @@
 -- Evidence that is news.
-use Rattle.std.proofs.Common.{inl, inr, ◌≡◌, ◌≢◌, ◌⊎◌, ℕ, true, false, not, ◌&&◌, refl, sym, ap, ◌∙◌, subst, List, [], ◌∷◌, ◌++◌, append_assoc, append-nil, eqb, Option, Some, None, IsPermutation}
+use Rattle.std.proofs.Common.{inl, inr, ◌≡◌, ◌≢◌, ◌<◌, ◌+◌, ◌⊎◌, ℕ, length, take, get_or, true, false, not, ◌&&◌, refl, sym, ap, ◌∙◌, subst, List, [], ◌∷◌, ◌++◌, append_assoc, append-nil, eqb, Option, Some, None, IsPermutation}
 use Rattle.std.specs.List.{All, AllPairs, list_any}
 use Rattle.std.specs.Option.{option_eq}
 use Rattle.std.proofs.lemmas.Bool.{eqb-true, true≢false, and_parts, and_from, or_cases, or_left, or_right, not-true, not_from_false, false_from_ne_true, true_from_ne_false}
-use Rattle.std.proofs.lemmas.List.{map-append}
+use Rattle.std.proofs.lemmas.List.{map-append, take_more}
 use Rattle.std.proofs.lemmas.List.Sorted.{Contains-permutation, IsPermutation-sym}
 use Rattle.col_set.specs.declared.target.Target.{Target}
 use Rattle.col_set.specs.declared.target.Target.TheVariants.{Col, RowId}
@@ -140,3 +140,11 @@ news_more r n ws more new d e w k news is f g = subst (λ (vs : List Witness). I
     apart : (v : Witness) → Listed v (ws ++ more) → v.agree ≢ w.agree
     apart v h i = news_apart d.width d.agree_sets w.agree news
         (subst (λ (x : Drafted). Listed w.agree x.agree_sets) (sym k.drafted) (subst (λ (z : ℕ). Listed z (sets_of (ws ++ more))) i (Listed-map (λ w. w.agree) v (ws ++ more) h)))
+
+-- what is so of all up to a place, once it is so of what stands there
+pub All-next : {X : Type 0} (P : X → Type 0) (xs : List X) (i : ℕ) (x : X) → i < length xs → x ≡ get_or xs i x → All P (take i xs) → P x → All P (take (i + 1) xs)
+All-next P xs i x l is a p = subst (All P) (sym (take_more xs i x l ∙ ap (λ (y : _). take i xs ++ y ∷ []) (sym is))) (All-push P (take i xs) x a p)
+
+-- and if what it says of the earlier ones stays so
+pub All-still : {X : Type 0} (P Q : X → Type 0) (xs : List X) → ((x : X) → P x → Q x) → All P xs → All Q xs
+All-still P Q xs f a = λ k d l. f (get_or xs k d) (a k d l)

@@ -5,12 +5,12 @@ use Rattle.std.proofs.lemmas.List.{drop_more}
 use Rattle.std.proofs.lemmas.List.Elements.{All-head, All-tail}
 use Rattle.col_set.specs.Target.{IsColumnTarget}
 use Rattle.rel_base.specs.CodeTable.{CodeTable}
-use Rattle.rel_base.specs.RowState.{next}
+use Rattle.rel_base.specs.RowState.{RowState, next}
 use Rattle.candidate_cover.specs.Lists.{CandLists}
 use Rattle.candidate_cover.specs.Cands.{width, cands_of, with_list, marked}
 use Rattle.cover_steps.specs.Core.{Core}
 use Rattle.cover_core.specs.declared.waiting.Waiting.{Waiting}
-use Rattle.cover_core.specs.Judged.{IsHeld, job_for}
+use Rattle.cover_core.specs.Judged.{IsHeld, IsSeen, job_for}
 use Rattle.cover_core.specs.Kept.{IsBook}
 use Rattle.cover_core.specs.Waiting.{marked_each}
 use Rattle.cover_core.proofs.Calls
@@ -32,24 +32,28 @@ pub marked-end : (c : CandLists) (list : List Waiting) (to : ℕ) → list ≡ [
 unfolding marked_each
 marked-end c list to e = ap (λ (ws : List Waiting). marked_each c ws to) e
 
-IsBook-each : (held : List Waiting) (s : Core) (shown : CodeTable) → IsBook s shown → (table : CodeTable) → All (IsHeld s.rows table) held
+IsBook-each : (held : List Waiting) (s : Core) (shown : CodeTable) → IsBook s shown → All (IsSeen s.rows) held
     → IsBook (Calls.with_lists s (marked_each s.candidates held (next s.rows))) shown
 unfolding marked_each
-IsBook-each [] s shown book table all = book
-IsBook-each (w ∷ held) s shown book table all =
-    let one = All-head (IsHeld s.rows table) w held all in
+IsBook-each [] s shown book all = book
+IsBook-each (w ∷ held) s shown book all =
+    let one = All-head (IsSeen s.rows) w held all in
     let new = marked_one s.candidates w (next s.rows) in
-    let made = Calls.mark-book s shown book (job_for s.rows table w) new one.fits one.holds refl in
-    IsBook-each held (Calls.with_lists s new) shown made table (All-tail (IsHeld s.rows table) w held all)
+    let made = Calls.mark-book s shown book (job_for s.rows one.table w) new one.held.fits one.held.holds refl in
+    IsBook-each held (Calls.with_lists s new) shown made (All-tail (IsSeen s.rows) w held all)
 
 -- the state is `now` as the caller sees it
-module _ (s now : Core) (shown : CodeTable) (book : IsBook s shown) (view : s ≡ now) (held : List Waiting) (h : (table : CodeTable) × All (IsHeld now.rows table) held) where
-  seen : All (IsHeld s.rows h.0) held
-  seen = subst (λ (m : Core). All (IsHeld m.rows h.0) held) (sym view) h.1
+module _ (s now : Core) (shown : CodeTable) (book : IsBook s shown) (view : s ≡ now) (held : List Waiting) (h : All (IsSeen now.rows) held) where
+  seen : All (IsSeen s.rows) held
+  seen = subst (λ (m : Core). All (IsSeen m.rows) held) (sym view) h
 
   pub IsBook-held : (n : ℕ) (new : CandLists) → n ≡ next s.rows → new ≡ marked_each s.candidates held n → IsBook (Calls.with_lists s new) shown
   IsBook-held n new e m =
-      subst (λ (c : CandLists). IsBook (Calls.with_lists s c) shown) (sym (m ∙ ap (marked_each s.candidates held) e)) (IsBook-each held s shown book h.0 seen)
+      subst (λ (c : CandLists). IsBook (Calls.with_lists s c) shown) (sym (m ∙ ap (marked_each s.candidates held) e)) (IsBook-each held s shown book seen)
 
   pub targets-held : All (λ w. IsColumnTarget (width s.candidates) w.target) held
-  targets-held j d l = target-of s now shown book view (get_or held j d).target (get_or held j d).target refl (h.1 j d l).fits.target
+  targets-held j d l = target-of s now shown book view (get_or held j d).target (get_or held j d).target refl (h j d l).held.fits.target
+
+-- what was seen to hold in one snapshot
+pub seen-all : (r : RowState) (table : CodeTable) (held : List Waiting) → All (IsHeld r table) held → All (IsSeen r) held
+seen-all r table held h = λ j d l. record { table = table; held = h j d l }

@@ -23,6 +23,11 @@ pub record IsHeld (r : RowState) (table : CodeTable) (w : Waiting) : Type 0 wher
   pub fits : Fits r (job_for r table w)
   pub holds : holds_in table w.cand.left w.target ≡ true
 
+-- it was seen to hold in some snapshot of the rows
+pub record IsSeen (r : RowState) (w : Waiting) : Type 0 where
+  pub table : CodeTable
+  pub held : IsHeld r table w
+
 -- those that are told to hold do, and what else is told is evidence
 abbrev pub AreVerdicts : RowState → CodeTable → Verdicts → Type 0
 AreVerdicts r table v = All (IsHeld r table) v.held.items × All (IsEvidence r) v.found.items

@@ -1,5 +1,5 @@
 -- Candidates that wait for a verdict.
-use Rattle.std.specs.Prelude.{ℕ, List, [], ◌∷◌}
+use Rattle.std.specs.Prelude.{◌≡◌, ◌<◌, ◌^◌, ℕ, List, [], ◌∷◌}
 use Rattle.col_set.specs.Target.{IsColumnTarget}
 use Rattle.col_set.specs.Lists.{Listed}
 use Rattle.candidate_cover.specs.Lists.{CandLists}
@@ -10,6 +10,12 @@ use Rattle.cover_core.specs.declared.waiting.Waiting.{Waiting}
 pub record IsWaiting (c : CandLists) (w : Waiting) : Type 0 where
   pub target : IsColumnTarget (width c) w.target
   pub listed : Listed w.cand (cands_of c w.target)
+
+-- it is a left side of one of n targets, of which nothing is known
+pub record IsSought (n : ℕ) (w : Waiting) : Type 0 where
+  pub target : IsColumnTarget n w.target
+  pub left : w.cand.left < 2 ^ n
+  pub fresh : w.cand.upto ≡ 1
 
 -- the candidates after these were marked up to a number, one after another
 unfoldable pub marked_each : CandLists → List Waiting → ℕ → CandLists

@@ -1,5 +1,5 @@
 // One relation with its witnesses and candidates, and the calls on them.
-ghost use Rattle.std.specs.Prelude.{◌≡◌, ◌≢◌, ◌<◌, ◌^◌, ◌↔◌, true, false, None, IfOk, IsTrue, OnOk, OnErr};
+ghost use Rattle.std.specs.Prelude.{◌++◌, ◌≡◌, ◌≢◌, ◌<◌, ◌^◌, ◌↔◌, true, false, None, IfOk, IsTrue, OnOk, OnErr};
 ghost use Rattle.std.specs.Bool.{OnTrue, OnFalse};
 ghost use Rattle.std.specs.List.{All};
 ghost use Rattle.col_set.specs.Target.{IsColumnTarget};
@@ -16,8 +16,8 @@ ghost use Rattle.cover_steps.specs.Sound.{Sound, Fits};
 ghost use Rattle.negative_cover.specs.Witnesses.{sets_of};
 ghost use Rattle.candidate_cover.specs.AllMarked.{refreshed_throughout};
 ghost use Rattle.candidate_cover.specs.Drafts.{is_news};
-ghost use Rattle.cover_core.specs.Evidences.{IsEvidence, IsAllTold};
-ghost use Rattle.cover_core.specs.Judged.{IsHeld};
+ghost use Rattle.cover_core.specs.Evidences.{IsEvidence, IsAllTold, IsNews};
+ghost use Rattle.cover_core.specs.Judged.{IsSeen};
 ghost use Rattle.cover_core.specs.Past.{IsFirst};
 ghost use Rattle.cover_core.specs.KnownLefts.{AreTrueLefts};
 ghost use Rattle.cover_core.specs.Told.{IsTrueOf};
@@ -27,8 +27,8 @@ ghost use Rattle.cover_core.specs.Replies.{reply_of_draw, reply_of_refutation, r
 
 use crate::answers::{Draw, Refutation, Release, Settling};
 use crate::cursor::{Cursors, Unfinished, is_late};
-use crate::evidence::{Evidence, news_of};
-use crate::judging::{Alone, Beside, Judges, judged_by_parts};
+use crate::evidence::{Evidence, News, news_of};
+use crate::judging::{Alone, Beside, Judges, Verdicts, judged_by_parts};
 use crate::known::Known;
 use crate::known_lefts::{KnownLefts, known_by, known_lefts};
 use crate::listed::listed;
@@ -37,8 +37,9 @@ use crate::outdated::Outdated;
 use crate::renewal::renewed_after;
 use crate::searcher::Searcher;
 use crate::searching::{first_drawable, first_unfinished, move_both_back};
+use crate::sought::{is_calm, rank_of};
 use crate::waiting::{Sizes, Waiting, count, mark_each, of_sizes, worth_comparing};
-use candidate_cover::{CandidateCover, Marking};
+use candidate_cover::{CandidateCover, Draft, Marking};
 use negative_cover::{Concerned, NegativeCover, Witness, all_pairs};
 use ports::{Gate, OpenGate};
 use rel_base::{Batch, Covers, Job, Limits, Nulls, Relation, RowNo, Snapshot, Target};
@@ -497,23 +498,25 @@ impl Book {
     }
 
     // Validates the unfinished candidates, those with fewer columns first, behind what comparing rows tells. What evidence leaves of those that fail has one column
-    // more, so that it comes with the next pass. Once few fail, a pass is of all that are left, as far as these are not too many.
+    // more, so that it comes with the next pass. Once few fail, a pass is of all that are left, as far as these are not too many. Where there
+    // are no witnesses yet, the first passes need no candidates (`search_by_size`).
     fn search<J: Judges, G: Gate>(&mut self, judges: &J, gate: &G) -> Result<(), AllocError>
         requires { J.ready }
         ensures rows { self.new.rows ≡ self.old.rows }
         ensures witnesses { Extends self.old.witnesses self.new.witnesses }
         ensures sound { Sound self.new }
     {
+        let mut calm = false;
         if self.witnesses.is_empty() {
             if self.rows.live_len() <= FEW_ROWS {
                 return self.compare_all(judges);
             }
             let found = judges.sampled(self.alloc, &self.rows, &self.snapshot)?;
-            self.book_all(judges, found)?;
+            self.search_by_size(judges, gate, found)?;
+            calm = true;
         } else {
             self.compare_new(judges)?;
         }
-        let mut calm = false;
         for size in 0..=self.candidates.columns() {
             if self.settled() {
                 return Ok(());
@@ -524,6 +527,65 @@ impl Book {
             calm = self.pass(judges, gate, Sizes { least, most })?;
         }
         Ok(())
+    }
+
+    // Seeks evidence behind what was found, and books all of it at once. It validates left sides with no column, with one, and so on, which
+    // are made from the evidence so far: those with more columns are made once few fail, with the candidates, since to make all lists
+    // anew takes the most of the time where they have millions.
+    pub(crate) fn search_by_size<J: Judges, G: Gate>(
+        &mut self,
+        judges: &J,
+        gate: &G,
+        found: Vec<Evidence>,
+    ) -> Result<(), AllocError>
+        requires ready { J.ready }
+        requires found { All (IsEvidence self.old.rows) found.items }
+        ensures rows { self.new.rows ≡ self.old.rows }
+        ensures witnesses { Extends self.old.witnesses self.new.witnesses }
+        ensures sound { Sound self.new }
+    {
+        let alloc = self.alloc;
+        let mut news = news_of(alloc, &self.witnesses, &self.candidates, found)?;
+        let mut held = Vec::new(alloc);
+        for size in 0..=self.candidates.columns() {
+            let (mut verdicts, asked) = self.judge_sought(judges, gate, &news.draft, size)?;
+            let is_calm = is_calm(verdicts.found.len(), asked, news.witnesses.len());
+            held.append(&mut verdicts.held)?;
+            news = news.with(alloc, verdicts.found)?;
+            if is_calm {
+                break;
+            }
+        }
+        self.book(judges, news)?;
+        // In the order of the candidates, so that each is found near the one before.
+        held.sort_unstable_by_key(|waiting| (rank_of(waiting.target), waiting.cand.left));
+        self.mark_held(held.as_slice());
+        Ok(())
+    }
+
+    // Validates left sides with so many columns that a draft leaves, and tells how many there are.
+    fn judge_sought<J: Judges, G: Gate>(
+        &mut self,
+        judges: &J,
+        gate: &G,
+        draft: &Draft,
+        size: u8,
+    ) -> Result<(Verdicts, usize), AllocError>
+        requires ready { J.ready }
+        requires width { draft.now.width ≡ width self.old.rows }
+        ensures held { IfOk result (λ made. All (IsSeen self.new.rows) made.0.held.items) }
+        ensures found { IfOk result (λ made. All (IsEvidence self.new.rows) made.0.found.items) }
+        ensures same { self.new ≡ self.old }
+        ensures sound { Sound self.new }
+    {
+        let alloc = self.alloc;
+        let mut list = judges.sought(alloc, draft, &self.searcher.order, size)?;
+        list.sort_unstable_by_key(|waiting| !waiting.places);
+        let snapshot = self.snapshot.clone()?;
+        let (rows, stores) = (&self.rows, &mut self.searcher.stores);
+        let asked = list.as_slice();
+        let judged = judged_by_parts(judges, gate, alloc, rows, &snapshot, asked, stores)?;
+        Ok((judged, list.len()))
     }
 
     // Books what all pairs of live rows agree on. That is all the evidence that there is: what it leaves holds.
@@ -626,7 +688,7 @@ impl Book {
     // Marks candidates of which the dependency was seen to hold in a snapshot of the rows, and seeks the first unfinished one when all are
     // marked: after each of them it would be sought by its left side.
     fn mark_held(&mut self, held: &[Waiting])
-        requires { (table : CodeTable) × All (IsHeld self.old.rows table) held.now }
+        requires { All (IsSeen self.old.rows) held.now }
         ensures rows { self.new.rows ≡ self.old.rows }
         ensures witnesses { self.new.witnesses ≡ self.old.witnesses }
         ensures sound { Sound self.new }
@@ -651,6 +713,19 @@ impl Book {
             return Ok(());
         }
         let news = news_of(alloc, &self.witnesses, &self.candidates, found)?;
+        self.book(judges, news)
+    }
+
+    // Books witnesses, all of them or none.
+    fn book<J: Judges>(&mut self, judges: &J, news: News) -> Result<(), AllocError>
+        requires ready { J.ready }
+        requires news { IsNews self.old.rows (width self.old.rows) self.old.witnesses news.witnesses.items news.draft }
+        ensures booked { OnOk result (self.new.witnesses ≡ self.old.witnesses ++ news.witnesses.items) }
+        ensures rows { self.new.rows ≡ self.old.rows }
+        ensures witnesses { Extends self.old.witnesses self.new.witnesses }
+        ensures sound { Sound self.new }
+    {
+        let alloc = self.alloc;
         let count = news.witnesses.len();
         let new_lists = judges.drafted(alloc, &self.candidates, &news.draft, count)?;
         self.witnesses.add_all(news.witnesses.as_slice())?;

@@ -23,48 +23,74 @@ pub(crate) struct News {
     pub(crate) draft: Draft,
 }
 
-// The draft with this evidence, which is one more witness where it is news.
-fn noted(
-    alloc: Global,
-    draft: Draft,
-    more: &mut Vec<Witness>,
-    evidence: Evidence,
-) -> Result<Draft, AllocError>
-    ensures news { IfOk result (λ new. (r : RowState) (n : ℕ) (ws : List Witness) → IsEvidence r evidence → IsNews r n ws more.old.items draft → IsNews r n ws more.new.items new) }
-    ensures told { IfOk result (λ new. is_news new.width new.agree_sets evidence.agree ≡ false) }
-    ensures kept { IfOk result (λ new. (z : ℕ) → is_news draft.width draft.agree_sets z ≡ false → is_news new.width new.agree_sets z ≡ false) }
+// What is news with this evidence, which is one more witness where it is news.
+fn noted(alloc: Global, news: News, evidence: Evidence) -> Result<News, AllocError>
+    ensures news { IfOk result (λ new. (r : RowState) (n : ℕ) (ws : List Witness) → IsEvidence r evidence → IsNews r n ws news.witnesses.items news.draft → IsNews r n ws new.witnesses.items new.draft) }
+    ensures told { IfOk result (λ new. is_news new.draft.width new.draft.agree_sets evidence.agree ≡ false) }
+    ensures kept { IfOk result (λ new. (z : ℕ) → is_news news.draft.width news.draft.agree_sets z ≡ false → is_news new.draft.width new.draft.agree_sets z ≡ false) }
 {
-    if !draft.is_news(evidence.agree) {
-        return Ok(draft);
+    if !news.draft.is_news(evidence.agree) {
+        return Ok(news);
     }
+    let News {
+        mut witnesses,
+        draft,
+    } = news;
     let grown = draft.grown(alloc, evidence.agree)?;
-    more.push(evidence)?;
-    Ok(grown)
+    witnesses.push(evidence)?;
+    Ok(News {
+        witnesses,
+        draft: grown,
+    })
 }
 
-// What is news in this evidence. The largest agree sets come first, since one inside another is seldom news.
+// What is news with one piece of evidence after another.
+fn noted_each(alloc: Global, start: News, found: &[Evidence]) -> Result<News, AllocError>
+    ensures news { IfOk result (λ new. (r : RowState) (n : ℕ) (ws : List Witness) → All (IsEvidence r) found.now → IsNews r n ws start.witnesses.items start.draft → IsNews r n ws new.witnesses.items new.draft) }
+    ensures told { IfOk result (λ new. All (λ e. is_news new.draft.width new.draft.agree_sets e.agree ≡ false) found.now) }
+{
+    let mut news = start;
+    let mut last = None;
+    for evidence in found {
+        if last != Some(evidence.agree) {
+            news = noted(alloc, news, *evidence)?;
+            last = Some(evidence.agree);
+        }
+    }
+    Ok(news)
+}
+
+impl News {
+    // With what is news in further evidence. The largest agree sets come first, since one inside another is seldom news.
+    pub(crate) fn with(
+        self,
+        alloc: Global,
+        mut found: Vec<Evidence>,
+    ) -> Result<News, AllocError>
+        ensures news { IfOk result (λ new. (r : RowState) (n : ℕ) (ws : List Witness) → All (IsEvidence r) found.items → IsNews r n ws self.witnesses.items self.draft → IsNews r n ws new.witnesses.items new.draft) }
+        ensures told { IfOk result (λ new. All (λ e. is_news new.draft.width new.draft.agree_sets e.agree ≡ false) found.items) }
+    {
+        found.sort_unstable();
+        found.reverse();
+        noted_each(alloc, self, found.as_slice())
+    }
+}
+
+// What is news in this evidence.
 pub(crate) fn news_of(
     alloc: Global,
     witnesses: &NegativeCover,
     candidates: &CandidateCover,
-    mut found: Vec<Evidence>,
+    found: Vec<Evidence>,
 ) -> Result<News, AllocError>
     requires { AreLeast (width candidates.now) (sets_of witnesses.now) candidates.now }
     ensures news { IfOk result (λ news. (r : RowState) → All (IsEvidence r) found.items → IsNews r (width candidates.now) witnesses.now news.witnesses.items news.draft) }
     ensures told { IfOk result (λ news. All (λ e. is_news news.draft.width news.draft.agree_sets e.agree ≡ false) found.items) }
 {
-    found.sort_unstable();
-    let mut draft = candidates.draft(alloc, witnesses.agree_sets(alloc)?)?;
-    let mut more = Vec::new(alloc);
-    let mut last = None;
-    while let Some(evidence) = found.pop() {
-        if last != Some(evidence.agree) {
-            draft = noted(alloc, draft, &mut more, evidence)?;
-            last = Some(evidence.agree);
-        }
-    }
-    Ok(News {
-        witnesses: more,
+    let draft = candidates.draft(alloc, witnesses.agree_sets(alloc)?)?;
+    let none = News {
+        witnesses: Vec::new(alloc),
         draft,
-    })
+    };
+    none.with(alloc, found)
 }

@@ -5,6 +5,7 @@ ghost use Rattle.rel_base.specs.CodeTable.{CodeTable};
 ghost use Rattle.rel_base.specs.RowState.{RowState};
 ghost use Rattle.cover_core.specs.Evidences.{IsEvidence};
 ghost use Rattle.cover_core.specs.Judged.{IsAsked, AreVerdicts};
+ghost use Rattle.cover_core.specs.Waiting.{IsSought};
 ghost use Rattle.candidate_cover.specs.Cands.{width};
 ghost use Rattle.cover_core.specs.NewLists.{IsLeftBy};
 ghost use Rattle.validator.specs.Stores.{AreOf};
@@ -13,6 +14,7 @@ ghost use denote.Param.Send.{IsSync};
 use crate::evidence::Evidence;
 use crate::new_lists::{NewLists, drafted, drafted_by};
 use crate::recent::Recent;
+use crate::sought::{sought, sought_by};
 use crate::waiting::{Waiting, count};
 use candidate_cover::{CandidateCover, Draft};
 use ports::{Gate, Point};
@@ -26,7 +28,7 @@ use std::sync::Arc;
 use std::sync::atomic::{AtomicUsize, Ordering};
 use std::sync::ledger::Blank;
 use std::thread::{Threads, join_mut};
-use validator::{Store, Stores, first_places, violations};
+use validator::{Order, Store, Stores, first_places, violations};
 
 // How many pairs of rows a pass asks for where a dependency does not hold.
 const MOST_VIOLATIONS: usize = 64;
@@ -149,6 +151,17 @@ pub(crate) trait Judges {
         requires ready { ready }
         ensures { IfOk result (λ found. All (IsEvidence rows.now) found.items) };
 
+    // Left sides of all targets with so many columns that a draft leaves.
+    fn sought(
+        &self,
+        alloc: Global,
+        draft: &Draft,
+        order: &Order,
+        size: u8,
+    ) -> Result<Vec<Waiting>, AllocError>
+        requires ready { ready }
+        ensures { IfOk result (λ list. All (IsSought draft.now.width) list.items) };
+
     // What a draft with so many new agree sets leaves of the candidates.
     fn drafted(
         &self,
@@ -178,6 +191,16 @@ impl Judges for Alone {
         stores: &mut Stores,
     ) -> Result<Verdicts, AllocError> {
         judged(alloc, rows, snapshot, list, &mut stores.own)
+    }
+
+    fn sought(
+        &self,
+        alloc: Global,
+        draft: &Draft,
+        order: &Order,
+        size: u8,
+    ) -> Result<Vec<Waiting>, AllocError> {
+        sought(alloc, draft, order, size, &AtomicUsize::new(0))
     }
 
     fn sampled(
@@ -233,6 +256,17 @@ impl<'a, R: Threads + Sync> Judges for Beside<'a, R> {
         // Stores that share less, for want of memory, are as right.
         drop(stores.level());
         Ok(verdicts)
+    }
+
+    fn sought(
+        &self,
+        alloc: Global,
+        draft: &Draft,
+        order: &Order,
+        size: u8,
+    ) -> Result<Vec<Waiting>, AllocError> {
+        let taken = AtomicUsize::new(0);
+        sought_by(self.rt, alloc, draft, order, size, &taken, self.workers)
     }
 
     fn sampled(

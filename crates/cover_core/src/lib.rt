@@ -16,6 +16,7 @@ mod recent;
 mod renewal;
 mod searcher;
 mod searching;
+mod sought;
 #[cfg(test)]
 mod tests;
 mod waiting;

@@ -1,6 +1,7 @@
 // What several workers find beside each other, where each pass of some candidates is shared among them.
 use super::covers::{are_same, relation};
 use super::{finish, refute};
+use crate::judging::Beside;
 use crate::listed::listed;
 use crate::{Book, Known};
 use ports::OpenGate;
@@ -90,6 +91,48 @@ fn compare<R: Threads + Sync + Abort>(rt: &R, alloc: Global, seed: u64) -> Resul
 fn workers_find_what_one_thread_finds(rt: HostRuntime) -> Result<(), Fail> {
     for seed in 21..25u64 {
         compare(&rt, rt.alloc(), seed)?;
+    }
+    Ok(())
+}
+
+// Seeks left sides by their sizes, once more where memory is wanting, in which case nothing was booked.
+fn search_by_size<R: Threads + Sync>(
+    rt: &R,
+    alloc: Global,
+    book: &mut Book,
+    workers: u8,
+) -> Result<(), AllocError> {
+    let judges = Beside {
+        rt,
+        workers,
+        least: 1,
+    };
+    match book.search_by_size(&judges, &OpenGate, Vec::new(alloc)) {
+        Ok(()) => Ok(()),
+        Err(_) => book.search_by_size(&judges, &OpenGate, Vec::new(alloc)),
+    }
+}
+
+fn compare_sizes<R: Threads + Sync + Abort>(
+    rt: &R,
+    alloc: Global,
+    seed: u64,
+) -> Result<(), AllocError> {
+    let wanted = covers(rt, alloc, seed)?;
+    for workers in [1u8, 2, 16] {
+        let mut other = book(rt, alloc, seed)?;
+        search_by_size(rt, alloc, &mut other, workers)?;
+        let found = finish(&mut other)?;
+        assert!(rt; are_same(&found, &wanted));
+    }
+    Ok(())
+}
+
+// A book that seeks left sides by their sizes, as one of many rows does, finds what one does that compares all pairs of rows.
+#[test]
+fn sizes_lead_to_what_all_pairs_tell(rt: HostRuntime) -> Result<(), Fail> {
+    for seed in 31..35u64 {
+        compare_sizes(&rt, rt.alloc(), seed)?;
     }
     Ok(())
 }

@@ -1,5 +1,6 @@
 use Rattle.std.proofs.Common.{◌≡◌, ◌∙◌, ◌-◌, ◌++◌, ◌∷◌, [], ◌≤◌, not, true, ℕ, List, map, length, drop, take, refl, sym, ap, ap₂, subst, arith}
 use Rattle.std.specs.List.{list_any}
+use Rattle.std.proofs.lemmas.Bool.{false≢true}
 use Rattle.std.proofs.lemmas.Result.{on_ok_weaker}
 use Rattle.col_set.specs.ColSet.{IsSubset, has, with, without}
 use Rattle.col_set.specs.Lists.{Listed}
@@ -14,7 +15,7 @@ use Rattle.candidate_cover.proofs.Runs.{runs_rest, within_rest, entered_long, en
 use Rattle.candidate_cover.proofs.branching.+branch.Goals as goal
 
 pub returns-then-is_empty-clause-found : goal.returns-then-is_empty-clause-found
-returns-then-is_empty-clause-found d c = λ ws cut b.
+returns-then-is_empty-clause-found d c = λ u ws cut b.
     let pending : List ℕ = drop c.args.pending_from c.args.frames.now.pending.items in
     let none : pending ≡ [] = sym (slice_rest c.deref.result.now c.args.frames.now.pending.items c.args.pending_from c.deref.ensures.value) ∙ no_sets _ (sym c.is_empty.ensures ∙ c.if-is_empty.true) in
     branch_done ws c.args.chosen c.args.free pending (join (parts c.args.frames.now.own.items (drop c.args.runs_from c.args.frames.now.runs.items))) b none c.args.found.now.items c.push.new.self.items c.in_ok-push.ensures.items
@@ -90,7 +91,7 @@ branch-frames-requires-in-Some-2 d c =
     )
 
 pub returns-in-None-clause-found : goal.returns-in-None-clause-found
-returns-in-None-clause-found d c = λ ws cut b.
+returns-in-None-clause-found d c = λ u ws cut b.
     let pending : List ℕ = drop c.args.pending_from c.args.frames.now.pending.items in
     let lists : List (List ℕ) = parts c.args.frames.now.own.items (drop c.args.runs_from c.args.frames.now.runs.items) in
     let left = c.in_ok-left.left in
@@ -103,7 +104,7 @@ returns-in-None-clause-found d c = λ ws cut b.
     (subst (λ (vs : List ℕ). covered vs left ≡ true) given (c.fewest_lacked.ensures.none (c.in-None.ensures.none refl))) c.push_ends.new.found.items)
 
 pub returns-in-Some-sole_having-clause-found : goal.returns-in-Some-sole_having-clause-found
-returns-in-Some-sole_having-clause-found d c = on_ok_weaker c.branch-frames.result (λ second ws cut b.
+returns-in-Some-sole_having-clause-found d c = on_ok_weaker c.branch-frames.result (λ second u ws cut b.
     let s = c.args.chosen in
     let k = c.in-Some.column in
     let xs = c.args.frames.now.pending.items in
@@ -136,7 +137,7 @@ returns-in-Some-sole_having-clause-found d c = on_ok_weaker c.branch-frames.resu
     = ap₂ (λ (vs : List ℕ) (qs : List Run). parts vs (drop c.args.runs_from qs)) c.in_ok-prune-in-Some.ensures.own c.in_ok-prune-in-Some.ensures.runs in
     branch_by ws s c.args.free left pending (join lists) old mid ended k choice between c.branch-frames.new.found.items first
     (branched_as ws s s (without left k) c.without-rest.result between c.branch-frames.new.found.items c.branch-frames.new.found.items refl c.without-rest.ensures refl
-    (second ws (subst (IsCut s) (sym outer) cut)
+    (second u ws (subst (IsCut s) (sym outer) cut)
     (branch_as ws s s (without left k) c.without-rest.result (drop c.args.pending_from c.prune.new.self.pending.items) (drop c.args.pending_from c.prune.new.self.pending.items) (join lists) (join (parts c.prune.new.self.own.items (drop c.args.runs_from c.prune.new.self.runs.items)))
     refl c.without-rest.ensures refl (ap join outer)
     (branch_on ws s left pending (join lists) ended.branch k choice (drop c.args.pending_from c.prune.new.self.pending.items)
@@ -144,7 +145,7 @@ returns-in-Some-sole_having-clause-found d c = on_ok_weaker c.branch-frames.resu
     ) c.branch-frames.ensures.found
 
 pub returns-in_ok-prune-in-Some-2-clause-found : goal.returns-in_ok-prune-in-Some-2-clause-found
-returns-in_ok-prune-in-Some-2-clause-found d c = on_ok_weaker c.branch-frames-in-Some-2.result (λ second ws cut b.
+returns-in_ok-prune-in-Some-2-clause-found d c = on_ok_weaker c.branch-frames-in-Some-2.result (λ second u ws cut b.
     let s = c.args.chosen in
     let k = c.in-Some.column in
     let xs = c.args.frames.now.pending.items in
@@ -175,7 +176,7 @@ returns-in_ok-prune-in-Some-2-clause-found d c = on_ok_weaker c.branch-frames-in
     = entered_lists ys rs _ c.enter.new.self.own.items c.enter.new.self.runs.items h c.len-runs_end.result (c.len-runs_end.ensures ∙ c.args.frames.now.runs.ok.0) in
     let first : HasBranched ws (with s k) (without left k) mid between
     = branched_as ws (with s k) c.with.result (without left k) c.without-rest.result mid between between c.with.ensures c.without-rest.ensures refl
-    (c.in_ok-branch-in-Some.ensures.found ws
+    (c.in_ok-branch-in-Some.ensures.found u ws
     (subst (λ (v : ℕ). IsCut v (parts c.enter.new.self.own.items (drop c.len-runs_end.result c.enter.new.self.runs.items))) (sym c.with.ensures) (subst (IsCut (with s k)) (sym inner) (cut_with ws s left pending lists ended.branch cut k choice)))
     (branch_as ws (with s k) c.with.result (without left k) c.without-rest.result (having k pending) (drop c.len-pending_end.result c.enter.new.self.pending.items)
     (having k (join lists) ++ lacking k pending) (join (parts c.enter.new.self.own.items (drop c.len-runs_end.result c.enter.new.self.runs.items))) c.with.ensures c.without-rest.ensures
@@ -186,9 +187,12 @@ returns-in_ok-prune-in-Some-2-clause-found d c = on_ok_weaker c.branch-frames-in
     = ap₂ (λ (vs : List ℕ) (qs : List Run). parts vs (drop c.args.runs_from qs)) (c.in_ok-prune-in-Some-2.ensures.own ∙ same_own) (c.in_ok-prune-in-Some-2.ensures.runs ∙ same_runs) in
     branch_by ws s c.args.free left pending (join lists) old mid ended k choice between c.branch-frames-in-Some-2.new.found.items first
     (branched_as ws s s (without left k) c.without-rest.result between c.branch-frames-in-Some-2.new.found.items c.branch-frames-in-Some-2.new.found.items refl c.without-rest.ensures refl
-    (second ws (subst (IsCut s) (sym outer) cut)
+    (second u ws (subst (IsCut s) (sym outer) cut)
     (branch_as ws s s (without left k) c.without-rest.result (drop c.args.pending_from c.prune-in-Some.new.self.pending.items) (drop c.args.pending_from c.prune-in-Some.new.self.pending.items) (join lists) (join (parts c.prune-in-Some.new.self.own.items (drop c.args.runs_from c.prune-in-Some.new.self.runs.items)))
     refl c.without-rest.ensures refl (ap join outer)
     (branch_on ws s left pending (join lists) ended.branch k choice (drop c.args.pending_from c.prune-in-Some.new.self.pending.items)
     (pruned_end c.args.pending_from k (without left k) c.without-rest.result xs c.branch-frames-in-Some.new.frames.pending.items c.prune-in-Some.new.self.pending.items c.requires.pending_from same_pending c.without-rest.ensures c.in_ok-prune-in-Some-2.ensures.pending)))))
     ) c.branch-frames-in-Some-2.ensures.found
+
+pub returns-then-is_last-clause-found : goal.returns-then-is_last-clause-found
+returns-then-is_last-clause-found d c = λ u. absurd (false≢true (sym (c.is_last.ensures u) ∙ c.if-is_last.true))

@@ -1,4 +1,4 @@
-use Rattle.std.proofs.Common.{true, ◌≡◌, ◌∙◌, ◌++◌, [], ℕ, List, length, take, drop, sym, ap, subst, Vec}
+use Rattle.std.proofs.Common.{true, ◌≡◌, ◌∙◌, ◌++◌, [], ℕ, List, length, take, drop, refl, sym, ap, subst, Vec}
 use Rattle.std.specs.declared.alloc.Global.{Global}
 use Rattle.std.proofs.lemmas.List.{take_rest}
 use Rattle.col_set.specs.ColSet.{IsSubset}
@@ -17,7 +17,7 @@ returns-then-news-gt-FEW c =
     let chosen : c.choices-choices.result ≡ choices c.args.self.now.width c.args.target = c.choices-choices.ensures ∙ ap (λ (n : ℕ). choices n c.args.target) wide in
     branched_least (choices c.args.self.now.width c.args.target) c.args.self.now.agree_sets c.args.target c.in_ok-kept.kept.items c.in_ok-sets.sets.items
     (λ x i. c.in_ok-kept.ensures x (subst (IsSubset x) (sym chosen) i) ∙ c.outer-outer.ensures x ∙ ap (λ (vs : List ℕ). refuted vs c.args.target x) filed)
-    (subst (λ (u : ℕ). HasBranched c.in_ok-kept.kept.items 0 u [] c.in_ok-sets.sets.items) chosen c.in_ok-sets.ensures)
+    (subst (λ (u : ℕ). HasBranched c.in_ok-kept.kept.items 0 u [] c.in_ok-sets.sets.items) chosen (c.in_ok-sets.ensures refl))
 
 pub returns : goal.returns
 returns c =
