@@ -601,7 +601,15 @@ pub(crate) fn uncovered(
         runs: Vec::new(alloc),
     };
     let mut found = Vec::new(alloc);
-    branch(&mut frames, ColSet::empty(), columns, 0, 0, most, &mut found)?;
+    branch(
+        &mut frames,
+        ColSet::empty(),
+        columns,
+        0,
+        0,
+        most,
+        &mut found,
+    )?;
     Ok(found)
 }
 

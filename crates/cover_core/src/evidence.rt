@@ -62,11 +62,7 @@ fn noted_each(alloc: Global, start: News, found: &[Evidence]) -> Result<News, Al
 
 impl News {
     // With what is news in further evidence. The largest agree sets come first, since one inside another is seldom news.
-    pub(crate) fn with(
-        self,
-        alloc: Global,
-        mut found: Vec<Evidence>,
-    ) -> Result<News, AllocError>
+    pub(crate) fn with(self, alloc: Global, mut found: Vec<Evidence>) -> Result<News, AllocError>
         ensures news { IfOk result (λ new. (r : RowState) (n : ℕ) (ws : List Witness) → All (IsEvidence r) found.items → IsNews r n ws self.witnesses.items self.draft → IsNews r n ws new.witnesses.items new.draft) }
         ensures told { IfOk result (λ new. All (λ e. is_news new.draft.width new.draft.agree_sets e.agree ≡ false) found.items) }
     {

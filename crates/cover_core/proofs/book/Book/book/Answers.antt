@@ -23,4 +23,3 @@ invariant_of-self-2 g c =
 
 pub returns-clause-sound : goal.returns-clause-sound
 returns-clause-sound g c = (IsBook-all _ _ c.self.invariant.0 c.args.news.witnesses.items c.args.news.draft (news-inside _ c.args.self.now _ c.self.invariant.0 c.self.view_is c.args.news.witnesses.items c.args.news.draft c.requires.news) c.put_all.new.candidates (c.put_all.ensures _ c.in_ok-new_lists.ensures) c.add_all.new.self (c.in_ok-add_all.ensures.ok ∙ ap (λ (ws : List Witness). c.self.inside.witnesses ++ ws) c.as_slice.ensures.value)).sound
-

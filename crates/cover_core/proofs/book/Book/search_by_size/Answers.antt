@@ -60,37 +60,37 @@ pub book-requires-clause-news : goal.book-requires-clause-news
 book-requires-clause-news g c = elim c.loop-size-test.branch as (λ _. IsNews c.loop-size-test.self.rows (width c.loop-size-test.self.rows) c.loop-size-test.self.witnesses c.loop-size-test.news.witnesses.items c.loop-size-test.news.draft) [
   | else-loop-size-test w ↦ rw w.self-is (rw w.news-is (c.loop-size.invariant.2))
   | then-loop-size-test+in_ok-verdicts+in_ok-append+in_ok-news-2+then-is_calm w ↦ rw w.self-is (rw w.news-is ((further _ c.loop-size.self w.judge_sought.new.self c.loop-size.news w.in_ok-news-2.news c.loop-size.held.items w.in_ok-verdicts.verdicts.held.items w.append.new.self.items w.judge_sought.ensures.same w.judge_sought.ensures.sound c.loop-size.invariant
-    (λ k. w.in_ok-news-2.ensures.news c.loop-size.self.rows (width c.loop-size.self.rows) c.loop-size.self.witnesses (subst (λ (m : Core). All (IsEvidence m.rows) w.in_ok-verdicts.verdicts.found.items) w.judge_sought.ensures.same w.in_ok-verdicts.ensures.found) k)
-    w.in_ok-verdicts.ensures.held w.in_ok-append.ensures.items).2))
+      (λ k. w.in_ok-news-2.ensures.news c.loop-size.self.rows (width c.loop-size.self.rows) c.loop-size.self.witnesses (subst (λ (m : Core). All (IsEvidence m.rows) w.in_ok-verdicts.verdicts.found.items) w.judge_sought.ensures.same w.in_ok-verdicts.ensures.found) k)
+      w.in_ok-verdicts.ensures.held w.in_ok-append.ensures.items).2))
   | then-loop-size-test+in_ok-verdicts+in_ok-append+in_ok-news-2+else-is_calm+else-size-size-end w ↦ rw w.self-is (rw w.news-is ((further _ c.loop-size.self w.judge_sought.new.self c.loop-size.news w.in_ok-news-2.news c.loop-size.held.items w.in_ok-verdicts.verdicts.held.items w.append.new.self.items w.judge_sought.ensures.same w.judge_sought.ensures.sound c.loop-size.invariant
-    (λ k. w.in_ok-news-2.ensures.news c.loop-size.self.rows (width c.loop-size.self.rows) c.loop-size.self.witnesses (subst (λ (m : Core). All (IsEvidence m.rows) w.in_ok-verdicts.verdicts.found.items) w.judge_sought.ensures.same w.in_ok-verdicts.ensures.found) k)
-    w.in_ok-verdicts.ensures.held w.in_ok-append.ensures.items).2))
+      (λ k. w.in_ok-news-2.ensures.news c.loop-size.self.rows (width c.loop-size.self.rows) c.loop-size.self.witnesses (subst (λ (m : Core). All (IsEvidence m.rows) w.in_ok-verdicts.verdicts.found.items) w.judge_sought.ensures.same w.in_ok-verdicts.ensures.found) k)
+      w.in_ok-verdicts.ensures.held w.in_ok-append.ensures.items).2))
 ]
 
 pub returns-in_err-book-clause-witnesses : goal.returns-in_err-book-clause-witnesses
 returns-in_err-book-clause-witnesses g c =
     let same : c.loop-size-test.self ≡ c.args.self.now = elim c.loop-size-test.branch as (λ _. c.loop-size-test.self ≡ c.args.self.now) [
-  | else-loop-size-test w ↦ rw w.self-is (c.loop-size.invariant.0)
-  | then-loop-size-test+in_ok-verdicts+in_ok-append+in_ok-news-2+then-is_calm w ↦ rw w.self-is ((further _ c.loop-size.self w.judge_sought.new.self c.loop-size.news w.in_ok-news-2.news c.loop-size.held.items w.in_ok-verdicts.verdicts.held.items w.append.new.self.items w.judge_sought.ensures.same w.judge_sought.ensures.sound c.loop-size.invariant
-    (λ k. w.in_ok-news-2.ensures.news c.loop-size.self.rows (width c.loop-size.self.rows) c.loop-size.self.witnesses (subst (λ (m : Core). All (IsEvidence m.rows) w.in_ok-verdicts.verdicts.found.items) w.judge_sought.ensures.same w.in_ok-verdicts.ensures.found) k)
-    w.in_ok-verdicts.ensures.held w.in_ok-append.ensures.items).0)
-  | then-loop-size-test+in_ok-verdicts+in_ok-append+in_ok-news-2+else-is_calm+else-size-size-end w ↦ rw w.self-is ((further _ c.loop-size.self w.judge_sought.new.self c.loop-size.news w.in_ok-news-2.news c.loop-size.held.items w.in_ok-verdicts.verdicts.held.items w.append.new.self.items w.judge_sought.ensures.same w.judge_sought.ensures.sound c.loop-size.invariant
-    (λ k. w.in_ok-news-2.ensures.news c.loop-size.self.rows (width c.loop-size.self.rows) c.loop-size.self.witnesses (subst (λ (m : Core). All (IsEvidence m.rows) w.in_ok-verdicts.verdicts.found.items) w.judge_sought.ensures.same w.in_ok-verdicts.ensures.found) k)
-    w.in_ok-verdicts.ensures.held w.in_ok-append.ensures.items).0)
-] in
+      | else-loop-size-test w ↦ rw w.self-is (c.loop-size.invariant.0)
+      | then-loop-size-test+in_ok-verdicts+in_ok-append+in_ok-news-2+then-is_calm w ↦ rw w.self-is ((further _ c.loop-size.self w.judge_sought.new.self c.loop-size.news w.in_ok-news-2.news c.loop-size.held.items w.in_ok-verdicts.verdicts.held.items w.append.new.self.items w.judge_sought.ensures.same w.judge_sought.ensures.sound c.loop-size.invariant
+          (λ k. w.in_ok-news-2.ensures.news c.loop-size.self.rows (width c.loop-size.self.rows) c.loop-size.self.witnesses (subst (λ (m : Core). All (IsEvidence m.rows) w.in_ok-verdicts.verdicts.found.items) w.judge_sought.ensures.same w.in_ok-verdicts.ensures.found) k)
+          w.in_ok-verdicts.ensures.held w.in_ok-append.ensures.items).0)
+      | then-loop-size-test+in_ok-verdicts+in_ok-append+in_ok-news-2+else-is_calm+else-size-size-end w ↦ rw w.self-is ((further _ c.loop-size.self w.judge_sought.new.self c.loop-size.news w.in_ok-news-2.news c.loop-size.held.items w.in_ok-verdicts.verdicts.held.items w.append.new.self.items w.judge_sought.ensures.same w.judge_sought.ensures.sound c.loop-size.invariant
+          (λ k. w.in_ok-news-2.ensures.news c.loop-size.self.rows (width c.loop-size.self.rows) c.loop-size.self.witnesses (subst (λ (m : Core). All (IsEvidence m.rows) w.in_ok-verdicts.verdicts.found.items) w.judge_sought.ensures.same w.in_ok-verdicts.ensures.found) k)
+          w.in_ok-verdicts.ensures.held w.in_ok-append.ensures.items).0)
+    ] in
     subst (λ (m : Core). Extends m.witnesses c.book.new.self.witnesses) same c.book.ensures.witnesses
 
 pub mark_held-requires : goal.mark_held-requires
 mark_held-requires g c =
     let seen : All (IsSeen c.loop-size-test.self.rows) c.loop-size-test.held.items = elim c.loop-size-test.branch as (λ _. All (IsSeen c.loop-size-test.self.rows) c.loop-size-test.held.items) [
-  | else-loop-size-test w ↦ rw w.self-is (rw w.held-is (c.loop-size.invariant.3))
-  | then-loop-size-test+in_ok-verdicts+in_ok-append+in_ok-news-2+then-is_calm w ↦ rw w.self-is (rw w.held-is ((further _ c.loop-size.self w.judge_sought.new.self c.loop-size.news w.in_ok-news-2.news c.loop-size.held.items w.in_ok-verdicts.verdicts.held.items w.append.new.self.items w.judge_sought.ensures.same w.judge_sought.ensures.sound c.loop-size.invariant
-    (λ k. w.in_ok-news-2.ensures.news c.loop-size.self.rows (width c.loop-size.self.rows) c.loop-size.self.witnesses (subst (λ (m : Core). All (IsEvidence m.rows) w.in_ok-verdicts.verdicts.found.items) w.judge_sought.ensures.same w.in_ok-verdicts.ensures.found) k)
-    w.in_ok-verdicts.ensures.held w.in_ok-append.ensures.items).3))
-  | then-loop-size-test+in_ok-verdicts+in_ok-append+in_ok-news-2+else-is_calm+else-size-size-end w ↦ rw w.self-is (rw w.held-is ((further _ c.loop-size.self w.judge_sought.new.self c.loop-size.news w.in_ok-news-2.news c.loop-size.held.items w.in_ok-verdicts.verdicts.held.items w.append.new.self.items w.judge_sought.ensures.same w.judge_sought.ensures.sound c.loop-size.invariant
-    (λ k. w.in_ok-news-2.ensures.news c.loop-size.self.rows (width c.loop-size.self.rows) c.loop-size.self.witnesses (subst (λ (m : Core). All (IsEvidence m.rows) w.in_ok-verdicts.verdicts.found.items) w.judge_sought.ensures.same w.in_ok-verdicts.ensures.found) k)
-    w.in_ok-verdicts.ensures.held w.in_ok-append.ensures.items).3))
-] in
+      | else-loop-size-test w ↦ rw w.self-is (rw w.held-is (c.loop-size.invariant.3))
+      | then-loop-size-test+in_ok-verdicts+in_ok-append+in_ok-news-2+then-is_calm w ↦ rw w.self-is (rw w.held-is ((further _ c.loop-size.self w.judge_sought.new.self c.loop-size.news w.in_ok-news-2.news c.loop-size.held.items w.in_ok-verdicts.verdicts.held.items w.append.new.self.items w.judge_sought.ensures.same w.judge_sought.ensures.sound c.loop-size.invariant
+          (λ k. w.in_ok-news-2.ensures.news c.loop-size.self.rows (width c.loop-size.self.rows) c.loop-size.self.witnesses (subst (λ (m : Core). All (IsEvidence m.rows) w.in_ok-verdicts.verdicts.found.items) w.judge_sought.ensures.same w.in_ok-verdicts.ensures.found) k)
+          w.in_ok-verdicts.ensures.held w.in_ok-append.ensures.items).3))
+      | then-loop-size-test+in_ok-verdicts+in_ok-append+in_ok-news-2+else-is_calm+else-size-size-end w ↦ rw w.self-is (rw w.held-is ((further _ c.loop-size.self w.judge_sought.new.self c.loop-size.news w.in_ok-news-2.news c.loop-size.held.items w.in_ok-verdicts.verdicts.held.items w.append.new.self.items w.judge_sought.ensures.same w.judge_sought.ensures.sound c.loop-size.invariant
+          (λ k. w.in_ok-news-2.ensures.news c.loop-size.self.rows (width c.loop-size.self.rows) c.loop-size.self.witnesses (subst (λ (m : Core). All (IsEvidence m.rows) w.in_ok-verdicts.verdicts.found.items) w.judge_sought.ensures.same w.in_ok-verdicts.ensures.found) k)
+          w.in_ok-verdicts.ensures.held w.in_ok-append.ensures.items).3))
+    ] in
     subst (λ (r : RowState). All (IsSeen r) c.as_slice.result.now) (sym c.book.ensures.rows)
     (subst (All (IsSeen c.loop-size-test.self.rows)) (sym c.as_slice.ensures.value)
     (All-permuted (IsSeen c.loop-size-test.self.rows) c.loop-size-test.held.items c.sort_unstable_by_key.new.self.items c.sort_unstable_by_key.ensures.permutation seen))
@@ -98,12 +98,12 @@ mark_held-requires g c =
 pub returns-clause-witnesses : goal.returns-clause-witnesses
 returns-clause-witnesses g c =
     let same : c.loop-size-test.self ≡ c.args.self.now = elim c.loop-size-test.branch as (λ _. c.loop-size-test.self ≡ c.args.self.now) [
-  | else-loop-size-test w ↦ rw w.self-is (c.loop-size.invariant.0)
-  | then-loop-size-test+in_ok-verdicts+in_ok-append+in_ok-news-2+then-is_calm w ↦ rw w.self-is ((further _ c.loop-size.self w.judge_sought.new.self c.loop-size.news w.in_ok-news-2.news c.loop-size.held.items w.in_ok-verdicts.verdicts.held.items w.append.new.self.items w.judge_sought.ensures.same w.judge_sought.ensures.sound c.loop-size.invariant
-    (λ k. w.in_ok-news-2.ensures.news c.loop-size.self.rows (width c.loop-size.self.rows) c.loop-size.self.witnesses (subst (λ (m : Core). All (IsEvidence m.rows) w.in_ok-verdicts.verdicts.found.items) w.judge_sought.ensures.same w.in_ok-verdicts.ensures.found) k)
-    w.in_ok-verdicts.ensures.held w.in_ok-append.ensures.items).0)
-  | then-loop-size-test+in_ok-verdicts+in_ok-append+in_ok-news-2+else-is_calm+else-size-size-end w ↦ rw w.self-is ((further _ c.loop-size.self w.judge_sought.new.self c.loop-size.news w.in_ok-news-2.news c.loop-size.held.items w.in_ok-verdicts.verdicts.held.items w.append.new.self.items w.judge_sought.ensures.same w.judge_sought.ensures.sound c.loop-size.invariant
-    (λ k. w.in_ok-news-2.ensures.news c.loop-size.self.rows (width c.loop-size.self.rows) c.loop-size.self.witnesses (subst (λ (m : Core). All (IsEvidence m.rows) w.in_ok-verdicts.verdicts.found.items) w.judge_sought.ensures.same w.in_ok-verdicts.ensures.found) k)
-    w.in_ok-verdicts.ensures.held w.in_ok-append.ensures.items).0)
-] in
+      | else-loop-size-test w ↦ rw w.self-is (c.loop-size.invariant.0)
+      | then-loop-size-test+in_ok-verdicts+in_ok-append+in_ok-news-2+then-is_calm w ↦ rw w.self-is ((further _ c.loop-size.self w.judge_sought.new.self c.loop-size.news w.in_ok-news-2.news c.loop-size.held.items w.in_ok-verdicts.verdicts.held.items w.append.new.self.items w.judge_sought.ensures.same w.judge_sought.ensures.sound c.loop-size.invariant
+          (λ k. w.in_ok-news-2.ensures.news c.loop-size.self.rows (width c.loop-size.self.rows) c.loop-size.self.witnesses (subst (λ (m : Core). All (IsEvidence m.rows) w.in_ok-verdicts.verdicts.found.items) w.judge_sought.ensures.same w.in_ok-verdicts.ensures.found) k)
+          w.in_ok-verdicts.ensures.held w.in_ok-append.ensures.items).0)
+      | then-loop-size-test+in_ok-verdicts+in_ok-append+in_ok-news-2+else-is_calm+else-size-size-end w ↦ rw w.self-is ((further _ c.loop-size.self w.judge_sought.new.self c.loop-size.news w.in_ok-news-2.news c.loop-size.held.items w.in_ok-verdicts.verdicts.held.items w.append.new.self.items w.judge_sought.ensures.same w.judge_sought.ensures.sound c.loop-size.invariant
+          (λ k. w.in_ok-news-2.ensures.news c.loop-size.self.rows (width c.loop-size.self.rows) c.loop-size.self.witnesses (subst (λ (m : Core). All (IsEvidence m.rows) w.in_ok-verdicts.verdicts.found.items) w.judge_sought.ensures.same w.in_ok-verdicts.ensures.found) k)
+          w.in_ok-verdicts.ensures.held w.in_ok-append.ensures.items).0)
+    ] in
     subst (λ (ws : List Witness). Extends c.args.self.now.witnesses ws) (sym c.mark_held.ensures.witnesses) (subst (λ (m : Core). Extends m.witnesses c.book.new.self.witnesses) same c.book.ensures.witnesses)
