@@ -15,20 +15,13 @@ use Rattle.col_set.specs.Subsets.{IsSubset-refl, true-subset}
 use Rattle.col_set.specs.Lists.{Listed, Listed-append_left, Listed-append_right, Listed-append_cases, Listed-map, list_any_at, list_any_which}
 use Rattle.col_set.proofs.Places.{Contains-listed, Listed-contained}
 use Rattle.rel_base.specs.RowState.{RowState}
-use Rattle.rel_base.specs.Validity.{agree_of}
-use Rattle.rel_base.specs.Batches.{is_live}
 use Rattle.rel_base.proofs.States.{All-listed, All-from}
 use Rattle.negative_cover.specs.declared.negative_cover.Witness.{Witness}
 use Rattle.negative_cover.specs.Witnesses.{sets_of}
 use Rattle.candidate_cover.specs.Drafts.{Drafted, is_news}
 use Rattle.cover_steps.specs.Sound.{IsWitness}
-use Rattle.cover_steps.proofs.Keeping.{live-Contains}
 use Rattle.cover_steps.proofs.Lists.{AllPairs-Pairwise, Pairwise-AllPairs, Pairwise-append_one}
-use Rattle.negative_cover.specs.declared.negative_cover.Witness.{Witness as Evidence}
 use Rattle.cover_core.specs.Evidences.{IsNews}
-
-pub evidence-witness : (r : RowState) (i j z : ℕ) → is_live r i ≡ true → is_live r j ≡ true → i ≢ j → z ≡ agree_of r i j → IsWitness r (record { i = i; j = j; agree = z })
-evidence-witness r i j z a b ne e = record { first = live-Contains r i a; second = live-Contains r j b; different = ne; agrees = e }
 
 All-push : {X : Type 0} (P : X → Type 0) (xs : List X) (x : X) → All P xs → P x → All P (xs ++ x ∷ [])
 All-push P xs x a p = All-from P (xs ++ x ∷ []) (λ y h. at y (Listed-append_cases y xs (x ∷ []) h))
@@ -37,9 +30,6 @@ All-push P xs x a p = All-from P (xs ++ x ∷ []) (λ y h. at y (Listed-append_c
     at y (inl h) = All-listed P y xs a h
     at y (inr (inl e)) = subst P (sym e) p
     at y (inr (inr h)) = absurd h
-
-pub All-front : {X : Type 0} (P : X → Type 0) (xs : List X) (x : X) → All P (xs ++ x ∷ []) → All P xs
-All-front P xs x a = All-from P xs (λ y h. All-listed P y (xs ++ x ∷ []) a (Listed-append_left y xs (x ∷ []) h))
 
 pub All-back : {X : Type 0} (P : X → Type 0) (xs : List X) (x : X) → All P (xs ++ x ∷ []) → P x
 All-back P xs x a = All-listed P x (xs ++ x ∷ []) a (Listed-append_right x xs (x ∷ []) (inl refl))
@@ -52,20 +42,6 @@ same_option None None e = refl
 same_option None (Some y) e = absurd (true≢false (sym e))
 same_option (Some x) None e = absurd (true≢false (sym e))
 same_option (Some x) (Some y) e = ap Some (eqb-true x y e)
-
--- evidence that is taken from the end, one after another
-pub popped : (P : Evidence → Type 0) (old new : List Evidence) (e : Evidence) → old ≡ new ++ e ∷ [] → P e → (v : Evidence) → Listed v old ⊎ P v → Listed v new ⊎ P v
-popped P old new e is p v (inr q) = inr q
-popped P old new e is p v (inl h) = by (Listed-append_cases v new (e ∷ []) (subst (Listed v) is h))
-  where
-    by : Listed v new ⊎ Listed v (e ∷ []) → Listed v new ⊎ P v
-    by (inl g) = inl g
-    by (inr (inl g)) = inr (subst P (sym g) p)
-    by (inr (inr g)) = absurd g
-
-pub emptied : (P : Evidence → Type 0) (rest : List Evidence) → rest ≡ [] → (v : Evidence) → Listed v rest ⊎ P v → P v
-emptied P rest e v (inl h) = absurd (subst (Listed v) e h)
-emptied P rest e v (inr p) = p
 
 -- what is news is not among the agree sets
 pub news_apart : (n : ℕ) (ws : List ℕ) (z : ℕ) → is_news n ws z ≡ true → Listed z ws → ⊥

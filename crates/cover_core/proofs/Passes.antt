@@ -1,5 +1,5 @@
 -- A pass over the candidates, and evidence that is booked all at once.
-use Rattle.std.proofs.Common.{inl, inr, ◌≡◌, ◌<◌, ◌⊎◌, ℕ, false, refl, sym, ◌∙◌, subst, arith, List, [], ◌++◌, append-nil, length, get_or}
+use Rattle.std.proofs.Common.{inl, inr, ◌≡◌, ◌⊎◌, ℕ, false, refl, sym, ◌∙◌, subst, arith, List, [], ◌++◌, append-nil, length, get_or}
 use Rattle.std.specs.List.{All}
 use Rattle.col_set.specs.Target.{IsColumnTarget}
 use Rattle.col_set.specs.Lists.{Listed, Listed-append_cases}

@@ -1,10 +1,6 @@
-use Rattle.std.proofs.Common.{◌≡◌, ◌∙◌, ◌++◌, ℕ, false, List, length, sym, ap, subst}
-use Rattle.std.specs.List.{All}
+use Rattle.std.proofs.Common.{◌∙◌, ◌++◌, List, ap}
 use Rattle.negative_cover.specs.declared.negative_cover.Witness.{Witness}
-use Rattle.negative_cover.specs.Witnesses.{sets_of}
-use Rattle.candidate_cover.specs.Drafts.{Drafted, is_news}
 use Rattle.cover_steps.specs.Core.{Core}
-use Rattle.cover_core.specs.Evidences.{IsEvidence}
 use Rattle.cover_core.proofs.Passes.{Extends-same, IsBook-all, news-inside}
 use Rattle.cover_core.proofs.Cursors.{past-both, to_search, searched}
 use Rattle.cover_core.proofs.book.Book.book.Goals as goal

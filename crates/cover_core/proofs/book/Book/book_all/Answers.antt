@@ -1,4 +1,4 @@
-use Rattle.std.proofs.Common.{◌≡◌, ◌∙◌, ◌++◌, ℕ, false, List, length, sym, ap, subst}
+use Rattle.std.proofs.Common.{◌≡◌, false, List, sym, subst}
 use Rattle.std.specs.List.{All}
 use Rattle.negative_cover.specs.declared.negative_cover.Witness.{Witness}
 use Rattle.cover_steps.specs.Core.{Core}
