@@ -441,7 +441,7 @@ impl Frames {
     }
 }
 
-// Whether no set with one more than the chosen columns and a further one is asked for.
+// Whether sets with two columns more than the chosen ones are beyond the bound, if there is one.
 fn is_last(chosen: ColSet, most: Option<u32>) -> bool
     ensures { most ≡ None → result ≡ false }
 {

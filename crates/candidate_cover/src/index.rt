@@ -1,5 +1,4 @@
 // Where the sets of a list have which columns.
-ghost use Rattle.std.specs.Prelude.{◌<◌};
 
 use rel_base::{COLUMN_PLACES, ColSet};
 use std::alloc::{AllocError, Global};
@@ -16,8 +15,8 @@ const BLOCK: usize = WORDS * BITS;
 // after another.
 //
 // A set that contains another is found by a look at the blocks of the columns of that one, of which a few rule most sets out; to look
-// at set after set took the most of the time of covers with a million candidates. No contract says what it finds: who asks looks at the
-// set that stands there.
+// at set after set took a quarter of the time of covers with sixteen million candidates. No contract says what it finds: who asks looks at
+// the set that stands there.
 #[derive(Drop)]
 pub(crate) struct Index {
     blocks: usize,

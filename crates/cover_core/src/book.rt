@@ -367,8 +367,8 @@ impl Book {
     /// are known to hold but in few rows that came since compares these rows with all: what their agree sets leave of the candidates holds.
     /// Then the candidates of all targets are validated, those with fewer columns first, and left sides that begin with the same columns one
     /// after another, so that their verdicts share the groups of rows. Of those that fail, pairs of rows from many groups are booked
-    /// at once after each size. So its time is mostly that of the verdicts: one for each minimal dependency, and some for those that
-    /// fail.
+    /// at once after each size; without witnesses the first sizes are booked together, and 64 bytes are kept until then for each left side
+    /// that holds. So its time is mostly that of the verdicts: one for each minimal dependency, and some for those that fail.
     ///
     /// After want of memory the rows are the same, and the book is sound, with all witnesses that were booked so far.
     pub fn finish(&mut self) -> Result<Covers, AllocError>
