@@ -29,10 +29,10 @@ use Rattle.cover_steps.specs.Sound.{IsMarked, Sound}
 use Rattle.cover_steps.proofs.Keeping.{cand-least, cand-marked}
 use Rattle.negative_cover.specs.declared.negative_cover.Witness.{Witness as Evidence}
 use Rattle.negative_cover.specs.AllPairs.{IsCodePair, AreAllPairs}
-use Rattle.cover_core.specs.Evidences.{IsEvidence, IsAllTold}
+use Rattle.cover_steps.specs.Evidences.{IsEvidence, IsAllTold}
 use Rattle.cover_core.specs.Kept.{IsBook}
 use Rattle.cover_core.proofs.Calls.{with_lists}
-use Rattle.cover_core.proofs.Evidences.{news_told}
+use Rattle.cover_steps.proofs.Evidences.{news_told}
 
 -- ---- evidence
 module _ (s : CodeTable) (r : RowState) (is : IsRowState r) (shows : Shows s r) (from : ℕ) (found : List Evidence) (all : AreAllPairs s from found) where

@@ -23,6 +23,7 @@ use Rattle.rel_base.specs.CodeTable.{CodeTable}
 use Rattle.candidate_cover.specs.Drafts.{AreLeast}
 use Rattle.cover_steps.specs.Core.{Core, refutes_some, renewed, renewed_list}
 use Rattle.cover_steps.proofs.Kept.{cands_of-renewed}
+use Rattle.cover_steps.proofs.Leaving.{told_one, unconcerned}
 use Rattle.cover_steps.proofs.Renewing.{renewed_list-unconcerned}
 use Rattle.cover_core.specs.Kept.{IsBook}
 use Rattle.cover_steps.specs.Sound.{Sound}
@@ -39,11 +40,6 @@ pub agree_below : (r : RowState) (i j : ℕ) → agree_of r i j < 2 ^ width r
 agree_below r i j = subset_below (width r) (record { each = λ k h. has-all (width r) k ∙ lt-ltb k (width r) (agree-parts r.nulls (width r) (row r i) (row r j) k h).0 }) (all_below (width r))
 
 -- ---- whether there are any
-told_one : (h r : Bool) → h ≡ false → (not h && not r) ≡ false → r ≡ true
-told_one true r e f = absurd (true≢false e)
-told_one false true e f = refl
-told_one false false e f = absurd (true≢false f)
-
 shut_by : (h r : Bool) → (h ≡ false → r ≡ true) → (not h && not r) ≡ false
 shut_by true r f = refl
 shut_by false r f = ap not (f refl)
@@ -72,17 +68,6 @@ module _ (s : Core) (sound : Sound s) (z : ℕ) (below : z < 2 ^ width s.rows) (
       by : (b : Bool) → refutes_some s z ≡ b → b ≡ true
       by true e = refl
       by false e = absurd (some (known-none e))
-
--- ---- one target that is not concerned
-pub unconcerned : (n : ℕ) (ws : List ℕ) (c : CandLists) (t : Target) (z : ℕ) → lefts (cands_of c t) ≡ least n ws t → is_open ws z t ≡ false → (d : Cand) → Listed d (cands_of c t) → (subset d.left z && not (has_target z t)) ≡ false
-unfolding refuted
-unconcerned n ws c t z e shut d h = false_from_ne_true _ (λ i.
-    let p = and_parts _ _ i in
-    let w = list_any_which (λ w. refutes w z t) ws (told_one (has_target z t) (refuted ws t z) (not-true _ p.1) shut) in
-    let q = and_parts _ _ w.2 in
-    let inside : IsSubset d.left w.0 = IsSubset-trans {x = d.left} {y = z} {z = w.0} (subset-true p.0) (subset-true q.0) in
-    let l = IsLeast-listed n ws t d.left (subst (Listed d.left) e (Listed-map (λ (c : Cand). c.left) d (cands_of c t) h)) in
-    true≢false (sym (list_any_at (λ w. refutes w d.left t) w.0 ws w.1 (and_from _ _ (true-subset inside) q.1)) ∙ l.stands))
 
 -- the lists of other targets are as they were
 pub same-unconcerned : (n : ℕ) (ws : List ℕ) (c new : CandLists) (z : ℕ) (concerned : Concerned) → AreLeast n ws c → new ≡ renewed n (ws ++ z ∷ []) c → AreConcerned n ws z concerned → (t : Target) → IsColumnTarget n t → concerns concerned t ≡ false → cands_of new t ≡ cands_of c t

@@ -177,17 +177,6 @@ least-parted n t p ws = least_of_same n (sets_of ws) (sets_of (filter (λ w. not
       | inr g ↦ of_part p z g
     ]
 
--- where each withdrawn set has the target, the rest leaves what all left
-pub least-idle : (n : ℕ) (rest gone : List ℕ) (t : Target) → ((z : ℕ) → Listed z gone → has_target z t ≡ true) → least n (rest ++ gone) t ≡ least n rest t
-unfolding refuted
-least-idle n rest gone t f = sym (least-same n rest (rest ++ gone) t
-    (λ x e. let w = list_any_which (λ w. subset x w && not (has_target w t)) rest e in list_any_at (λ w. subset x w && not (has_target w t)) w.0 (rest ++ gone) (Listed-append_left w.0 rest gone w.1) w.2)
-    (λ x h. false_from_ne_true _ (λ e. let w = list_any_which (λ w. subset x w && not (has_target w t)) (rest ++ gone) e in by x h w.0 w.2 (Listed-append_cases w.0 rest gone w.1))))
-  where
-    by : (x : ℕ) → Listed x (least n rest t) → (w : ℕ) → (subset x w && not (has_target w t)) ≡ true → Listed w rest ⊎ Listed w gone → ⊥
-    by x h w e (inl g) = true≢false (sym (list_any_at (λ w. subset x w && not (has_target w t)) w rest g e) ∙ (IsLeast-listed n rest t x h).stands)
-    by x h w e (inr g) = true≢false (sym (and_parts (subset x w) (not (has_target w t)) e).1 ∙ ap not (f w g))
-
 -- ---- rows that end in another order
 has_dead-permuted : (xs ys : List ℕ) (w : Witness) → IsPermutation xs ys → has_dead ys w ≡ has_dead xs w
 has_dead-permuted xs ys w p = ap₂ (λ (a b : Bool). a || b) (sym (list_any-IsPermutation (λ d. eqb d w.i) xs ys p)) (sym (list_any-IsPermutation (λ d. eqb d w.j) xs ys p))

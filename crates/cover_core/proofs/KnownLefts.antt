@@ -21,7 +21,7 @@ use Rattle.candidate_cover.specs.Lists.{CandLists}
 use Rattle.candidate_cover.specs.Cands.{cands_of, width as width_of}
 use Rattle.cover_steps.specs.Core.{Core}
 use Rattle.cover_steps.proofs.Keeping.{cand-marked}
-use Rattle.cover_core.specs.Evidences.{IsAllTold}
+use Rattle.cover_steps.specs.Evidences.{IsAllTold}
 use Rattle.cover_core.specs.Judged.{IsHeld}
 use Rattle.cover_core.specs.Kept.{IsBook}
 use Rattle.cover_core.specs.KnownLefts.{IsKnownLeft, AreKnownLefts, AreTrueLefts, IsInside, IsKnownBy}

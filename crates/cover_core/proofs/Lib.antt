@@ -1,9 +1,7 @@
 pub mod FirstFound
 pub mod Ending
-pub mod Evidences
 pub mod Passes
 pub mod JobVerdicts
-pub mod Putting
 pub mod KnownLefts
 mod Measure
 pub mod Booking
@@ -12,7 +10,6 @@ pub mod Calls
 pub mod Cursors
 pub mod Marked
 pub mod Holding
-pub mod Upto
 pub mod Whole
 pub mod Turn
 pub mod Freeing
@@ -21,4 +18,3 @@ pub mod Concerning
 pub mod Back
 pub mod Complete
 pub mod Forgetting
-pub mod Drafting

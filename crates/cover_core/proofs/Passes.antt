@@ -18,7 +18,7 @@ use Rattle.cover_steps.specs.Sound.{IsWitness, Sound}
 use Rattle.cover_steps.proofs.Fitting.{Fits-shown}
 use Rattle.cover_steps.proofs.Keeping.{Sound-renewed, Follows-itself, cand-least, cand-marked}
 use Rattle.negative_cover.specs.declared.negative_cover.Witness.{Witness as Evidence}
-use Rattle.cover_core.specs.Evidences.{IsNews}
+use Rattle.cover_steps.specs.Evidences.{IsNews}
 use Rattle.cover_core.specs.Waiting.{IsWaiting, IsSought}
 use Rattle.cover_core.specs.Judged.{job_for, IsAsked}
 use Rattle.cover_core.specs.declared.waiting.Waiting.{Waiting}

@@ -46,10 +46,6 @@ refuted-none_by n c z e f = refuted-none n c z each
     each (Col a) l = f a l
 
 -- ---- one target
-pub within_128 : (n : ℕ) (t : Target) → n ≤ 128 → IsColumnTarget n t → IsColumnTarget 128 t
-within_128 n RowId l h = tt
-within_128 n (Col a) l h = let m : a < n = h in omega arith
-
 pub is_some-find : {X : Type 0} (p : X → Bool) (xs : List X) → is_some (find p xs) ≡ list_any p xs
 is_some-find p [] = refl
 is_some-find p (x ∷ xs) = by (p x) (is_some-find p xs)
@@ -75,13 +71,3 @@ refuted-having z t (c ∷ cs) e = by (subset c.left z) (has_target z t) e (refut
     by true true e f = f
     by true false e f = absurd (true≢false (sym e))
     by false b e f = f
-
-pub list_any-none : {X : Type 0} (p : X → Bool) (xs : List X) (x : X) → list_any p xs ≡ false → Listed x xs → p x ≡ false
-list_any-none p xs x e h = false_from_ne_true _ (λ i. true≢false (sym (list_any_at p x xs h i) ∙ e))
-
-pub none_lacks : (zs : List ℕ) (t : Target) → list_any (λ z. not (has_target z t)) zs ≡ false → (z : ℕ) → Listed z zs → has_target z t ≡ true
-none_lacks zs t e z h = by (has_target z t) (list_any-none (λ z. not (has_target z t)) zs z e h)
-  where
-    by : (b : Bool) → not b ≡ false → b ≡ true
-    by true i = refl
-    by false i = absurd (true≢false i)

@@ -8,7 +8,7 @@ use Rattle.rel_base.specs.Shows.{holds_in}
 use Rattle.cover_steps.specs.Sound.{Fits}
 use Rattle.cover_core.specs.declared.judging.Verdicts.{Verdicts}
 use Rattle.cover_core.specs.declared.waiting.Waiting.{Waiting}
-use Rattle.cover_core.specs.Evidences.{IsEvidence}
+use Rattle.cover_steps.specs.Evidences.{IsEvidence}
 
 -- the job of a candidate on a snapshot of the rows
 abbrev pub job_for : RowState → CodeTable → Waiting → JobParts

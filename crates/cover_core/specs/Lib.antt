@@ -1,8 +1,6 @@
-pub mod Evidences
 pub mod Kept
 pub mod KnownLefts
 pub mod Tests
-pub mod NewLists
 pub mod Past
 pub mod Replies
 pub mod Work

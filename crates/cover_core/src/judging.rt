@@ -3,20 +3,20 @@ ghost use Rattle.std.specs.Prelude.{◌≡◌, ◌<◌, ◌≤◌, ◌++◌, [],
 ghost use Rattle.std.specs.List.{All};
 ghost use Rattle.rel_base.specs.CodeTable.{CodeTable};
 ghost use Rattle.rel_base.specs.RowState.{RowState};
-ghost use Rattle.cover_core.specs.Evidences.{IsEvidence};
+ghost use Rattle.cover_steps.specs.Evidences.{IsEvidence};
 ghost use Rattle.cover_core.specs.Judged.{IsAsked, AreVerdicts};
 ghost use Rattle.cover_core.specs.Waiting.{IsSought};
 ghost use Rattle.candidate_cover.specs.Cands.{width};
-ghost use Rattle.cover_core.specs.NewLists.{IsLeftBy};
+ghost use Rattle.cover_steps.specs.NewLists.{IsLeftBy};
 ghost use Rattle.validator.specs.Stores.{AreOf};
 ghost use denote.Param.Send.{IsSync};
 
-use crate::evidence::Evidence;
-use crate::new_lists::{NewLists, drafted, drafted_by};
-use crate::recent::Recent;
 use crate::sought::{sought, sought_by};
 use crate::waiting::{Waiting, count};
 use candidate_cover::{CandidateCover, Draft};
+use cover_steps::evidence::Evidence;
+use cover_steps::new_lists::{NewLists, drafted, drafted_by};
+use cover_steps::recent::Recent;
 use ports::{Gate, Point};
 use rel_base::{Job, Snapshot};
 use row_log::RowLog;

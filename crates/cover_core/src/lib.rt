@@ -5,14 +5,10 @@
 mod answers;
 mod book;
 mod cursor;
-mod evidence;
 mod judging;
 mod known;
 mod known_lefts;
-mod listed;
-mod new_lists;
 mod outdated;
-mod recent;
 mod renewal;
 mod searcher;
 mod searching;

@@ -6,10 +6,10 @@ ghost use Rattle.candidate_cover.specs.Cands.{width};
 ghost use Rattle.negative_cover.specs.Witnesses.{sets_of, live_of};
 ghost use Rattle.negative_cover.specs.EndedRows as rows_of;
 ghost use Rattle.candidate_cover.specs.Drafts.{AreLeast};
-ghost use Rattle.cover_core.specs.NewLists.{IsLeftBy};
+ghost use Rattle.cover_steps.specs.NewLists.{IsLeftBy};
 
-use crate::new_lists::{NewLists, generalised};
 use candidate_cover::CandidateCover;
+use cover_steps::new_lists::{NewLists, generalised};
 use negative_cover::{NegativeCover, ended};
 use rel_base::{Batch, RowNo, Snapshot, Steps};
 use row_log::RowLog;

@@ -8,7 +8,6 @@ ghost use Rattle.validator.specs.Verdicts.{IsFitting};
 mod covers;
 mod late_jobs;
 mod new_rows;
-mod recent;
 mod script;
 mod seeking;
 mod workers;

@@ -10,3 +10,8 @@ pub mod Whole
 pub mod Going
 pub mod Same
 pub mod Decided
+pub mod Putting
+pub mod Drafting
+pub mod Upto
+pub mod Leaving
+pub mod Evidences

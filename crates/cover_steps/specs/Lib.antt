@@ -3,3 +3,5 @@ pub mod Steps
 pub mod Sound
 pub mod Histories
 pub mod Laws
+pub mod NewLists
+pub mod Evidences

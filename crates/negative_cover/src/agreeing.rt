@@ -1,11 +1,12 @@
 // What rows that follow one another agree on with one other row.
-ghost use Rattle.std.specs.Prelude.{◌≡◌, ◌==◌, ◌<◌, ◌≤◌, ◌+◌, ◌*◌, ◌-◌, ◌^◌, ◌++◌, ℕ, cond, length, slice_index};
+ghost use Rattle.std.specs.Prelude.{◌≡◌, ◌==◌, ◌<◌, ◌≤◌, ◌+◌, ◌*◌, ◌-◌, ◌^◌, ◌++◌, ℕ, cond, length, slice_index, slice_index_or};
 ghost use Rattle.std.specs.List.{All};
 ghost use Rattle.std.specs.Simd.Lanes.{chunk};
+ghost use Rattle.rel_base.specs.LentCodes.{lent};
 ghost use Rattle.rel_base.specs.Shows.{code_agree};
 ghost use Rattle.negative_cover.specs.AgreeBits.{agree_bits};
 
-use rel_base::{Codes, MOST_COLUMNS, RowNo, Snapshot};
+use rel_base::{Code, CodeSlice, Codes, MOST_COLUMNS, RowNo, Snapshot};
 
 // A word has a bit for each of so many columns.
 const WORD_COLUMNS: u8 = 32;
@@ -13,31 +14,45 @@ const WORD_COLUMNS: u8 = 32;
 // Adds a bit at each place at which this code stands.
 //
 // It is the innermost loop over all pairs of rows, and takes several places at once where the processor can.
-fn add_equal(word: &mut [u32], codes: &[u32], code: u32, at: u8)
+fn add_equal<C: Code>(word: &mut [u32], codes: &[C], code: u32, at: u8)
     requires same { length word.old ≡ length codes.now }
     requires at { at < WORD_COLUMNS }
     requires below { All (λ bits. bits < 2 ^ at) word.old }
-    ensures { (k : ℕ) → k < length codes.now → slice_index word.new k ≡ slice_index word.old k + 2 ^ at * cond (slice_index codes.now k == code) 1 0 }
+    ensures { (k : ℕ) (d : C) → k < length codes.now → slice_index word.new k ≡ slice_index word.old k + 2 ^ at * cond (C.number (slice_index_or codes.now k d) == code) 1 0 }
 {
     for k in 0..codes.len() {
-        word[k] += ((codes[k] == code) as u32) << at;
+        word[k] += ((codes[k].wide() == code) as u32) << at;
+    }
+}
+
+// Adds a bit at each place at which this code stands, whatever the width of the codes.
+fn add_lent(word: &mut [u32], codes: CodeSlice<'_>, code: u32, at: u8)
+    requires same { length word.old ≡ length (lent codes) }
+    requires at { at < WORD_COLUMNS }
+    requires below { All (λ bits. bits < 2 ^ at) word.old }
+    ensures { (k : ℕ) → k < length (lent codes.entry) → slice_index word.new k ≡ slice_index word.old k + 2 ^ at * cond (slice_index (lent codes.entry) k == code) 1 0 }
+{
+    match codes {
+        CodeSlice::Bytes(list) => add_equal(word, list, code, at),
+        CodeSlice::Words(list) => add_equal(word, list, code, at),
+        CodeSlice::Full(list) => add_equal(word, list, code, at),
     }
 }
 
 // The codes from one place on and before another one, where they stand in two lists of which the second goes on behind the first.
 fn between<'a>(
-    shared: &'a [u32],
+    shared: CodeSlice<'a>,
     own: &'a [u32],
     start: usize,
     end: usize,
-) -> (&'a [u32], &'a [u32])
+) -> (CodeSlice<'a>, &'a [u32])
     requires order { start ≤ end }
-    requires room { end ≤ length (shared.now ++ own.now) }
-    ensures { result.0.now ++ result.1.now ≡ chunk start (end - start) (shared.now ++ own.now) }
+    requires room { end ≤ length (lent shared ++ own.now) }
+    ensures { lent result.0 ++ result.1.now ≡ chunk start (end - start) (lent shared.entry ++ own.now) }
 {
     let count = shared.len();
     (
-        &shared[start.min(count)..end.min(count)],
+        shared.between(start.min(count), end.min(count)),
         &own[start.saturating_sub(count)..end.saturating_sub(count)],
     )
 }
@@ -52,7 +67,7 @@ fn add_column(word: &mut [u32], codes: &Codes, start: usize, code: u32, at: u8)
     let (shared, own) = codes.parts();
     let (first, second) = between(shared, own, start, start + word.len());
     let (low, high) = word.split_at_mut(first.len());
-    add_equal(low, first, code, at);
+    add_lent(low, first, code, at);
     add_equal(high, second, code, at);
 }
 

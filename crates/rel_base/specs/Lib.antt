@@ -1,5 +1,7 @@
 pub mod Cells
 pub mod Packed
+pub mod PackedCodes
+pub mod LentCodes
 pub mod Relation
 pub mod RowState
 pub mod Agreement

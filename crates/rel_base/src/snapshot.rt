@@ -3,7 +3,7 @@ ghost use Rattle.std.specs.Prelude.{◌≡◌, ◌==◌, ◌<◌, ◌≤◌, ◌
 ghost use Rattle.std.specs.List.{All};
 ghost use Rattle.rel_base.specs.Shows.{live_numbers};
 
-use crate::{MOST_ROWS, RowNo};
+use crate::{CodeSlice, MOST_ROWS, PackedCodes, RowNo};
 use std::marker::Model;
 use std::sync::Arc;
 
@@ -11,23 +11,27 @@ use std::sync::Arc;
 ///
 /// Rows never change their codes, so the codes of rows that were there when a list was made to be shared are read from that list,
 /// which any number of snapshots share; those of rows that came since stand beside it. So a snapshot after a small batch copies
-/// the few codes beside, and not those of all rows.
+/// the few codes beside, and not those of all rows. The shared codes take as few bytes as the greatest of them needs.
 #[derive(Drop)]
 pub struct Codes {
-    shared: Option<Arc<Vec<u32>>>,
+    shared: Option<Arc<PackedCodes>>,
     own: Vec<u32>,
 }
 
 impl Model for Codes {
     ghost use Rattle.std.specs.Prelude.{List, ℕ, ◌++◌};
     ghost use Rattle.rel_base.specs.CodeTable.{list_in};
+    ghost use Rattle.rel_base.specs.PackedCodes.{packed};
 
     ghost Value = { List ℕ };
 
-    ghost view = { λ c. list_in (λ shared. shared.value.items) c.shared ++ c.own.items };
+    ghost view = { λ c. list_in (λ shared. packed shared.value) c.shared ++ c.own.items };
 }
 
 impl Codes {
+    ghost use Rattle.rel_base.specs.LentCodes.{lent};
+    ghost use Rattle.rel_base.specs.PackedCodes.{packed};
+
     /// The list of these codes, which takes no memory.
     pub fn of(codes: Vec<u32>) -> Codes
         ensures { result ≡ codes.items }
@@ -39,8 +43,8 @@ impl Codes {
     }
 
     /// The list of the shared codes and, behind them, these. It takes no memory.
-    pub fn behind(shared: Arc<Vec<u32>>, own: Vec<u32>) -> Codes
-        ensures { result ≡ shared.value.items ++ own.items }
+    pub fn behind(shared: Arc<PackedCodes>, own: Vec<u32>) -> Codes
+        ensures { result ≡ packed shared.value ++ own.items }
     {
         Codes {
             shared: Some(shared),
@@ -48,13 +52,13 @@ impl Codes {
         }
     }
 
-    /// The shared codes, and those behind them, for a loop over many rows: each look-up in a slice is one test and one load.
-    pub fn parts(&self) -> (&[u32], &[u32])
-        ensures { result.0.now ++ result.1.now ≡ self.now }
+    /// The shared codes, and those behind them, for a loop over many rows: each look-up is two tests and one load.
+    pub fn parts(&self) -> (CodeSlice<'_>, &[u32])
+        ensures { lent result.0 ++ result.1.now ≡ self.now }
     {
         match &self.shared {
-            Some(shared) => (shared.as_slice(), self.own.as_slice()),
-            None => (&[], self.own.as_slice()),
+            Some(shared) => (shared.lend(), self.own.as_slice()),
+            None => (CodeSlice::none(), self.own.as_slice()),
         }
     }
 
@@ -80,7 +84,7 @@ impl Codes {
     {
         let (shared, own) = self.parts();
         if place < shared.len() {
-            shared[place]
+            shared.get(place)
         } else {
             own[place - shared.len()]
         }

@@ -5,7 +5,7 @@ ghost use Rattle.rel_base.specs.Worked.{letters, blanks};
 
 use crate::{
     Batch, Cell, Codes, Covers, Fd, Job, Limits, MOST_BYTES, MOST_CELL_BYTES, MOST_COLUMNS,
-    MOST_ROWS, Name, Nulls, Op, Relation, Row, RowNo, Snapshot, Why,
+    MOST_ROWS, Name, Nulls, Op, PackedCodes, Relation, Row, RowNo, Snapshot, Why,
 };
 use col_set::{ColSet, Target};
 use csv::{ByteRecord, ReaderBuilder};
@@ -142,11 +142,48 @@ fn rows_are_equal_by_their_cells(rt: HostRuntime) -> Result<(), Fail> {
 #[test]
 fn codes_stand_behind_shared_ones(rt: HostRuntime) -> Result<(), Fail> {
     let alloc = rt.alloc();
-    let shared = Arc::new(alloc, vec![in alloc; 7u32, 8]?)?;
+    let shared = Arc::new(alloc, PackedCodes::of(alloc, vec![in alloc; 7u32, 8]?)?)?;
     let codes = Codes::behind(shared, vec![in alloc; 9u32]?);
     assert!(rt; codes.len() == 3 && !codes.is_empty());
     assert!(rt; codes.get(0) == 7 && codes.get(1) == 8 && codes.get(2) == 9);
     assert!(rt; codes.parts().0.len() == 2 && codes.parts().1.len() == 1);
+    Ok(())
+}
+
+// The greatest codes of each width, and the least of the next one.
+static GREATEST_CODES: [u32; 5] = [255, 256, 65_535, 65_536, u32::MAX];
+
+// Whether a code reads the same packed, whole and in a part.
+fn is_told_packed(alloc: Global, code: u32) -> Result<bool, AllocError> {
+    let packed = PackedCodes::of(alloc, vec![in alloc; 0, code, 7]?)?;
+    let lent = packed.lend();
+    let part = lent.between(1, 3);
+    Ok(lent.get(1) == code && lent.get(2) == 7 && part.len() == 2 && part.get(0) == code)
+}
+
+// How many bytes the widest of the codes takes.
+fn width_of(codes: &PackedCodes) -> u8 {
+    match codes {
+        PackedCodes::Bytes(_) => 1,
+        PackedCodes::Words(_) => 2,
+        PackedCodes::Full(_) => 4,
+    }
+}
+
+#[test]
+fn codes_are_packed_by_the_greatest(rt: HostRuntime) -> Result<(), Fail> {
+    for code in GREATEST_CODES {
+        assert!(rt; is_told_packed(rt.alloc(), code)?);
+    }
+    Ok(())
+}
+
+#[test]
+fn codes_take_as_few_bytes_as_they_need(rt: HostRuntime) -> Result<(), Fail> {
+    for (code, width) in [(255, 1), (256, 2), (65_535, 2), (65_536, 4)] {
+        let codes = vec![in rt.alloc(); 1, code]?;
+        assert!(rt; width_of(&PackedCodes::of(rt.alloc(), codes)?) == width);
+    }
     Ok(())
 }
 

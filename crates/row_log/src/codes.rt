@@ -1,8 +1,9 @@
 // The codes of a column's rows, as snapshots share them.
 ghost use Rattle.std.specs.Prelude.{◌≡◌, ◌<◌, [], ◌++◌, length, take, slice_index, IfOk};
+ghost use Rattle.rel_base.specs.LentCodes.{lent};
 ghost use Rattle.row_log.specs.Codes.{codes_of, shared_of, IsCodeList};
 
-use rel_base::Codes;
+use rel_base::{CodeSlice, Codes, PackedCodes};
 use std::alloc::{AllocError, Global};
 use std::sync::Arc;
 
@@ -16,7 +17,7 @@ const MOST_OWN: usize = 1024;
 // go that stand in it, fewer of it are kept.
 #[derive(Drop)]
 pub struct CodeList {
-    pub shared: Option<Arc<Vec<u32>>>,
+    pub shared: Option<Arc<PackedCodes>>,
     pub kept: usize,
     pub own: Vec<u32>,
 }
@@ -35,20 +36,20 @@ impl CodeList {
     }
 
     // The codes that are shared and kept.
-    fn older(&self) -> &[u32]
+    fn older(&self) -> CodeSlice<'_>
         requires { IsCodeList self.now }
-        ensures { result.now ≡ take self.now.kept (shared_of self.now) }
+        ensures { lent result ≡ take self.now.kept (shared_of self.now) }
     {
         match &self.shared {
-            Some(shared) => &shared.as_slice()[..self.kept],
-            None => &[],
+            Some(shared) => shared.lend().between(0, self.kept),
+            None => CodeSlice::none(),
         }
     }
 
     // All codes, in two lists of which the second goes on behind the first.
-    pub fn parts(&self) -> (&[u32], &[u32])
+    pub fn parts(&self) -> (CodeSlice<'_>, &[u32])
         requires { IsCodeList self.now }
-        ensures { result.0.now ++ result.1.now ≡ codes_of self.now }
+        ensures { lent result.0 ++ result.1.now ≡ codes_of self.now }
     {
         (self.older(), self.own.as_slice())
     }
@@ -92,7 +93,7 @@ impl CodeList {
         ensures { IfOk result (λ codes. codes ≡ codes_of self.now) }
     {
         match &self.shared {
-            Some(shared) if shared.len() == self.kept => Ok(Codes::behind(
+            Some(shared) if shared.lend().len() == self.kept => Ok(Codes::behind(
                 shared.clone()?,
                 Vec::from_slice(alloc, &self.own)?,
             )),
@@ -114,7 +115,10 @@ impl CodeList {
             return;
         };
         let kept = all.len();
-        let Ok(shared) = Arc::new(alloc, all) else {
+        let Ok(packed) = PackedCodes::of(alloc, all) else {
+            return;
+        };
+        let Ok(shared) = Arc::new(alloc, packed) else {
             return;
         };
         self.shared = Some(shared);
@@ -125,7 +129,7 @@ impl CodeList {
     // Whether many codes stand beside the shared ones, or some of those went.
     fn is_scattered(&self) -> bool {
         let shared = match &self.shared {
-            Some(shared) => shared.len(),
+            Some(shared) => shared.lend().len(),
             None => 0,
         };
         self.own.len() > MOST_OWN || self.kept < shared
@@ -138,19 +142,21 @@ impl CodeList {
     {
         let (older, own) = self.parts();
         let mut codes = Vec::with_capacity(alloc, older.len() + own.len())?;
-        codes.extend_from_slice(older)?;
+        for place in 0..older.len() {
+            codes.push(older.get(place))?;
+        }
         codes.extend_from_slice(own)?;
         Ok(codes)
     }
 }
 
 // The code at a place of two lists of which the second goes on behind the first.
-pub fn code_in(older: &[u32], own: &[u32], place: usize) -> u32
-    requires { place < length (older.now ++ own.now) }
-    ensures { result ≡ slice_index (older.now ++ own.now) place }
+pub fn code_in(older: CodeSlice<'_>, own: &[u32], place: usize) -> u32
+    requires { place < length (lent older ++ own.now) }
+    ensures { result ≡ slice_index (lent older.entry ++ own.now) place }
 {
     if place < older.len() {
-        older[place]
+        older.get(place)
     } else {
         own[place - older.len()]
     }

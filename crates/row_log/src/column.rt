@@ -1,6 +1,7 @@
 // The cells of one column, as codes.
 ghost use Rattle.std.specs.Prelude.{◌≡◌, ◌≢◌, ◌<◌, ◌≤◌, ◌+◌, ◌-◌, ◌↔◌, ◌∷◌, [], ◌++◌, ℕ, true, false, OnOk, OnErr, IfOk, length, map, take, slice_index, slice_index_or, slice_set, vec_len, vec_capacity};
 ghost use Rattle.rel_base.specs.Agreement.{Agrees};
+ghost use Rattle.rel_base.specs.LentCodes.{lent};
 ghost use Rattle.row_log.specs.Column.{AreCodes};
 ghost use Rattle.row_log.specs.Distinct.{AreFlaggedCells, AreUsed, unmarked};
 ghost use Rattle.row_log.specs.Live.{AreMarked};
@@ -8,7 +9,7 @@ ghost use Rattle.row_log.specs.Live.{AreMarked};
 use crate::codes::{CodeList, code_in};
 use crate::live::MarkedCells;
 use column_dict::{Dict, Text};
-use rel_base::{Cells, Codes, MOST_ROWS, Nulls, Row};
+use rel_base::{Cells, CodeSlice, Codes, MOST_ROWS, Nulls, Row};
 use std::alloc::{AllocError, Global};
 use std::marker::Model;
 
@@ -200,15 +201,15 @@ fn is_wanted(used: bool, cell: &Text) -> bool
 // For each of so many codes, whether a flagged row has it, where the rows' codes stand in two lists.
 fn used_codes(
     alloc: Global,
-    older: &[u32],
+    older: CodeSlice<'_>,
     own: &[u32],
     flags: &[bool],
     count: usize,
 ) -> Result<Vec<bool>, AllocError>
-    requires known { (i : ℕ) → i < length (older.now ++ own.now) → slice_index (older.now ++ own.now) i < count }
-    requires long { length flags.now ≡ length (older.now ++ own.now) }
+    requires known { (i : ℕ) → i < length (lent older ++ own.now) → slice_index (lent older ++ own.now) i < count }
+    requires long { length flags.now ≡ length (lent older ++ own.now) }
     ensures long { IfOk result (λ used. length used.items ≡ count) }
-    ensures used { IfOk result (λ used. AreUsed flags.now (older.now ++ own.now) (length (older.now ++ own.now)) used.items) }
+    ensures used { IfOk result (λ used. AreUsed flags.now (lent older.entry ++ own.now) (length (lent older.entry ++ own.now)) used.items) }
 {
     let mut used = vec![in alloc; false; count]?;
     let mut left = count;

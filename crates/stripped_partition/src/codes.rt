@@ -3,12 +3,13 @@ ghost use Rattle.std.specs.Prelude.{◌≡◌, ◌<◌, ◌≤◌, ◌==◌, ◌
 ghost use Rattle.std.specs.List.{All, list_any};
 ghost use Rattle.std.specs.List.Sorted.{IsNonDecreasing};
 ghost use Rattle.rel_base.specs.CodeTable.{code_at};
+ghost use Rattle.rel_base.specs.LentCodes.{lent};
 ghost use Rattle.rel_base.specs.Shows.{live_numbers};
 ghost use Rattle.stripped_partition.specs.Groups.{cut, IsCut};
 ghost use Rattle.stripped_partition.specs.SplitBy.{least, differ};
 ghost use Rattle.stripped_partition.specs.Codes.{IsRecoded, IsTable};
 
-use rel_base::{MOST_ROWS, RowNo, Snapshot};
+use rel_base::{CodeSlice, MOST_ROWS, RowNo, Snapshot};
 use std::alloc::{AllocError, Global};
 
 // No group's place.
@@ -58,10 +59,10 @@ pub(crate) fn write_codes(codes: &mut [u32], snapshot: &Snapshot, column: u8, ro
 }
 
 // Writes the codes of these rows, where those of all rows stand in two lists of which the second goes on behind the first.
-fn gather(codes: &mut [u32], shared: &[u32], own: &[u32], rows: &[RowNo])
+fn gather(codes: &mut [u32], shared: CodeSlice<'_>, own: &[u32], rows: &[RowNo])
     requires long { length codes.old ≡ length rows.now }
-    requires given { All (λ row. row ≤ length (shared.now ++ own.now)) rows.now }
-    ensures { codes.new ≡ map (λ row. slice_index (shared.now ++ own.now) (row - 1)) rows.now }
+    requires given { All (λ row. row ≤ length (lent shared ++ own.now)) rows.now }
+    ensures { codes.new ≡ map (λ row. slice_index (lent shared.entry ++ own.now) (row - 1)) rows.now }
 {
     for (k, row) in rows.iter().enumerate() {
         codes[k] = code_in(shared, own, (row.number() - 1) as usize);
@@ -69,12 +70,12 @@ fn gather(codes: &mut [u32], shared: &[u32], own: &[u32], rows: &[RowNo])
 }
 
 // The code at a place of two lists of which the second goes on behind the first.
-fn code_in(shared: &[u32], own: &[u32], place: usize) -> u32
-    requires { place < length (shared.now ++ own.now) }
-    ensures { result ≡ slice_index (shared.now ++ own.now) place }
+fn code_in(shared: CodeSlice<'_>, own: &[u32], place: usize) -> u32
+    requires { place < length (lent shared ++ own.now) }
+    ensures { result ≡ slice_index (lent shared.entry ++ own.now) place }
 {
     if place < shared.len() {
-        shared[place]
+        shared.get(place)
     } else {
         own[place - shared.len()]
     }

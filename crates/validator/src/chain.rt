@@ -1,13 +1,14 @@
 // The rows of each code of a column, linked from the last one down.
 ghost use Rattle.std.specs.Prelude.{◌≡◌, ◌<◌, ◌≤◌, ◌+◌, ◌^◌, ◌&&◌, ℕ, List, [], true, length, slice_index, slice_index_or, IfOk};
 ghost use Rattle.rel_base.specs.CodeTable.{live_at};
+ghost use Rattle.rel_base.specs.LentCodes.{lent};
 ghost use Rattle.col_set.specs.ColSet.{has};
 ghost use Rattle.stripped_partition.specs.Stripped.{agree_on};
 ghost use Rattle.validator.specs.Chains.{IsChain, IsPartner};
 
 use crate::walk::reach;
 use col_set::ColSet;
-use rel_base::{Codes, MOST_ROWS, RowNo, Snapshot};
+use rel_base::{Code, CodeSlice, Codes, MOST_ROWS, RowNo, Snapshot};
 use std::alloc::{AllocError, Global};
 
 // For each row of a column, by place, the number of the last row before it that has its code, or 0; and for each code the number of
@@ -66,15 +67,28 @@ impl Chain {
 }
 
 // Whether two lists of one length have the same codes. It looks at all of them, so that a processor compares many at once.
-fn are_same(codes: &[u32], others: &[u32]) -> bool
+fn are_same<C: Code>(codes: &[C], others: &[C]) -> bool
     requires { length codes.now ≡ length others.now }
-    ensures { result ≡ true → (k : ℕ) → k < length codes.now → slice_index codes.now k ≡ slice_index others.now k }
+    ensures { result ≡ true → (k : ℕ) (d : C) → k < length codes.now → C.number (slice_index_or codes.now k d) ≡ C.number (slice_index_or others.now k d) }
 {
     let mut same = true;
     for place in 0..codes.len() {
-        same = same & (codes[place] == others[place]);
+        same = same & (codes[place].wide() == others[place].wide());
     }
     same
+}
+
+// Whether two lists of one length are of one width and have the same codes.
+fn are_seen_same(codes: CodeSlice<'_>, others: CodeSlice<'_>) -> bool
+    requires { length (lent codes) ≡ length (lent others) }
+    ensures { result ≡ true → (k : ℕ) → k < length (lent codes.entry) → slice_index (lent codes.entry) k ≡ slice_index (lent others.entry) k }
+{
+    match (codes, others) {
+        (CodeSlice::Bytes(list), CodeSlice::Bytes(other)) => are_same(list, other),
+        (CodeSlice::Words(list), CodeSlice::Words(other)) => are_same(list, other),
+        (CodeSlice::Full(list), CodeSlice::Full(other)) => are_same(list, other),
+        _ => false,
+    }
 }
 
 // Whether two lists begin with the same codes, so many.
@@ -86,10 +100,8 @@ pub(crate) fn begin_alike(codes: &Codes, others: &Codes, count: usize) -> bool
     let (first, _) = codes.parts();
     let (second, _) = others.parts();
     let shared = count.min(first.len()).min(second.len());
-    if !are_same(&first[..shared], &second[..shared]) {
-        return false;
-    }
-    for place in shared..count {
+    let are_same = are_seen_same(first.between(0, shared), second.between(0, shared));
+    for place in if are_same { shared } else { 0 }..count {
         if codes.get(place) != others.get(place) {
             return false;
         }

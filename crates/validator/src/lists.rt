@@ -5,7 +5,7 @@ ghost use Rattle.col_set.specs.Target.{IsColumnTarget};
 ghost use Rattle.validator.specs.Lists.{keys_of, AreLists, AreTargets};
 
 use col_set::Target;
-use rel_base::{Codes, RowNo, Snapshot};
+use rel_base::{CodeSlice, Codes, RowNo, Snapshot};
 use std::marker::Model;
 
 // The codes of a column, in two lists of which the second goes on behind the first, or no codes. Contracts see them as one list.
@@ -13,16 +13,17 @@ use std::marker::Model;
 // A loop over many rows looks codes up here, and not in the snapshot, where it would go through the column for each row.
 #[derive(Drop)]
 pub(crate) struct CodeList<'a> {
-    shared: &'a [u32],
+    shared: CodeSlice<'a>,
     own: &'a [u32],
 }
 
 impl<'a> Model for CodeList<'a> {
     ghost use Rattle.std.specs.Prelude.{List, ℕ, ◌++◌};
+    ghost use Rattle.rel_base.specs.LentCodes.{lent};
 
     ghost Value = { List ℕ };
 
-    ghost view = { λ c. c.shared.now ++ c.own.now };
+    ghost view = { λ c. lent c.shared ++ c.own.now };
 }
 
 impl<'a> CodeList<'a> {
@@ -31,7 +32,7 @@ impl<'a> CodeList<'a> {
         ensures { result ≡ [] }
     {
         CodeList {
-            shared: &[],
+            shared: CodeSlice::none(),
             own: &[],
         }
     }
@@ -50,7 +51,7 @@ impl<'a> CodeList<'a> {
     {
         let place = (row.number() - 1) as usize;
         if place < self.shared.len() {
-            return self.shared[place];
+            return self.shared.get(place);
         }
         let behind = place - self.shared.len();
         if behind < self.own.len() {

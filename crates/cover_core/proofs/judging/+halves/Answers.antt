@@ -1,7 +1,7 @@
 use Rattle.std.proofs.Common.{rules, List, sym, subst}
 use Rattle.std.specs.List.{All}
 use Rattle.std.proofs.lemmas.List.Elements.{All-append}
-use Rattle.cover_core.specs.Evidences.{IsEvidence}
+use Rattle.cover_steps.specs.Evidences.{IsEvidence}
 use Rattle.cover_core.specs.Judged.{IsHeld}
 use Rattle.negative_cover.specs.declared.negative_cover.Witness.{Witness as Evidence}
 use Rattle.cover_core.specs.declared.waiting.Waiting.{Waiting}

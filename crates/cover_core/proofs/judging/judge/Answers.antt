@@ -4,7 +4,7 @@ use Rattle.std.proofs.lemmas.List.Elements.{All-push}
 use Rattle.cover_core.specs.Judged.{IsHeld}
 use Rattle.cover_core.specs.declared.waiting.Waiting.{Waiting}
 use Rattle.cover_core.proofs.JobVerdicts.{asked-fitting, asked-held}
-use Rattle.cover_core.proofs.Putting.{none_left}
+use Rattle.cover_steps.proofs.Putting.{none_left}
 use Rattle.cover_core.proofs.judging.judge.Goals as goal
 
 pub violations-requires-clause-name : goal.violations-requires-clause-name

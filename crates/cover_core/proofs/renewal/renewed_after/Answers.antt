@@ -2,7 +2,7 @@ use Rattle.std.proofs.Common.{◌∙◌, ap, subst, List, ℕ}
 use Rattle.candidate_cover.specs.Cands.{width}
 use Rattle.negative_cover.specs.Witnesses.{sets_of, live_of}
 use Rattle.negative_cover.specs.EndedRows.{ended}
-use Rattle.cover_core.specs.NewLists.{AreNewLists}
+use Rattle.cover_steps.specs.NewLists.{AreNewLists}
 use Rattle.cover_core.proofs.Calls.{AreLeast-parted}
 use Rattle.cover_core.proofs.Ending.{live_of-permuted}
 use Rattle.cover_core.proofs.renewal.renewed_after.Goals as goal

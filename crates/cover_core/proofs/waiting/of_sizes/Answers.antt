@@ -1,5 +1,5 @@
 use Rattle.cover_core.specs.Waiting.{IsWaiting}
-use Rattle.cover_core.proofs.Evidences.{All-permuted}
+use Rattle.cover_steps.proofs.Evidences.{All-permuted}
 use Rattle.cover_core.proofs.waiting.of_sizes.Goals as goal
 
 pub returns : goal.returns

@@ -1,5 +1,6 @@
 use Rattle.std.proofs.Common.{rules, ◌≡◌, ◌∙◌, ◌++◌, ◌+◌, ◌<◌, ℕ, ap, ap₂, sym, subst, arith, true, false, replicate, length, get_or, set, List, Bool, Vec, Global, vec_len}
 use Rattle.std.proofs.lemmas.List.{length-replicate, length-set, with_items_is}
+use Rattle.rel_base.specs.LentCodes.{lent}
 use Rattle.row_log.specs.Distinct.{AreUsed, unmarked}
 use Rattle.row_log.proofs.Distinct.{AreUsed-none, AreUsed-all, AreUsed-more, AreUsed-skip, unmarked-none}
 use Rattle.row_log.proofs.column.used_codes.Goals as goal
@@ -8,19 +9,19 @@ use Rattle.row_log.proofs.column.used_codes.Goals.{then-flag, else-flag}
 pub loop-place-init : goal.loop-place-init
 loop-place-init c =
     let none : c.in_ok-used.used.items ≡ replicate c.args.count false = search rules in
-    (ap length none ∙ length-replicate c.args.count false, AreUsed-none c.args.flags.now (c.args.older.now ++ c.args.own.now) c.in_ok-used.used.items c.args.count none, unmarked-none c.in_ok-used.used.items c.args.count none)
+    (ap length none ∙ length-replicate c.args.count false, AreUsed-none c.args.flags.now (lent c.args.older ++ c.args.own.now) c.in_ok-used.used.items c.args.count none, unmarked-none c.in_ok-used.used.items c.args.count none)
 
 pub returns-then-left-eq0-clause-used : goal.returns-then-left-eq0-clause-used
 returns-then-left-eq0-clause-used c =
     let l = c.loop-place-test.true in
     let m = c.requires.long in
     let n = c.loop-place.invariant.0 in
-    AreUsed-all c.args.flags.now (c.args.older.now ++ c.args.own.now) c.loop-place.place _ c.loop-place.used.items c.loop-place.invariant.1 (omega (arith, l, m))
+    AreUsed-all c.args.flags.now (lent c.args.older ++ c.args.own.now) c.loop-place.place _ c.loop-place.used.items c.loop-place.invariant.1 (omega (arith, l, m))
     (λ i k. let w = c.requires.known i k in omega (arith, w, n)) (sym c.loop-place.invariant.2 ∙ c.if-left-eq0.true)
 
 pub loop-place-preserved : goal.loop-place-preserved
 loop-place-preserved c =
-    let codes = c.args.older.now ++ c.args.own.now in
+    let codes = lent c.args.older ++ c.args.own.now in
     let old = c.loop-place.used in
     let i = c.loop-place.place in
     let n = c.loop-place.invariant.0 in

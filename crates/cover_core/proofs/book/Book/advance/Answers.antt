@@ -4,8 +4,8 @@ use Rattle.cover_steps.specs.Sound.{Sound}
 use Rattle.validator.specs.Verdicts.{IsVerdict}
 use Rattle.validator.specs.declared.verdict.Verdict.TheVariants.{Broken}
 use Rattle.cover_core.proofs.Cursors.{first-told, first-none}
-use Rattle.cover_core.proofs.Evidences.{All-back}
-use Rattle.cover_core.proofs.Putting.{none_left}
+use Rattle.cover_steps.proofs.Evidences.{All-back}
+use Rattle.cover_steps.proofs.Putting.{none_left}
 use Rattle.cover_core.proofs.Turn.{Advances, turn-fitting, turn-fits, turn-marked, turn-booked}
 use Rattle.cover_core.proofs.book.Book.advance.Goals as goal
 use Rattle.cover_core.proofs.book.Book.advance.Goals.{After-drop-job-inside-2, in-Some-pop+in_ok-refute-in-Some-pop, in-None}

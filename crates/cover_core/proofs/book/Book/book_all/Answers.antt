@@ -6,7 +6,7 @@ use Rattle.negative_cover.specs.Witnesses.{sets_of}
 use Rattle.candidate_cover.specs.Drafts.{Drafted, is_news}
 use Rattle.rel_base.specs.RowState.{RowState, width}
 use Rattle.std.proofs.lemmas.Result.{on_ok_weaker}
-use Rattle.cover_core.specs.Evidences.{IsEvidence, IsNews}
+use Rattle.cover_steps.specs.Evidences.{IsEvidence, IsNews}
 use Rattle.cover_core.proofs.Passes.{news-outside}
 use Rattle.cover_core.proofs.book.Book.book_all.Goals as goal
 

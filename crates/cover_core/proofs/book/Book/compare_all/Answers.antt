@@ -1,5 +1,5 @@
 use Rattle.std.proofs.Common.{ℕ, subst}
-use Rattle.cover_core.specs.Evidences.{IsAllTold}
+use Rattle.cover_steps.specs.Evidences.{IsAllTold}
 use Rattle.cover_core.proofs.Complete.{all_evidence, all_told}
 use Rattle.cover_core.proofs.book.Book.compare_all.Goals as goal
 

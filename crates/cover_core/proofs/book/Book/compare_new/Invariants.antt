@@ -1,7 +1,7 @@
 use Rattle.std.proofs.Common.{◌≡◌}
 use Rattle.std.specs.List.{All}
 use Rattle.cover_steps.specs.Sound.{Sound}
-use Rattle.cover_core.specs.Evidences.{IsAllTold}
+use Rattle.cover_steps.specs.Evidences.{IsAllTold}
 use Rattle.cover_core.specs.KnownLefts.{AreTrueLefts}
 use Rattle.cover_core.specs.Work.{Extends}
 use Rattle.cover_core.proofs.book.Book.compare_new.Given as goal

@@ -6,7 +6,7 @@ use Rattle.cover_steps.specs.Core.{Core}
 use Rattle.cover_core.specs.Judged.{IsAsked}
 use Rattle.cover_core.specs.Waiting.{IsSought}
 use Rattle.cover_core.specs.declared.waiting.Waiting.{Waiting}
-use Rattle.cover_core.proofs.Evidences.{All-permuted}
+use Rattle.cover_steps.proofs.Evidences.{All-permuted}
 use Rattle.cover_core.proofs.Passes.{sought-all}
 use Rattle.cover_core.proofs.book.Book.judge_sought.Goals as goal
 

@@ -5,12 +5,12 @@ use Rattle.rel_base.specs.RowState.{RowState, width}
 use Rattle.negative_cover.specs.declared.negative_cover.Witness.{Witness}
 use Rattle.cover_steps.specs.Core.{Core}
 use Rattle.cover_steps.specs.Sound.{Sound}
-use Rattle.cover_core.specs.Evidences.{IsEvidence, IsNews}
+use Rattle.cover_steps.specs.Evidences.{IsEvidence, IsNews}
 use Rattle.cover_core.specs.Judged.{IsSeen}
 use Rattle.cover_core.specs.Work.{Extends}
-use Rattle.cover_core.specs.declared.evidence.News.{News}
+use Rattle.cover_steps.specs.declared.evidence.News.{News}
 use Rattle.cover_core.specs.declared.waiting.Waiting.{Waiting}
-use Rattle.cover_core.proofs.Evidences.{All-permuted}
+use Rattle.cover_steps.proofs.Evidences.{All-permuted}
 use Rattle.cover_core.proofs.Passes.{Extends-same, news-outside}
 use Rattle.cover_core.proofs.book.Book.search_by_size.Goals as goal
 use Rattle.cover_core.proofs.book.Book.search_by_size.Goals.{else-loop-size-test, then-loop-size-test+in_ok-verdicts+in_ok-append+in_ok-news-2+then-is_calm, then-loop-size-test+in_ok-verdicts+in_ok-append+in_ok-news-2+else-is_calm+else-size-size-end}

@@ -2,7 +2,7 @@ use Rattle.std.proofs.Common.{◌≡◌}
 use Rattle.std.specs.List.{All}
 use Rattle.rel_base.specs.RowState.{width}
 use Rattle.cover_steps.specs.Sound.{Sound}
-use Rattle.cover_core.specs.Evidences.{IsNews}
+use Rattle.cover_steps.specs.Evidences.{IsNews}
 use Rattle.cover_core.specs.Judged.{IsSeen}
 use Rattle.cover_core.proofs.book.Book.search_by_size.Given as goal
 

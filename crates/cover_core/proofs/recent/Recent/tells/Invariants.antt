@@ -1,4 +1,0 @@
-use Rattle.cover_core.proofs.recent.Recent.tells.Given as goal
-
-abbrev pub decreases-loop-column : goal.decreases-loop-column
-decreases-loop-column l = l.rest
