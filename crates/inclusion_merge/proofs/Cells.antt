@@ -1,16 +1,16 @@
 -- The values of a column.
-use Rattle.std.proofs.Common.{◌≡◌, ◌∙◌, inl, inr, arith, true, not, refl, sym, ap, subst, List, [], ◌∷◌, length, filter, Ordering, Less}
+use Rattle.std.proofs.Common.{◌≡◌, ◌∙◌, inl, inr, arith, Bool, true, not, refl, sym, ap, subst, List, [], ◌∷◌, length, filter, Ordering, Less}
 use Rattle.std.specs.Prelude.{nat_eq}
 use Rattle.std.specs.List.{AllByRecursion, dedup}
 use Rattle.std.specs.List.Sorted.{IsPermutation, IsSorted, IsStrictlySortedBy}
 use Rattle.std.specs.Cmp.Lexicographic.{nat_list_eq_equiv, pointwise, same_text}
-use Rattle.std.proofs.lemmas.Bool.{false≢true, ne_eqb}
+use Rattle.std.proofs.lemmas.Bool.{and_from, and_parts, false≢true, ne_eqb}
 use Rattle.std.proofs.lemmas.List.Kept.{Contains-dedup, Contains-from_dedup, IsStrictlySortedBy-dedup}
 use Rattle.std.proofs.lemmas.List.Sorted.{Contains-permutation, IsPermutation-sym}
 use Rattle.col_set.specs.Lists.{Listed, Listed-filter, Listed-filter_parts, Rises}
 use Rattle.col_set.proofs.Places.{Contains-listed, Listed-contained}
 use Rattle.rel_base.specs.Cells.{Cell}
-use Rattle.inclusion_merge.specs.Values.{IsValuesOf, is_filled, value_cmp}
+use Rattle.inclusion_merge.specs.Values.{IsValuesOf, is_chosen, is_filled, value_cmp}
 use Rattle.inclusion_merge.specs.Order.{value_ties, value_total}
 
 -- ---- in order, each once
@@ -43,12 +43,19 @@ filled : (a : Cell) → (a ≡ [] → ⊥) → is_filled a ≡ true
 filled [] some = absurd (some refl)
 filled (b ∷ bs) some = ap not (ne_eqb (length (b ∷ bs)) 0 (λ e. omega arith))
 
-pub IsValuesOf-filter : (cells values kept : List Cell) → kept ≡ filter is_filled cells → Rises value_cmp values
-    → ((a : Cell) → (Listed a values → Listed a kept) × (Listed a kept → Listed a values)) → IsValuesOf cells values
-IsValuesOf-filter cells values kept is rises each = record {
+pub IsValuesOf-filter : (picked : Cell → Bool) (cells values kept : List Cell) → kept ≡ filter (is_chosen picked) cells → Rises value_cmp values
+    → ((a : Cell) → (Listed a values → Listed a kept) × (Listed a kept → Listed a values)) → IsValuesOf picked cells values
+IsValuesOf-filter picked cells values kept is rises each = record {
   rises = rises;
   each = λ a. (
-    (λ h. let w = Listed-filter_parts is_filled a cells (subst (λ (xs : List Cell). Listed a xs) is ((each a).0 h)) in (w.0, is_filled-false a w.1)),
-    (λ h. (each a).1 (subst (λ (xs : List Cell). Listed a xs) (sym is) (Listed-filter is_filled a cells h.0 (filled a h.1)))),
+    (λ h.
+        let w = Listed-filter_parts (is_chosen picked) a cells (subst (λ (xs : List Cell). Listed a xs) is ((each a).0 h)) in
+        let both = and_parts (is_filled a) (picked a) w.1 in
+        (w.0, is_filled-false a both.0, both.1)),
+    (λ h.
+        (each a).1 (subst (λ (xs : List Cell). Listed a xs) (sym is) (Listed-filter (is_chosen picked) a cells h.0 (and_from (is_filled a) (picked a) (filled a h.1) h.2)))),
   );
 }
+
+pub IsValuesOf-none : (picked : Cell → Bool) → IsValuesOf picked [] []
+IsValuesOf-none picked = record { rises = tt; each = λ a. ((λ h. absurd h), (λ h. absurd h.0)) }

@@ -7,3 +7,6 @@ pub mod Advancing
 pub mod Pairing
 pub mod Spent
 pub mod Prefixes
+pub mod Asking
+pub mod Marking
+pub mod Opening

@@ -61,6 +61,12 @@ has_wide-all columns parts c d room l m =
     ∙ ap (λ (x : Columns). has x (d % 128)) (get_or-replicate (columns * parts) (c * parts + d / 128) (all 128) 0 (row_within c columns parts (d / 128) l (omega arith)))
     ∙ has-all 128 (d % 128) ∙ lt-ltb (d % 128) 128 (omega arith)
 
+-- a set of all numbers that have a place
+pub has_wide-full : (n k : ℕ) → k < 128 * n → has_wide (replicate n (all 128)) k ≡ true
+has_wide-full n k l =
+    has_wide-at (replicate n (all 128)) k ∙ ap (λ (x : Columns). has x (k % 128)) (get_or-replicate n (k / 128) (all 128) 0 (omega arith)) ∙ has-all 128 (k % 128)
+    ∙ lt-ltb (k % 128) 128 (omega arith)
+
 -- a set of columns that is left, less those that another lacks
 pub has_wide-common : (old new shared : List Columns) (from d : ℕ) → get_or new (from + d / 128) 0 ≡ inter (get_or old (from + d / 128) 0) (get_or shared (d / 128) 0)
     → has_wide (drop from new) d ≡ (has_wide (drop from old) d && has_wide shared d)

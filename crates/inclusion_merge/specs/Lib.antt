@@ -1,5 +1,9 @@
 pub mod Values
 pub mod Order
 pub mod WideSet
+pub mod Mark
+pub mod Marks
 pub mod Candidates
 pub mod Sharing
+pub mod Asked
+pub mod Open

@@ -1,5 +1,5 @@
--- The values of a column: its distinct cells that are not NULL, in an order of their own.
-use Rattle.std.specs.Prelude.{◌≡◌, ◌≢◌, ◌↔◌, ℕ, ◌+◌, ◌*◌, ◌%◌, ◌^◌, ◌==◌, Bool, not, List, [], ◌<◌, fold, length, slice_index, take}
+-- The values of a column: its distinct cells that are not NULL and that are picked, in an order of their own.
+use Rattle.std.specs.Prelude.{◌≡◌, ◌≢◌, ◌↔◌, ℕ, ◌+◌, ◌*◌, ◌%◌, ◌^◌, ◌==◌, ◌&&◌, Bool, true, not, List, [], ◌<◌, fold, length, slice_index, take}
 use Rattle.std.specs.declared.cmp.Ordering.{Ordering}
 use Rattle.std.specs.Ordering.{nat_cmp, on, then_cmp}
 use Rattle.std.specs.Cmp.Lexicographic.{slice_cmp}
@@ -27,7 +27,11 @@ value_cmp = then_cmp (on prefix_of nat_cmp) (then_cmp (on length nat_cmp) (slice
 abbrev pub is_filled : Cell → Bool
 is_filled cell = not (length cell == 0)
 
--- the values of a column, in order
-pub record IsValuesOf (cells values : List Cell) : Type 0 where
+-- whether a cell is picked and not NULL
+abbrev pub is_chosen : (Cell → Bool) → Cell → Bool
+is_chosen picked cell = is_filled cell && picked cell
+
+-- the values of a column that are picked, in order
+pub record IsValuesOf (picked : Cell → Bool) (cells values : List Cell) : Type 0 where
   pub rises : Rises value_cmp values
-  pub each : (a : Cell) → Listed a values ↔ (Listed a cells × (a ≢ []))
+  pub each : (a : Cell) → Listed a values ↔ (Listed a cells × (a ≢ []) × (picked a ≡ true))

@@ -1,28 +1,28 @@
 //! Unary inclusions among the columns of all relations.
 //!
-//! Each column's cells become a list of distinct values in order, and one pass over all lists tells which are parts of which.
+//! A first round asks of a sample of all values, which tells most columns apart. A second one asks of the pairs that are left. In each, the values of
+//! a column that are asked of become a list in order, and one pass over all lists tells which are parts of which.
 #![tactic(auto)]
 
-ghost use Rattle.std.specs.Prelude.{◌≡◌, IfOk, length};
-ghost use Rattle.std.specs.List.{AllZip};
+ghost use Rattle.std.specs.Prelude.{◌≡◌, IfOk};
 ghost use Rattle.rel_base.specs.Inclusion.{inclusions};
-ghost use Rattle.inclusion_merge.specs.Sharing.{values_behind};
-ghost use Rattle.inclusion_merge.specs.Values.{IsValuesOf};
+ghost use Rattle.inclusion_merge.specs.Open.{IsOpen};
 
 mod candidates;
+mod marks;
 mod merge;
+mod open;
 mod pairs;
+mod questions;
 #[cfg(test)]
 mod tests;
 mod value;
 mod values;
 mod wide_set;
 
-use crate::merge::merged;
+use crate::open::Open;
 use crate::pairs::pairs_of;
-use crate::value::Value;
-use crate::values::values_of;
-use rayon::prelude::*;
+use crate::questions::Questions;
 use rel_base::Row;
 use std::alloc::{AllocError, Global};
 use std::thread::Threads;
@@ -32,10 +32,16 @@ use std::thread::Threads;
 /// Each row lists the cells of one column, in any order and as often as they come; the columns of several relations stand one relation after another.
 /// It may be any number of columns.
 ///
-/// The lists are made by so many workers at most, each of which takes columns that stand side by side: one worker is the thread of the caller
-/// and no other. Then they are merged as SPIDER does (Bauckmann, Leser, Naumann and Tietz 2007). The time grows with the cells of a column as
-/// sorting them does, and then with the values times the columns that are still in question at them. It takes 32 bytes a distinct cell and a bit
-/// a pair of columns.
+/// It takes two rounds. The first one asks of a sample: some two thousand cells that are spread over all columns, at least four of each column that has
+/// as many, and what shares a mark of its bytes with one of them. A column with a value of the sample that another one lacks is not included in it, and
+/// of a column that has no value beyond the sample this tells all. The second round asks of the pairs that are left: their columns' values that have the
+/// marks of the values of their dependent columns, or all values where those are many. So columns that are in no such pair are never sorted.
+///
+/// In each round the values that are asked of become lists, by so many workers at most, each of which takes columns that stand side by side: one worker
+/// is the thread of the caller and no other. Then the lists are merged as SPIDER does (Bauckmann, Leser, Naumann and Tietz 2007). The time of the first
+/// round grows with the cells as reading them does, and with the sample times the columns. That of the second grows with the values that are
+/// asked of as sorting them does, and then with these values times the columns that are still in question at them. It takes 32 bytes a value that is
+/// asked of, a bit a pair of columns, and 16 bytes a pair that the first round leaves.
 pub fn included<R: Threads + Sync>(
     rt: &R,
     alloc: Global,
@@ -44,29 +50,29 @@ pub fn included<R: Threads + Sync>(
 ) -> Result<Vec<(usize, usize)>, AllocError>
     ensures { IfOk result (λ pairs. pairs.items ≡ inclusions columns.now) }
 {
-    let lists = value_lists(rt, alloc, columns, workers)?;
-    let kept = merged(alloc, &lists)?;
-    pairs_of(alloc, &kept)
+    let open = open_pairs(rt, alloc, columns, workers)?;
+    let left = open.left(alloc)?;
+    if left.is_empty() {
+        return Ok(open.into_pairs());
+    }
+    let questions = Questions::about(alloc, columns, &left)?;
+    let kept = questions.answers(rt, alloc, workers)?;
+    open.kept(alloc, &kept)
 }
 
-// The values of each column, made by so many workers at most: a piece of the columns is as long as one worker's share.
-fn value_lists<'a, R: Threads + Sync>(
+// The pairs that a sample of all values does not tell apart. A column that has no value beyond the sample is settled by it.
+fn open_pairs<R: Threads + Sync>(
     rt: &R,
     alloc: Global,
-    columns: &'a [Row],
+    columns: &[Row],
     workers: u8,
-) -> Result<Vec<Vec<Value<'a>>>, AllocError>
-    ensures { IfOk result (λ lists. AllZip IsValuesOf columns.now (values_behind lists.items)) }
+) -> Result<Open, AllocError>
+    ensures { IfOk result (λ found. IsOpen columns.now found) }
 {
-    let share = columns.len().div_ceil(workers.max(1) as usize);
-    let lists: Result<Vec<Vec<Value<'a>>>, AllocError> = columns
-        .par_iter()
-        .with_min_len(share)
-        .map(
-            move |column: &Row| -> Result<Vec<Value>, AllocError>
-                ensures { IfOk result (λ values. IsValuesOf column.now values.items) }
-            { values_of(alloc, column) },
-        )
-        .collect(rt, alloc)?;
-    lists
+    let questions = Questions::by_sample(alloc, columns)?;
+    let kept = questions.answers(rt, alloc, workers)?;
+    Ok(Open {
+        pairs: pairs_of(alloc, &kept)?,
+        settled: questions.wholly_asked(alloc, columns)?,
+    })
 }

@@ -1,5 +1,5 @@
 // Inclusions beside those that the plain program finds.
-use crate::included;
+use crate::{included, open_pairs};
 use plain_base::{Samples, inclusions};
 use rel_base::Row;
 use std::alloc::{AllocError, Global};
@@ -57,5 +57,56 @@ fn long_cells(rt: HostRuntime) -> Result<(), Fail> {
     }
     let found = included(&rt, rt.alloc(), &copied, 1)?;
     assert!(rt; found.as_slice() == [(0, 3), (1, 0), (1, 3), (2, 3), (4, 5)].as_slice());
+    Ok(())
+}
+
+// A column of these numbers.
+fn numbered(alloc: Global, numbers: &[u16]) -> Result<Row, AllocError> {
+    let mut bytes = Vec::new(alloc);
+    for number in numbers {
+        bytes.extend_from_slice(&number.to_be_bytes())?;
+    }
+    let mut cells = Vec::new(alloc);
+    for cell in bytes.chunks(2) {
+        cells.push(cell)?;
+    }
+    Row::copied(alloc, &cells)
+}
+
+// The first column has one value that the second lacks, and the sample has others alone.
+#[test]
+fn only_values_beyond_the_sample_differ(rt: HostRuntime) -> Result<(), Fail> {
+    let mut all = Vec::new(rt.alloc());
+    let mut most = Vec::new(rt.alloc());
+    for number in 0..1_100u16 {
+        all.push(number)?;
+        if number != 501 {
+            most.push(number)?;
+        }
+    }
+    let mut columns = Vec::new(rt.alloc());
+    columns.push(numbered(rt.alloc(), &all)?)?;
+    columns.push(numbered(rt.alloc(), &most)?)?;
+    let open = open_pairs(&rt, rt.alloc(), &columns, 1)?;
+    assert!(rt; open.pairs.as_slice() == [(0, 1), (1, 0)].as_slice());
+    let found = included(&rt, rt.alloc(), &columns, 1)?;
+    assert!(rt; found.as_slice() == [(1, 0)].as_slice());
+    Ok(())
+}
+
+// The multiples of a number are multiples of its divisors, among columns of which the sample has a part.
+#[test]
+fn multiples(rt: HostRuntime) -> Result<(), Fail> {
+    let mut columns = Vec::new(rt.alloc());
+    for factor in 1..=16u16 {
+        let mut numbers = Vec::new(rt.alloc());
+        for number in 0..300u16 {
+            if number % factor == 0 {
+                numbers.push(number)?;
+            }
+        }
+        columns.push(numbered(rt.alloc(), &numbers)?)?;
+    }
+    compare(&rt, rt.alloc(), &columns)?;
     Ok(())
 }

@@ -14,6 +14,14 @@ use rel_base::{COLUMN_PLACES, Cells, Codes, ColSet, MOST_COLUMNS, MOST_ROWS, Nul
 use std::alloc::{AllocError, Global};
 use std::thread::{Threads, join};
 
+// So many cells of a column are looked at to tell how long it takes.
+const SAMPLE: usize = 256;
+
+// A cell takes as long as so many bytes, where the dictionary has it and where it is new.
+const KNOWN_CELL: u64 = 8;
+
+const NEW_CELL: u64 = 64;
+
 /// Columns of these cells, made by so many workers at most: one is the thread of the caller and no other.
 ///
 /// Each worker takes columns that stand side by side and have about as much to be coded as those of another.
@@ -33,7 +41,7 @@ pub fn columns_by<R: Threads + Sync>(
     let few = workers / 2;
     let others = workers - few;
     let mut cells = cells;
-    let later = cells.split_off(middle(&cells))?;
+    let later = cells.split_off(middle(alloc, &cells))?;
     let (first, second) = join(
         rt,
         move || -> Result<Vec<Column>, AllocError>
@@ -52,15 +60,15 @@ pub fn columns_by<R: Threads + Sync>(
 }
 
 // The place at which the columns before it have about as much to be coded as the others.
-fn middle(cells: &[Cells]) -> usize
+fn middle(alloc: Global, cells: &[Cells]) -> usize
     ensures { result ≤ length cells.now }
 {
     let whole = cells
         .iter()
-        .fold(0u64, |sum, each| sum.saturating_add(weight(each)));
+        .fold(0u64, |sum, each| sum.saturating_add(weight(alloc, each)));
     let mut left = whole / 2;
     for (place, each) in cells.iter().enumerate() {
-        let own = weight(each);
+        let own = weight(alloc, each);
         if left <= own / 2 {
             return place;
         }
@@ -69,10 +77,36 @@ fn middle(cells: &[Cells]) -> usize
     cells.len()
 }
 
-// How long a column takes to be coded, as it seems: a cell takes as long as so many bytes.
-fn weight(cells: &Cells) -> u64 {
-    let bytes = cells.size() as u64;
-    bytes.saturating_add((cells.len() as u64).saturating_mul(8))
+// How long a column takes to be coded, as it seems, in the time of a byte: where no two cells of a sample are equal most cells are new to
+// the dictionary, which keeps a copy of each.
+fn weight(alloc: Global, cells: &Cells) -> u64 {
+    let each = if has_doubles(alloc, cells) {
+        KNOWN_CELL
+    } else {
+        NEW_CELL
+    };
+    (cells.size() as u64).saturating_add((cells.len() as u64).saturating_mul(each))
+}
+
+// Whether two of some cells that are spread over the column are equal. Where memory is wanting it seems so.
+fn has_doubles(alloc: Global, cells: &Cells) -> bool {
+    let step = cells.len().div_ceil(SAMPLE);
+    let mut sample: Vec<&[u8]> = Vec::new(alloc);
+    for turn in 0..SAMPLE {
+        let place = step.saturating_mul(turn);
+        if place < cells.len() && sample.push(cells.get(place)).is_err() {
+            return true;
+        }
+    }
+    sample.sort_unstable();
+    let mut last: Option<&[u8]> = None;
+    for cell in &sample {
+        if last == Some(*cell) {
+            return true;
+        }
+        last = Some(*cell);
+    }
+    false
 }
 
 /// Columns of these cells, each of which are let go as soon as they are coded, so that their memory serves the dictionaries.
