@@ -1,10 +1,10 @@
 -- Inclusions found from what is kept of relations.
-use Rattle.std.proofs.Common.{◌≡◌, ◌∙◌, ◌+◌, ◌<◌, ◌≤◌, ◌&&◌, ◌||◌, not, inl, inr, ℕ, arith, Bool, true, false, refl, sym, ap, ap₂, subst, List, [], ◌∷◌, ◌++◌, length, map, filter, flat_map, get_or, append_assoc, append-nil}
+use Rattle.std.proofs.Common.{◌≡◌, ◌∙◌, ◌+◌, ◌<◌, ◌≤◌, ◌&&◌, ◌||◌, not, inl, inr, ℕ, arith, Bool, true, false, refl, sym, ap, ap₂, subst, List, [], ◌∷◌, ◌++◌, length, map, filter, flat_map, get_or, append-nil}
 use Rattle.std.specs.List.{All, AllZip, list_all, list_any, sum, sum_by}
 use Rattle.std.proofs.lemmas.Bool.{eq-eqb}
 use Rattle.std.proofs.lemmas.List.{length-append, map-append}
 use Rattle.std.proofs.lemmas.List.Concat.{flat_map-append}
-use Rattle.std.proofs.lemmas.List.Elements.{AllZip-get_or, AllZip-push, All-cons, All-filter, All-nil, length_all_zip}
+use Rattle.std.proofs.lemmas.List.Elements.{AllZip-get_or, All-cons, All-filter, All-nil, length_all_zip}
 use Rattle.std.proofs.lemmas.List.Sums.{sum-map, sum_by-cons}
 use Rattle.std.proofs.lemmas.List.FromFn.{length-map-range_with_len}
 use Rattle.col_set.specs.AllSets.{Listed-upto_within}
@@ -16,30 +16,25 @@ use Rattle.rel_base.specs.RowState.{RowState, width}
 use Rattle.rel_base.specs.Inclusion.{Included, all_columns, column_cells, included, inclusions}
 use Rattle.rel_base.proofs.Parts.{Included-tested, included-true}
 use Rattle.row_log.specs.Distinct.{AreDistinctCells}
+use Rattle.cover_steps.proofs.Drafting.{AllZip-append}
 use Rattle.inclusion_merge.specs.Candidates.{pairs_from}
-use Rattle.inclusion_merge.proofs.Pairing.{upto_more}
 use Rattle.report_text.specs.Inclusions.{inclusions_text}
 use Rattle.profile_cli.specs.Columns.{AreColumnsOf, SameFilled}
 use Rattle.profile_cli.specs.Reports.{inclusion_lines}
 
--- ---- one column more
-columns_more : (r : RowState) (xs : List (List Cell)) (n : ℕ) → xs ++ map (column_cells r) (upto (n + 1)) ≡ (xs ++ map (column_cells r) (upto n)) ++ column_cells r n ∷ []
-columns_more r xs n =
-    ap (λ (is : List ℕ). xs ++ map (column_cells r) is) (upto_more n) ∙ ap (λ ys. xs ++ ys) (map-append (column_cells r) (upto n) (n ∷ []))
-    ∙ sym (append_assoc xs (map (column_cells r) (upto n)) (column_cells r n ∷ []))
-
+-- ---- the columns of one relation
 same_filled : (r : RowState) (n : ℕ) (cells : List Cell) → AreDistinctCells r n cells → SameFilled (column_cells r n) cells
 same_filled r n cells are = record { each = λ c filled. ((λ there. (are.each c).1 (there, filled)), (λ back. ((are.each c).0 back).0)) }
 
-pub column_pushed : (r : RowState) (xs old new : List (List Cell)) (n : ℕ) (cells : List Cell) → AllZip SameFilled (xs ++ map (column_cells r) (upto n)) old → AreDistinctCells r n cells → new ≡ old ++ cells ∷ []
-    → AllZip SameFilled (xs ++ map (column_cells r) (upto (n + 1))) new
-column_pushed r xs old new n cells so_far are is =
-    subst (λ (a : List (List Cell)). AllZip SameFilled a new) (sym (columns_more r xs n))
-    (subst (λ (b : List (List Cell)). AllZip SameFilled ((xs ++ map (column_cells r) (upto n)) ++ column_cells r n ∷ []) b) (sym is)
-    (AllZip-push SameFilled (xs ++ map (column_cells r) (upto n)) old (column_cells r n) cells so_far (same_filled r n cells are)))
+filled_each : (r : RowState) (ns : List ℕ) (found : List (List Cell)) → AllZip (AreDistinctCells r) ns found → AllZip SameFilled (map (column_cells r) ns) found
+filled_each r [] [] h = h
+filled_each r [] (f ∷ found) h = absurd h
+filled_each r (n ∷ ns) [] h = absurd h
+filled_each r (n ∷ ns) (f ∷ found) h = (same_filled r n f h.0, filled_each r ns found h.1)
 
-pub no_column_yet : (xs columns : List (List Cell)) (r : RowState) → AllZip SameFilled xs columns → AllZip SameFilled (xs ++ map (column_cells r) (upto 0)) columns
-no_column_yet xs columns r all = subst (λ (a : List (List Cell)). AllZip SameFilled a columns) (sym (append-nil xs)) all
+pub columns_pushed : (r : RowState) (ns : List ℕ) (xs old found new : List (List Cell)) → AllZip SameFilled xs old → AllZip (AreDistinctCells r) ns found → new ≡ old ++ found
+    → AllZip SameFilled (xs ++ map (column_cells r) ns) new
+columns_pushed r ns xs old found new all each is = subst (AllZip SameFilled (xs ++ map (column_cells r) ns)) (sym is) (AllZip-append SameFilled xs (map (column_cells r) ns) old found all (filled_each r ns found each))
 
 -- ---- one relation more
 all_columns_more : (states : List RowState) (r : RowState) → all_columns (states ++ r ∷ []) ≡ all_columns states ++ map (column_cells r) (upto (width r))

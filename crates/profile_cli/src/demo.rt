@@ -145,7 +145,7 @@ fn count_inclusions<R: Threads + Sync>(
     ensures { IfOk result (λ count. count ≡ length (inclusions (all_columns (rows.now ∷ [])))) }
 {
     let mut columns = Columns::new(alloc);
-    columns.push(alloc, rows)?;
+    columns.push(rt, alloc, rows, workers)?;
     columns.count_inclusions(rt, alloc, workers)
 }
 

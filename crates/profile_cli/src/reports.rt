@@ -49,7 +49,7 @@ pub(crate) fn push_whole_report<R: Threads + Sync>(
 {
     let found = push_report_of(lines, name, book)?;
     let mut columns = Columns::new(alloc);
-    columns.push(alloc, book.rows())?;
+    columns.push(rt, alloc, book.rows(), workers)?;
     columns.push_inclusions(rt, alloc, workers, lines)?;
     Ok(found)
 }
@@ -110,6 +110,6 @@ fn push_relation<R: Threads + Wait + Sync, G: Gate + Sync>(
     let coded = Book::open_by(rt, alloc, relation, limits, options.nulls, options.workers)?;
     let book = settled(rt, alloc, options.workers, gate, coded)?;
     push_report_of(lines, name, &book)?;
-    columns.push(alloc, book.rows())?;
+    columns.push(rt, alloc, book.rows(), options.workers)?;
     Ok(())
 }
