@@ -1,6 +1,5 @@
-use Rattle.std.proofs.Common.{◌≡◌, ◌++◌, ◌∷◌, [], ◌∙◌, ◌+◌, ◌-◌, ℕ, length, sym, subst, ap, arith}
+use Rattle.std.proofs.Common.{◌≡◌, ◌++◌, ◌∙◌, ◌+◌, ◌-◌, ℕ, length, sym, subst, ap}
 use Rattle.std.proofs.lemmas.List.{length_push}
-use Rattle.rel_base.specs.Cells.{Row}
 use Rattle.profile_cli.specs.Demo.{rows_from}
 use Rattle.profile_cli.proofs.Drawn.{row-wide, rows_end, rows_more}
 use Rattle.profile_cli.proofs.demo.relation_of.Goals as goal

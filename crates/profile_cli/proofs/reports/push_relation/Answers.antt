@@ -1,4 +1,4 @@
-use Rattle.std.proofs.Common.{◌≡◌, ◌∙◌, ◌++◌, ◌∷◌, List, [], ap, subst}
+use Rattle.std.proofs.Common.{◌≡◌, ◌∙◌, ◌++◌, ◌∷◌, [], ap, subst}
 use Rattle.rel_base.specs.RowState.{RowState, opened}
 use Rattle.cover_steps.specs.Core.{Core}
 use Rattle.profile_cli.specs.Columns.{AreColumnsOf}

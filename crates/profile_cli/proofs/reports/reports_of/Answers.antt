@@ -1,13 +1,10 @@
-use Rattle.std.proofs.Common.{◌≡◌, ◌∙◌, ◌<◌, ◌+◌, ◌++◌, ◌∷◌, ℕ, List, [], length, map, get_or, sym, ap, arith, subst}
+use Rattle.std.proofs.Common.{◌≡◌, ◌∙◌, ◌<◌, ◌+◌, ◌∷◌, ℕ, List, [], length, map, get_or, sym, ap, arith, subst}
 use Rattle.std.proofs.lemmas.List.{get_or-map, length-append, length-map}
 use Rattle.std.proofs.lemmas.List.FromFn.{get_or-enumerate_from, length-enumerate_from}
 use Rattle.std.proofs.lemmas.Iterator.Adapters.{YieldsList-from_vec}
 use Rattle.std.proofs.lemmas.Iterator.Consumers.{YieldsList-at, YieldsList-end, YieldsList-from_enumerate, YieldsList-turn}
 use Rattle.rel_base.specs.Relation.{Content}
 use Rattle.rel_base.specs.RowState.{RowState, opened}
-use Rattle.cover_steps.specs.Core.{Core}
-use Rattle.profile_cli.specs.Columns.{AreColumnsOf}
-use Rattle.profile_cli.specs.Reports.{report_of}
 use Rattle.profile_cli.proofs.Files.{name_at}
 use Rattle.profile_cli.proofs.Texts.{AreReports, AreReports-more, AreReports-none, AreReports-whole, IfOk-map, reports-whole}
 use Rattle.profile_cli.proofs.reports.reports_of.Goals as goal
