@@ -2,8 +2,8 @@
 use super::covers::{are_same, relation};
 use super::{finish, refute};
 use crate::judging::Beside;
-use crate::listed::listed;
 use crate::{Book, Known};
+use cover_steps::listed::listed;
 use ports::OpenGate;
 use rel_base::{Covers, Limits};
 use std::alloc::{AllocError, Global};
