@@ -4,7 +4,7 @@ ghost use Rattle.rel_base.specs.RowState.{width};
 
 use crate::{Applying, LiveCells, RowLog};
 use plain_base::{PlainRows, Samples, agree, are_as_wide, is_included, relation_of};
-use rel_base::{Batch, ColSet, Limits, Nulls, Relation, Row, RowNo, Snapshot, Why};
+use rel_base::{Batch, Codes, ColSet, Limits, Nulls, Relation, Row, RowNo, Snapshot, Why};
 use std::alloc::{AllocError, Global};
 use std::process::Abort;
 use std::test::Fail;
@@ -439,13 +439,26 @@ fn inclusions_are_told_as_plainly_before_and_after_a_batch(rt: HostRuntime) -> R
     Ok(())
 }
 
+// Whether two lists have the same codes.
+fn are_equal_codes(one: &Codes, other: &Codes) -> bool {
+    if one.len() != other.len() {
+        return false;
+    }
+    for place in 0..one.len() {
+        if one.get(place) != other.get(place) {
+            return false;
+        }
+    }
+    true
+}
+
 // Whether two snapshots have the same rows under the same codes.
 fn are_coded_alike(first: &Snapshot, second: &Snapshot) -> bool {
     if first.columns() != second.columns() || first.to() != second.to() {
         return false;
     }
     for column in 0..first.columns() {
-        if first.column(column).parts() != second.column(column).parts() {
+        if !are_equal_codes(first.column(column), second.column(column)) {
             return false;
         }
     }
