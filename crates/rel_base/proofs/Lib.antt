@@ -1,4 +1,5 @@
 pub mod Packed
+pub mod PackedOps
 pub mod Across
 pub mod Fields
 pub mod Agree

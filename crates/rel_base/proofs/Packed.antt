@@ -1,8 +1,8 @@
 -- Cells that stand packed, and one more of them.
-use Rattle.std.proofs.Common.{inl, inr, ◌≡◌, ◌⊎◌, ℕ, suc, ◌+◌, ◌-◌, ◌^◌, ◌<◌, ◌≤◌, refl, sym, ap, ap₂, ◌∙◌, arith, List, [], ◌∷◌, ◌++◌, length, take, drop, get_or}
+use Rattle.std.proofs.Common.{inl, inr, ◌≡◌, ◌⊎◌, ℕ, zero, suc, subst, ◌+◌, ◌-◌, ◌^◌, ◌<◌, ◌≤◌, refl, sym, ap, ap₂, ◌∙◌, arith, List, [], ◌∷◌, ◌++◌, length, take, drop, get_or}
 use Rattle.std.proofs.Math.Seq.{drop-append_seam}
 use Rattle.std.proofs.lemmas.Bool.{cases_lt}
-use Rattle.std.proofs.lemmas.List.{length-append, length-drop, take-append-le, drop-append-le, take_all, ext_get_or, length_push, get_or_append_left, get_or_push}
+use Rattle.std.proofs.lemmas.List.{length-append, length-drop, take-append-le, drop-append-le, take_all, ext_get_or, length_push, length-take-le, take-take, drop-take, get_or-take, get_or_append_left, get_or_push}
 use Rattle.std.proofs.lemmas.List.FromFn.{length-map-range_with_len, get_or-map-range_with_len}
 use Rattle.rel_base.specs.Cells.{Cell}
 use Rattle.rel_base.specs.Packed.{start_at, end_at, packed_cell, packed_cells, ArePacked}
@@ -109,3 +109,64 @@ packed-read bytes ends k start end bs l e s t =
     ap (λ (xs : List ℕ). take (end - start) (drop start xs)) e
     ∙ ap₂ (λ (a b : ℕ). take (b - a) (drop a bytes)) s t
     ∙ sym (packed-at bytes ends k [] l)
+
+-- ---- the first cells alone
+module _ (bytes ends : List ℕ) (h : ArePacked bytes ends) where
+  -- cells start one behind another
+  climb : (k n : ℕ) → suc n ≤ length ends → (k ≤ n → start_at ends k ≤ start_at ends n) → (k < suc n) ⊎ (suc n ≤ k) → k ≤ suc n → start_at ends k ≤ start_at ends (suc n)
+  climb k n m before (inl less) l =
+      let a = before (omega arith) in
+      let b = h.ascending n (omega arith) in
+      omega arith
+  climb k n m before (inr more) l = let e : suc n ≡ k = omega arith in subst (λ (i : ℕ). start_at ends k ≤ start_at ends i) (sym e) (omega arith)
+
+  climbs : (k n : ℕ) → k ≤ n → n ≤ length ends → start_at ends k ≤ start_at ends n
+  climbs k zero l m = let e : k ≡ 0 = omega arith in subst (λ (i : ℕ). start_at ends i ≤ start_at ends 0) (sym e) (omega arith)
+  climbs k (suc n) l m = climb k n m (λ less. climbs k n less (omega arith)) (cases_lt k (suc n)) l
+
+  module _ (n : ℕ) (m : n ≤ length ends) where
+    pub size-within : start_at ends n ≤ length bytes
+    size-within = let a = climbs n (length ends) m (omega arith) in let b = h.last in omega arith
+
+    start-kept : (k : ℕ) → k ≤ n → start_at (take n ends) k ≡ start_at ends k
+    start-kept k l = get_or-take (suc n) (0 ∷ ends) k 0 (omega arith)
+
+    end-kept : (k : ℕ) → k < n → end_at (take n ends) k ≡ end_at ends k
+    end-kept k l = get_or-take n ends k 0 l
+
+    end-within : (k : ℕ) → k < n → end_at ends k ≤ start_at ends n
+    end-within k l = climbs (suc k) n (omega arith) m
+
+    bytes-kept : (a b s : ℕ) → a ≤ b → b ≤ s → take (b - a) (drop a (take s bytes)) ≡ take (b - a) (drop a bytes)
+    bytes-kept a b s l k =
+        ap (λ (i : ℕ). take (b - a) (drop a (take i bytes))) (let e : s ≡ a + (s - a) = omega arith in e)
+        ∙ ap (take (b - a)) (drop-take a (s - a) bytes)
+        ∙ take-take (b - a) (s - a) (drop a bytes) (omega arith)
+
+    cell-kept : (k : ℕ) → k < n → packed_cell (take (start_at ends n) bytes) (take n ends) k ≡ packed_cell bytes ends k
+    unfolding packed_cell
+    cell-kept k l =
+        ap₂ (λ (a b : ℕ). take (b - a) (drop a (take (start_at ends n) bytes))) (start-kept k (omega arith)) (end-kept k l)
+        ∙ bytes-kept (start_at ends k) (end_at ends k) (start_at ends n) (h.ascending k (omega arith)) (end-within k l)
+
+    pub packed-first : packed_cells (take (start_at ends n) bytes) (take n ends) ≡ take n (packed_cells bytes ends)
+    packed-first =
+        let p = length-packed (take (start_at ends n) bytes) (take n ends) in
+        let q = length-packed bytes ends in
+        let s = length-take-le n ends m in
+        let t = length-take-le n (packed_cells bytes ends) (omega arith) in
+        ext_get_or [] (packed_cells (take (start_at ends n) bytes) (take n ends)) (take n (packed_cells bytes ends)) (omega arith)
+        (λ k l. packed-at (take (start_at ends n) bytes) (take n ends) k [] (omega arith) ∙ cell-kept k (omega arith)
+        ∙ sym (get_or-take n (packed_cells bytes ends) k [] (omega arith) ∙ packed-at bytes ends k [] (omega arith)))
+
+    pub ArePacked-first : ArePacked (take (start_at ends n) bytes) (take n ends)
+    ArePacked-first =
+        let s = length-take-le n ends m in
+        let t = length-take-le (start_at ends n) bytes size-within in
+        let few = h.few in
+        let within = size-within in record {
+          ascending = λ k l. let a = start-kept k (omega arith) in let b = end-kept k (omega arith) in let c = h.ascending k (omega arith) in omega arith;
+          within = λ k l. let b = end-kept k (omega arith) in let c = end-within k (omega arith) in omega arith;
+          last = ap (start_at (take n ends)) s ∙ start-kept n (omega arith) ∙ sym t;
+          few = omega arith;
+        }

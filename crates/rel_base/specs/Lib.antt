@@ -9,6 +9,7 @@ pub mod Validity
 pub mod Minimality
 pub mod Covers
 pub mod Batches
+pub mod PackedOps
 pub mod CodeTable
 pub mod Shows
 pub mod Alike

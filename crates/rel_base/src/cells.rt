@@ -1,7 +1,8 @@
 // The cells of a column, packed.
-ghost use Rattle.std.specs.Prelude.{◌≡◌, ◌<◌, ◌≤◌, ◌==◌, ◌++◌, ◌∷◌, length, slice_range, slice_index_or, [], OnOk, OnErr, vec_len, vec_capacity};
+ghost use Rattle.std.specs.Prelude.{◌≡◌, ◌<◌, ◌≤◌, ◌^◌, ◌==◌, ◌++◌, ◌∷◌, length, take, slice_range, slice_index_or, [], OnOk, OnErr, vec_len, vec_capacity};
 ghost use Rattle.rel_base.specs.Packed as packed;
 
+use crate::Row;
 use std::alloc::{AllocError, Global};
 use std::marker::Model;
 
@@ -71,6 +72,7 @@ impl Cells {
     /// 4 GiB together, which no file of a relation has.
     pub fn push(&mut self, cell: &[u8]) -> Result<(), AllocError>
         ensures pushed { OnOk result (self.new ≡ self.old ++ cell.now ∷ []) }
+        ensures few { OnOk result (length self.new < 2 ^ 64) }
         ensures refused { OnErr result (self.new ≡ self.old) }
     {
         if cell.len() > MOST_PACKED - self.bytes.len() {
@@ -80,6 +82,32 @@ impl Cells {
         self.bytes.extend_from_slice(cell)?;
         append(&mut self.ends, self.bytes.len() as u32);
         Ok(())
+    }
+
+    /// Puts copies of a row's cells behind the others, all of them or none: where one is refused, as `push` says, those before it go too.
+    pub fn push_row(&mut self, row: &Row) -> Result<(), AllocError>
+        ensures pushed { OnOk result (self.new ≡ self.old ++ row.now) }
+        ensures few { OnOk result (length self.new < 2 ^ 64) }
+        ensures refused { OnErr result (self.new ≡ self.old) }
+    {
+        let count = self.len();
+        for place in 0..row.len() {
+            if let Err(refused) = self.push(row.cell(place)) {
+                self.truncate(count);
+                return Err(refused);
+            }
+        }
+        Ok(())
+    }
+
+    // Keeps so many cells, the first ones.
+    fn truncate(&mut self, count: usize)
+        requires { count ≤ length self.old }
+        ensures { self.new ≡ take count self.old }
+    {
+        let size = start_at(&self.ends, count);
+        self.bytes.truncate(size);
+        self.ends.truncate(count);
     }
 }
 

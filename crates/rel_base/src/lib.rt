@@ -22,7 +22,7 @@ mod steps;
 mod tests;
 mod why;
 
-pub use batch::{Batch, Op};
+pub use batch::{Batch, Change, Cursor, Op, RowPlace};
 pub use cell::Cell;
 pub use cells::Cells;
 pub use col_set::{COLUMN_PLACES, ColSet, MOST_COLUMNS, Target};

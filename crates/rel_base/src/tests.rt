@@ -1,11 +1,13 @@
-ghost use Rattle.std.specs.Prelude.{◌≡◌, ◌∷◌, []};
+ghost use Rattle.std.specs.Prelude.{◌≡◌, ◌∷◌, [], length};
+ghost use Rattle.rel_base.specs.PackedOps.{place_of, IsCursor};
 ghost use Rattle.rel_base.specs.declared.nulls.Nulls.TheVariants.{Equal, Distinct};
 ghost use Rattle.rel_base.specs.Covers.{covers};
 ghost use Rattle.rel_base.specs.Worked.{letters, blanks};
 
 use crate::{
-    Batch, Cell, Codes, Covers, Fd, Job, Limits, MOST_BYTES, MOST_CELL_BYTES, MOST_COLUMNS,
-    MOST_ROWS, Name, Nulls, Op, PackedCodes, Relation, Row, RowNo, Snapshot, Why,
+    Batch, Cell, Change, Codes, Covers, Cursor, Fd, Job, Limits, MOST_BYTES, MOST_CELL_BYTES,
+    MOST_COLUMNS, MOST_ROWS, Name, Nulls, Op, PackedCodes, Relation, Row, RowNo, RowPlace,
+    Snapshot, Why,
 };
 use col_set::{ColSet, Target};
 use csv::{ByteRecord, ReaderBuilder};
@@ -206,7 +208,7 @@ fn whole_job(snapshot: Arc<Snapshot>) -> Job {
 
 // A batch of one operation.
 fn one_delete(alloc: Global) -> Result<Batch, AllocError> {
-    Ok(Batch::of(vec![in alloc; Op::Delete(RowNo::first())]?))
+    Batch::of(alloc, &[Op::Delete(RowNo::first())])
 }
 
 // A relation of one column and no rows.
@@ -414,5 +416,105 @@ fn a_job_is_made_again(rt: HostRuntime) -> Result<(), Fail> {
     let alloc = rt.alloc();
     let job = job_on(Arc::new(alloc, three_rows(&rt, alloc)?)?);
     are_equal_jobs(&rt, &job, &job.again()?);
+    Ok(())
+}
+
+// Operations whose rows have different widths.
+fn mixed_batch(alloc: Global) -> Result<Batch, AllocError> {
+    let mut batch = Batch::new(alloc);
+    batch.push(&Op::Insert(Row::copied(alloc, &[b"a", b"", b"bc"])?))?;
+    batch.push(&Op::Delete(RowNo::of(7)))?;
+    batch.push(&Op::Update(RowNo::of(9), Row::copied(alloc, &[b"d"])?))?;
+    batch.push(&Op::Insert(Row::copied(alloc, &[])?))?;
+    Ok(batch)
+}
+
+// Writes each cell of a row and a comma.
+fn write_row(text: &mut Vec<u8>, batch: &Batch, row: RowPlace) -> Result<(), AllocError> {
+    for column in 0..batch.row_len(row) {
+        text.extend_from_slice(batch.cell(row, column))?;
+        text.push(b',')?;
+    }
+    Ok(())
+}
+
+// The last digit of a number.
+fn digit(number: RowNo) -> u8 {
+    (number.number() % 10) as u8 + b'0'
+}
+
+// Writes an operation.
+fn write_change(text: &mut Vec<u8>, batch: &Batch, change: Change) -> Result<(), AllocError> {
+    match change {
+        Change::Insert(row) => {
+            text.push(b'+')?;
+            write_row(text, batch, row)
+        }
+        Change::Delete(number) => {
+            text.push(b'-')?;
+            Ok(text.push(digit(number))?)
+        }
+        Change::Update(number, row) => {
+            text.push(b'=')?;
+            text.push(digit(number))?;
+            write_row(text, batch, row)
+        }
+    }
+}
+
+// The operations in order.
+fn written(alloc: Global, batch: &Batch) -> Result<Vec<u8>, AllocError> {
+    let mut text = Vec::new(alloc);
+    let mut cursor = Cursor::start();
+    for _place in 0..batch.len() {
+        write_change(&mut text, batch, batch.change(cursor))?;
+        cursor = batch.next(cursor);
+    }
+    Ok(text)
+}
+
+// The place behind the last operation.
+fn end_of(batch: &Batch) -> Cursor
+    ensures is { IsCursor batch.now result }
+    ensures end { place_of result ≡ length batch.now }
+{
+    let mut cursor = Cursor::start();
+    for _place in 0..batch.len() {
+        cursor = batch.next(cursor);
+    }
+    cursor
+}
+
+// The operations from the last one back to the first.
+fn written_back(alloc: Global, batch: &Batch) -> Result<Vec<u8>, AllocError> {
+    let mut text = Vec::new(alloc);
+    let mut cursor = end_of(batch);
+    while cursor.place() > 0 {
+        cursor = batch.previous(cursor);
+        write_change(&mut text, batch, batch.change(cursor))?;
+    }
+    Ok(text)
+}
+
+#[test]
+fn a_batch_is_read_forward_and_back(rt: HostRuntime) -> Result<(), Fail> {
+    let alloc = rt.alloc();
+    let batch = mixed_batch(alloc)?;
+    assert!(rt; batch.len() == 4 && !batch.is_empty());
+    assert!(rt; written(alloc, &batch)?.as_slice() == b"+a,,bc,-7=9d,+".as_slice());
+    assert!(rt; written_back(alloc, &batch)?.as_slice() == b"+=9d,-7+a,,bc,".as_slice());
+    let again = Batch::of(alloc, &batch.to_ops(alloc)?)?;
+    assert!(rt; written(alloc, &again)?.as_slice() == b"+a,,bc,-7=9d,+".as_slice());
+    Ok(())
+}
+
+#[test]
+fn a_batch_takes_no_wider_row(rt: HostRuntime) -> Result<(), Fail> {
+    let alloc = rt.alloc();
+    let mut batch = mixed_batch(alloc)?;
+    let cells: [&[u8]; 256] = [b"x"; 256];
+    let wide = Op::Insert(Row::copied(alloc, &cells)?);
+    assert!(rt; batch.push(&wide).is_err());
+    assert!(rt; batch.len() == 4);
     Ok(())
 }

@@ -1,0 +1,8 @@
+use Rattle.std.proofs.Common.{◌∙◌}
+use Rattle.rel_base.proofs.PackedOps.{len-now}
+use Rattle.rel_base.proofs.batch.Batch.len.Goals as goal
+
+pub returns : goal.returns
+returns c =
+    let b = c.self.inside in
+    c.len.ensures ∙ b.steps.ok.0 ∙ len-now b.steps.items b.numbers.items b.cells c.self.invariant c.args.self.now c.self.view_is
