@@ -1,7 +1,7 @@
 -- Operations that stand packed: their parts, and what stands at a place among them.
 use Rattle.std.proofs.Common.{◌≡◌, ℕ, ◌+◌, ◌-◌, ◌^◌, ◌<◌, ◌≤◌, refl, sym, ap, ap₂, ◌∙◌, arith, List, [], ◌∷◌, ◌++◌, length, map, take, drop, get_or}
 use Rattle.std.specs.List.{flat_map}
-use Rattle.std.proofs.lemmas.List.{length-append, length-map, length-take, length-drop, take_more, take_at, drop_at, take-append-drop, drop_more, map_push, flat_map_more, get_or-map, get_or_default, get_or-take, get_or-drop}
+use Rattle.std.proofs.lemmas.List.{length-append, length-map, length-take, length-drop, take_more, take_all, take_at, drop_at, take-append-drop, drop_more, map_push, flat_map_more, get_or-map, get_or_default, get_or-take, get_or-drop}
 use Rattle.std.proofs.lemmas.List.Concat.{flat_map-append, get_or-flat_map}
 use Rattle.rel_base.specs.declared.batch.Op.{Op}
 use Rattle.rel_base.specs.declared.batch.Op.TheVariants.{Insert, Delete, Update}
@@ -162,6 +162,14 @@ module _ (now : List Op) (k : ℕ) (l : k < length now) (s : Step) (e : s ≡ st
 pub IsCursor-start : (ops : List Op) → IsCursor ops (record { op = 0; number = 0; cell = 0 })
 unfolding numbers_of cells_of
 IsCursor-start ops = record { within = omega arith; number = refl; cell = refl }
+
+pub IsCursor-end : (now : List Op) (op number cell : ℕ) → op ≡ length now → number ≡ length (numbers_of now) → cell ≡ length (cells_of now) → IsCursor now (record { op = op; number = number; cell = cell })
+IsCursor-end now op number cell e f g =
+    let all : take op now ≡ now = take_all op now (omega arith) in record {
+      within = omega arith;
+      number = f ∙ ap (λ (ops : List Op). length (numbers_of ops)) (sym all);
+      cell = g ∙ ap (λ (ops : List Op). length (cells_of ops)) (sym all);
+    }
 
 pub IsCursor-next : (now : List Op) (cursor : Cursor) (s : Step) (n c : ℕ) → IsCursor now cursor → cursor.op < length now → s ≡ step_of (at now cursor.op) → n ≡ step_numbers s → c ≡ step_cells s
     → IsCursor now (record { op = cursor.op + 1; number = cursor.number + n; cell = cursor.cell + c })

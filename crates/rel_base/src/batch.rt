@@ -217,6 +217,18 @@ impl Batch {
         Ok(())
     }
 
+    /// The place behind the last operation.
+    pub fn end(&self) -> Cursor
+        ensures cursor { IsCursor self.now result }
+        ensures place { place_of result ≡ length self.now }
+    {
+        Cursor {
+            op: self.steps.len(),
+            number: self.numbers.len(),
+            cell: self.cells.len(),
+        }
+    }
+
     /// The operation behind a place. It takes one step and no memory.
     pub fn change(&self, cursor: Cursor) -> Change
         requires cursor { IsCursor self.now cursor }

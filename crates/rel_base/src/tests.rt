@@ -1,5 +1,4 @@
-ghost use Rattle.std.specs.Prelude.{◌≡◌, ◌∷◌, [], length};
-ghost use Rattle.rel_base.specs.PackedOps.{place_of, IsCursor};
+ghost use Rattle.std.specs.Prelude.{◌≡◌, ◌∷◌, []};
 ghost use Rattle.rel_base.specs.declared.nulls.Nulls.TheVariants.{Equal, Distinct};
 ghost use Rattle.rel_base.specs.Covers.{covers};
 ghost use Rattle.rel_base.specs.Worked.{letters, blanks};
@@ -473,22 +472,10 @@ fn written(alloc: Global, batch: &Batch) -> Result<Vec<u8>, AllocError> {
     Ok(text)
 }
 
-// The place behind the last operation.
-fn end_of(batch: &Batch) -> Cursor
-    ensures is { IsCursor batch.now result }
-    ensures end { place_of result ≡ length batch.now }
-{
-    let mut cursor = Cursor::start();
-    for _place in 0..batch.len() {
-        cursor = batch.next(cursor);
-    }
-    cursor
-}
-
 // The operations from the last one back to the first.
 fn written_back(alloc: Global, batch: &Batch) -> Result<Vec<u8>, AllocError> {
     let mut text = Vec::new(alloc);
-    let mut cursor = end_of(batch);
+    let mut cursor = batch.end();
     while cursor.place() > 0 {
         cursor = batch.previous(cursor);
         write_change(&mut text, batch, batch.change(cursor))?;
