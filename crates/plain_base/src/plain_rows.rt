@@ -86,7 +86,7 @@ impl PlainRows {
 
     /// The rows after a batch, or the first operation that fails, counted from 1, and why. These rows stay as they are.
     ///
-    /// It copies all rows.
+    /// It copies all rows and operations.
     pub fn after(
         &self,
         alloc: Global,
@@ -95,7 +95,8 @@ impl PlainRows {
         requires { All (IsAsWide (width self.now)) batch.now }
         ensures { IfOk result (λ outcome. outcome ≡ batches.after self.now batch.now) }
     {
-        let ops = batch.ops();
+        let copies = batch.to_ops(alloc)?;
+        let ops = copies.as_slice();
         let mut rows = self.copied(alloc)?;
         for place in 0..ops.len() {
             match rows.applied(&ops[place])? {

@@ -3,8 +3,9 @@ ghost use Rattle.std.specs.Prelude.{◌≡◌, ◌<◌, ◌≤◌, true, length,
 ghost use Rattle.std.specs.List.{All};
 ghost use Rattle.rel_base.specs.Relation.{IsContent};
 ghost use Rattle.rel_base.specs.Batches.{IsAsWide};
+ghost use Rattle.rel_base.specs.PackedOps.{cells_of, op_at};
 
-use rel_base::{Batch, MOST_COLUMNS, MOST_ROWS, Op, Relation, Row, RowNo};
+use rel_base::{Batch, Change, Cursor, MOST_COLUMNS, MOST_ROWS, Op, Relation, Row, RowNo};
 use std::alloc::{AllocError, Global};
 
 /// The relation of these names and copies of these rows, or none where they are not a relation's.
@@ -32,21 +33,23 @@ pub fn relation_of(alloc: Global, names: Row, rows: &[Row]) -> Result<Option<Rel
 pub fn are_as_wide(batch: &Batch, width: usize) -> bool
     ensures { result ≡ true → All (IsAsWide width) batch.now }
 {
-    for op in batch.ops() {
-        if !is_as_wide(op, width) {
+    let mut cursor = Cursor::start();
+    for _place in 0..batch.len() {
+        if !is_as_wide(batch, batch.change(cursor), width) {
             return false;
         }
+        cursor = batch.next(cursor);
     }
     true
 }
 
-fn is_as_wide(op: &Op, width: usize) -> bool
-    ensures { result ≡ true → IsAsWide width op.now }
+fn is_as_wide(batch: &Batch, change: Change, width: usize) -> bool
+    ensures { result ≡ true → IsAsWide width (op_at (cells_of batch.now) change) }
 {
-    match op {
-        Op::Insert(row) => row.len() == width,
-        Op::Delete(_) => true,
-        Op::Update(_, row) => row.len() == width,
+    match change {
+        Change::Insert(row) => batch.row_len(row) == width,
+        Change::Delete(_) => true,
+        Change::Update(_, row) => batch.row_len(row) == width,
     }
 }
 
@@ -144,10 +147,10 @@ impl Samples {
         requires { last < MOST_ROWS }
         ensures { IfOk result (λ batch. All (IsAsWide cells) batch) }
     {
-        let mut ops = Vec::new(alloc);
+        let mut batch = Batch::new(alloc);
         for _ in 0..count {
-            ops.push(self.op(alloc, cells, last)?)?;
+            batch.push(&self.op(alloc, cells, last)?)?;
         }
-        Ok(Batch::of(ops))
+        Ok(batch)
     }
 }

@@ -198,7 +198,7 @@ fn changes(alloc: Global, updated: u32, deleted: u32) -> Result<Batch, AllocErro
     ops.push(Op::Update(RowNo::of(updated), two(alloc, b"5", b"q")?))?;
     ops.push(Op::Delete(RowNo::of(deleted)))?;
     ops.push(Op::Insert(two(alloc, b"6", b"q")?))?;
-    Ok(Batch::of(ops))
+    Batch::of(alloc, &ops)
 }
 
 // What becomes of these rows by a batch of two columns.

@@ -1,12 +1,13 @@
 // Rows that come and go under numbers that are never given twice, coded column by column.
-ghost use Rattle.std.specs.Prelude.{◌≡◌, ◌≢◌, ◌<◌, ℕ, List, true, false, IfOk, OnOk, OnErr, length};
+ghost use Rattle.std.specs.Prelude.{◌≡◌, ◌≢◌, ◌<◌, ℕ, List, true, false, IfOk, OnOk, OnErr, length, take};
 ghost use Rattle.std.specs.List.{All};
-ghost use Rattle.rel_base.specs.Cells.{cell};
+ghost use Rattle.rel_base.specs.Cells.{Cell, cell};
 ghost use Rattle.rel_base.specs.Relation.{IsContent};
 ghost use Rattle.rel_base.specs.RowState.{RowState, IsRowState, opened, width, next, row};
 ghost use Rattle.rel_base.specs.Validity.{agree_of};
 ghost use Rattle.rel_base.specs.Batches.{is_live, is_full, inserted, deleted, applied};
 ghost use Rattle.rel_base.specs.Batches.{IsAsWide};
+ghost use Rattle.rel_base.specs.PackedOps.{cells_of, row_at, op_at, place_of, IsCursor};
 ghost use Rattle.rel_base.specs.Shows.{Shows};
 ghost use Rattle.rel_base.specs.declared.batch.Op.TheVariants.{Insert, Delete, Update};
 ghost use Rattle.row_log.specs.Distinct.{AreDistinctCells};
@@ -21,7 +22,9 @@ use crate::table::{
     share_codes, truncate_rows,
 };
 use column_dict::Text;
-use rel_base::{Batch, ColSet, Limits, Nulls, Op, Relation, Row, RowNo, Snapshot, Why};
+use rel_base::{
+    Batch, Change, ColSet, Cursor, Limits, Nulls, Relation, Row, RowNo, RowPlace, Snapshot, Why,
+};
 use std::alloc::{AllocError, Global};
 use std::marker::Model;
 use std::sync::Arc;
@@ -254,14 +257,15 @@ impl RowLog {
         requires { All (IsAsWide (width self.old)) batch.now }
         ensures { Answers self.old batch.now self.new result }
     {
-        let ops = batch.ops();
         let next = self.next().number();
         let live = self.live_len();
-        for (k, op) in ops.iter().enumerate() {
-            if let Err(halt) = self.apply_one(op) {
-                self.take_back(&ops[..k]);
+        let mut cursor = Cursor::start();
+        for k in 0..batch.len() {
+            if let Err(halt) = self.apply_one(batch, batch.change(cursor)) {
+                self.take_back(batch, cursor);
                 return halt.at(k);
             }
+            cursor = batch.next(cursor);
         }
         let inserted = self.next().number() - next;
         Applying::Applied {
@@ -284,29 +288,29 @@ impl RowLog {
         requires { (r : RowState) × IsBefore batch.now self.old r }
         ensures { (r : RowState) → IsBefore batch.now self.old r → self.new ≡ r }
     {
-        self.take_back(batch.ops());
+        self.take_back(batch, batch.end());
     }
 
     // Applies one operation, or changes nothing.
-    fn apply_one(&mut self, op: &Op) -> Result<(), Halt>
-        requires { IsAsWide (width self.old) op.now }
-        ensures { Outcome self.old (applied self.old op.now) self.new result }
+    fn apply_one(&mut self, batch: &Batch, change: Change) -> Result<(), Halt>
+        requires { IsAsWide (width self.old) (op_at (cells_of batch.now) change) }
+        ensures { Outcome self.old (applied self.old (op_at (cells_of batch.now) change)) self.new result }
     {
-        match op {
-            Op::Insert(row) => self.insert(row),
-            Op::Delete(number) => self.delete(*number),
-            Op::Update(number, row) => self.update(*number, row),
+        match change {
+            Change::Insert(row) => self.insert(batch, row),
+            Change::Delete(number) => self.delete(number),
+            Change::Update(number, row) => self.update(number, batch, row),
         }
     }
 
-    fn insert(&mut self, row: &Row) -> Result<(), Halt>
-        requires { length row.now ≡ width self.old }
-        ensures { Outcome self.old (applied self.old (Insert row.now)) self.new result }
+    fn insert(&mut self, batch: &Batch, row: RowPlace) -> Result<(), Halt>
+        requires { length (row_at (cells_of batch.now) row) ≡ width self.old }
+        ensures { Outcome self.old (applied self.old (Insert (row_at (cells_of batch.now) row))) self.new result }
     {
         if self.is_full() {
             return Err(Halt::Failed(Why::Rows));
         }
-        match self.push(row) {
+        match self.push(batch, row) {
             Ok(()) => Ok(()),
             Err(_) => Err(Halt::Starved),
         }
@@ -323,14 +327,14 @@ impl RowLog {
     }
 
     // The new row comes first, which is the step that can want memory.
-    fn update(&mut self, number: RowNo, row: &Row) -> Result<(), Halt>
-        requires { length row.now ≡ width self.old }
-        ensures { Outcome self.old (applied self.old (Update number row.now)) self.new result }
+    fn update(&mut self, number: RowNo, batch: &Batch, row: RowPlace) -> Result<(), Halt>
+        requires { length (row_at (cells_of batch.now) row) ≡ width self.old }
+        ensures { Outcome self.old (applied self.old (Update number (row_at (cells_of batch.now) row))) self.new result }
     {
         if !self.is_live(number) {
             return Err(Halt::Failed(Why::Missing));
         }
-        self.insert(row)?;
+        self.insert(batch, row)?;
         self.end(number);
         Ok(())
     }
@@ -343,14 +347,14 @@ impl RowLog {
     }
 
     // A row with the next number comes.
-    fn push(&mut self, row: &Row) -> Result<(), AllocError>
-        requires wide { length row.now ≡ width self.old }
+    fn push(&mut self, batch: &Batch, row: RowPlace) -> Result<(), AllocError>
+        requires wide { length (row_at (cells_of batch.now) row) ≡ width self.old }
         requires room { is_full self.old ≡ false }
-        ensures pushed { OnOk result (self.new ≡ inserted self.old row.now) }
+        ensures pushed { OnOk result (self.new ≡ inserted self.old (row_at (cells_of batch.now) row)) }
         ensures refused { OnErr result (self.new ≡ self.old) }
     {
         self.live.reserve(1)?;
-        push_row(&mut self.columns, self.live.len(), row)?;
+        push_row(&mut self.columns, self.live.len(), batch, row)?;
         append_live(&mut self.live);
         self.live_len += 1;
         Ok(())
@@ -365,29 +369,30 @@ impl RowLog {
         self.live_len -= 1;
     }
 
-    // Takes back operations that were applied, the last one first.
-    fn take_back(&mut self, ops: &[Op])
-        requires { (r : RowState) × LeadsFrom ops.now self.old r }
-        ensures { (r : RowState) → LeadsFrom ops.now self.old r → self.new ≡ r }
+    // Takes back the operations of a batch before a place, which were applied, the last one first.
+    fn take_back(&mut self, batch: &Batch, end: Cursor)
+        requires cursor { IsCursor batch.now end }
+        requires led { (r : RowState) × LeadsFrom (take (place_of end) batch.now) self.old r }
+        ensures { (r : RowState) → LeadsFrom (take (place_of end) batch.now) self.old r → self.new ≡ r }
     {
-        let mut left = ops;
-        while let Some((op, before)) = left.split_last() {
-            self.take_back_one(op);
-            left = before;
+        let mut cursor = end;
+        while cursor.place() > 0 {
+            cursor = batch.previous(cursor);
+            self.take_back_one(batch.change(cursor));
         }
     }
 
-    // Takes back the operation that was applied last.
-    fn take_back_one(&mut self, op: &Op)
-        requires { (r : RowState) × IsFrom op.now self.old r }
-        ensures { (r : RowState) → IsFrom op.now self.old r → self.new ≡ r }
+    // Takes back the operation that was applied last, whatever the cells of its row.
+    fn take_back_one(&mut self, change: Change)
+        requires { (cells : List Cell) × (r : RowState) × IsFrom (op_at cells change) self.old r }
+        ensures { (cells : List Cell) (r : RowState) → IsFrom (op_at cells change) self.old r → self.new ≡ r }
     {
-        match op {
-            Op::Insert(_) => self.pop(),
-            Op::Delete(number) => self.revive(*number),
-            Op::Update(number, _) => {
+        match change {
+            Change::Insert(_) => self.pop(),
+            Change::Delete(number) => self.revive(number),
+            Change::Update(number, _) => {
                 self.pop();
-                self.revive(*number);
+                self.revive(number);
             }
         }
     }

@@ -2,6 +2,7 @@
 ghost use Rattle.std.specs.Prelude.{◌≡◌, ◌≢◌, ◌<◌, ◌≤◌, ◌+◌, ◌^◌, ◌∷◌, [], ◌++◌, ℕ, true, OnOk, OnErr, IfOk, length, map, take, slice_index_or, vec_len, vec_capacity};
 ghost use Rattle.std.specs.List.{All};
 ghost use Rattle.rel_base.specs.Agreement.{agree};
+ghost use Rattle.rel_base.specs.PackedOps as packed;
 ghost use Rattle.row_log.specs.Column.{AreCodes};
 ghost use Rattle.row_log.specs.Live.{AreMarked, marked_at};
 ghost use Rattle.row_log.specs.Table.{row_at, HasRow, column_at, coded_cells};
@@ -10,7 +11,9 @@ ghost use denote.Param.Send.{IsSync};
 use crate::column::Column;
 use crate::live::MarkedCells;
 use agree_sets::agree_codes;
-use rel_base::{COLUMN_PLACES, Cells, Codes, ColSet, MOST_COLUMNS, MOST_ROWS, Nulls, Row};
+use rel_base::{
+    Batch, COLUMN_PLACES, Cells, Codes, ColSet, MOST_COLUMNS, MOST_ROWS, Nulls, RowPlace,
+};
 use std::alloc::{AllocError, Global};
 use std::thread::{Threads, join};
 
@@ -131,16 +134,21 @@ fn column_of(alloc: Global, nulls: Nulls, cells: Cells) -> Result<Column, AllocE
     Ok(column)
 }
 
-/// Codes the cells of one more row. After want of memory the columns, of so many rows, are as before.
-pub fn push_row(columns: &mut [Column], rows: usize, row: &Row) -> Result<(), AllocError>
-    requires wide { length row.now ≡ length columns.old }
+/// Codes the cells of one more row, which a batch keeps. After want of memory the columns, of so many rows, are as before.
+pub fn push_row(
+    columns: &mut [Column],
+    rows: usize,
+    batch: &Batch,
+    row: RowPlace,
+) -> Result<(), AllocError>
+    requires wide { length (packed.row_at (packed.cells_of batch.now) row) ≡ length columns.old }
     requires even { All (λ c. length c.cells ≡ rows) columns.old }
     requires room { rows < MOST_ROWS }
-    ensures pushed { OnOk result (HasRow columns.old row.now columns.new) }
+    ensures pushed { OnOk result (HasRow columns.old (packed.row_at (packed.cells_of batch.now) row) columns.new) }
     ensures refused { OnErr result (columns.new ≡ columns.old) }
 {
     for place in 0..columns.len() {
-        if let Err(refused) = columns[place].push(row.cell(place)) {
+        if let Err(refused) = columns[place].push(batch.cell(row, place)) {
             truncate_rows(columns, rows);
             return Err(refused);
         }

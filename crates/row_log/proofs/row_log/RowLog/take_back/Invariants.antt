@@ -1,10 +1,14 @@
-use Rattle.std.proofs.Common.{length}
+use Rattle.std.proofs.Common.{take}
+use Rattle.rel_base.specs.PackedOps.{place_of, IsCursor}
 use Rattle.rel_base.specs.RowState.{RowState}
 use Rattle.row_log.specs.Applying.{LeadsFrom}
 use Rattle.row_log.proofs.row_log.RowLog.take_back.Given as goal
 
-abbrev pub invariant-loop-op : goal.invariant-loop-op
-invariant-loop-op l = (r : RowState) → LeadsFrom l.fn.ops l.fn.self r → LeadsFrom l.left l.self r
+abbrev pub invariant-loop-cursor : goal.invariant-loop-cursor
+invariant-loop-cursor l = record {
+  is : IsCursor l.batch l.cursor;
+  led : (r : RowState) → LeadsFrom (take (place_of l.fn.end) l.fn.batch) l.fn.self r → LeadsFrom (take (place_of l.cursor) l.batch) l.self r;
+}
 
-abbrev pub decreases-loop-op : goal.decreases-loop-op
-decreases-loop-op l = length l.left
+abbrev pub decreases-loop-cursor : goal.decreases-loop-cursor
+decreases-loop-cursor l = place_of l.cursor
