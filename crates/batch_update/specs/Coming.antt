@@ -33,7 +33,7 @@ after_fault number n rec why parts = rest_of_batch (λ part. Bad number rec why)
 -- the items of the parts that are left, where the next entry has the number n
 abbrev pub coming_parts : ℕ → ℕ → Begun → List (List Entry) → List Item
 coming_parts number n Nothing parts = items_of_parts number n parts
-coming_parts number n (Sound first ops) parts = after_operations number n first ops.items parts
+coming_parts number n (Sound first ops) parts = after_operations number n first ops parts
 coming_parts number n (Faulty rec why) parts = after_fault number n rec why parts
 
 -- the items of the entries that are left

@@ -4,7 +4,7 @@ ghost use Rattle.batch_update.specs.Coming.{TakesEntry, coming};
 
 use crate::entry::Entry;
 use crate::item::Item;
-use rel_base::{Batch, Op, Why};
+use rel_base::{Batch, Why};
 use std::alloc::{AllocError, Global};
 
 /// Where a reading stands.
@@ -37,7 +37,7 @@ pub(crate) enum Begun {
     /// No batch has begun.
     Nothing,
     /// Operations alone, of which the first is record `first`.
-    Sound { first: u64, ops: Vec<Op> },
+    Sound { first: u64, batch: Batch },
     /// Record `rec` is the first one at fault.
     Faulty { rec: u64, why: Why },
 }
@@ -55,7 +55,7 @@ impl Begun {
     {
         match self {
             Begun::Nothing => begin(alloc, items, place, entry),
-            Begun::Sound { first, ops } => go_on(items, place, first, ops, entry),
+            Begun::Sound { first, batch } => go_on(items, place, first, batch, entry),
             Begun::Faulty { rec, why } => skip(items, place, rec, why, entry),
         }
     }
@@ -98,18 +98,18 @@ fn begin(
 {
     match entry {
         Entry::Operation(op) => {
-            let mut ops = Vec::new(alloc);
-            ops.push(op)?;
+            let mut batch = Batch::new(alloc);
+            batch.push(&op)?;
             Ok(Begun::Sound {
                 first: place.rec,
-                ops,
+                batch,
             })
         }
         Entry::End => {
             items.push(Item::Batch {
                 no: place.no,
                 first: place.rec,
-                batch: Batch::of(Vec::new(alloc)),
+                batch: Batch::new(alloc),
             })?;
             Ok(Begun::Nothing)
         }
@@ -129,21 +129,21 @@ fn go_on(
     items: &mut Vec<Item>,
     place: Place,
     first: u64,
-    mut ops: Vec<Op>,
+    mut batch: Batch,
     entry: Entry,
 ) -> Result<Begun, AllocError>
-    ensures { IfOk result (λ begun. TakesEntry items.old.items items.new.items place.no place.rec (Begun.Sound first ops) entry begun) }
+    ensures { IfOk result (λ begun. TakesEntry items.old.items items.new.items place.no place.rec (Begun.Sound first batch) entry begun) }
 {
     match entry {
         Entry::Operation(op) => {
-            ops.push(op)?;
-            Ok(Begun::Sound { first, ops })
+            batch.push(&op)?;
+            Ok(Begun::Sound { first, batch })
         }
         Entry::End => {
             items.push(Item::Batch {
                 no: place.no,
                 first,
-                batch: Batch::of(ops),
+                batch,
             })?;
             Ok(Begun::Nothing)
         }

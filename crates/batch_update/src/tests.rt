@@ -39,7 +39,7 @@ fn show_item(alloc: Global, out: &mut Vec<u8>, item: &Item) -> Result<(), AllocE
         Item::Batch { no, first, batch } => {
             let text = format!(in alloc; "{no}:{first}")?;
             out.extend_from_slice(text.as_bytes())?;
-            for op in batch.ops() {
+            for op in &batch.to_ops(alloc)? {
                 show_op(alloc, out, op)?;
             }
         }

@@ -1,8 +1,10 @@
 // The rows that a batch ends.
-ghost use Rattle.std.specs.Prelude.{◌≡◌, IfOk, IsPermutation};
+ghost use Rattle.std.specs.Prelude.{◌≡◌, List, IfOk, IsPermutation};
+ghost use Rattle.rel_base.specs.Cells.{Cell};
+ghost use Rattle.rel_base.specs.PackedOps.{op_at};
 ghost use Rattle.negative_cover.specs.EndedRows as spec;
 
-use rel_base::{Batch, Op, RowNo};
+use rel_base::{Batch, Change, Cursor, RowNo};
 use std::alloc::{AllocError, Global};
 
 /// The numbers of the rows that a batch deletes or updates, ascending, as `NegativeCover::withdrawal` and `NegativeCover::withdraw` look
@@ -20,21 +22,23 @@ fn ended_in_turn(alloc: Global, batch: &Batch) -> Result<Vec<RowNo>, AllocError>
     ensures { IfOk result (λ rows. rows.items ≡ spec.ended batch.now) }
 {
     let mut rows = Vec::new(alloc);
-    for op in batch.ops() {
-        if let Some(row) = ended_row(op) {
+    let mut cursor = Cursor::start();
+    for _place in 0..batch.len() {
+        if let Some(row) = ended_row(batch.change(cursor)) {
             rows.push(row)?;
         }
+        cursor = batch.next(cursor);
     }
     Ok(rows)
 }
 
-// The row that an operation ends.
-fn ended_row(op: &Op) -> Option<RowNo>
-    ensures { result ≡ spec.ended_row op.now }
+// The row that an operation ends, whatever the cells of its own row.
+fn ended_row(change: Change) -> Option<RowNo>
+    ensures { (cells : List Cell) → result ≡ spec.ended_row (op_at cells change) }
 {
-    match op {
-        Op::Insert(_) => None,
-        Op::Delete(row) => Some(*row),
-        Op::Update(row, _) => Some(*row),
+    match change {
+        Change::Insert(_) => None,
+        Change::Delete(row) => Some(row),
+        Change::Update(row, _) => Some(row),
     }
 }

@@ -99,7 +99,7 @@ fn rows_end_that_are_deleted_or_updated(rt: HostRuntime) -> Result<(), Fail> {
     ops.push(Op::Update(row(&rt, 5), Row::copied(alloc, &[b"x"])?))?;
     ops.push(Op::Insert(Row::copied(alloc, &[b"y"])?))?;
     ops.push(Op::Delete(row(&rt, 2)))?;
-    let rows = ended(alloc, &Batch::of(ops))?;
+    let rows = ended(alloc, &Batch::of(alloc, &ops)?)?;
     assert!(rt; rows.len() == 2);
     assert!(rt; rows[0] == row(&rt, 2) && rows[1] == row(&rt, 5));
     Ok(())

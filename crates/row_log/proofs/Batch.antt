@@ -1,5 +1,5 @@
 -- Batches one operation at a time: what the last one did, what is left of one that fails, and how many rows come and end.
-use Rattle.std.proofs.Common.{inl, inr, ◌≡◌, ◌⊎◌, ℕ, suc, ◌+◌, ◌<◌, ◌≤◌, Bool, true, false, cond, not, eqb, refl, sym, ap, ap₂, ◌∙◌, subst, arith, List, [], ◌∷◌, ◌++◌, length, take, drop, get_or, Result, Ok, Err}
+use Rattle.std.proofs.Common.{inl, inr, ◌≡◌, ◌⊎◌, ℕ, suc, ◌+◌, ◌-◌, ◌<◌, ◌≤◌, Bool, true, false, cond, not, eqb, refl, sym, ap, ap₂, ◌∙◌, subst, arith, List, [], ◌∷◌, ◌++◌, length, take, drop, get_or, Result, Ok, Err}
 use Rattle.std.specs.List.{All, filter, count_by}
 use Rattle.std.proofs.lemmas.Bool.{ne_eqb}
 use Rattle.std.proofs.lemmas.List.{length_push, length-take-le, take_more, take_all, take-append-drop, drop_more}
@@ -227,3 +227,10 @@ answered Starved r s t u ops batch k op a e o same l i h b = subst (Answers r ba
 
 pub whole : (r s : RowState) (ops batch : List Op) (k : ℕ) → length ops ≤ k → ops ≡ batch → after r (take k ops) ≡ Ok s → after r batch ≡ Ok s
 whole r s ops batch k l b h = ap (after_from 1 r) (sym b ∙ sym (take_all k ops l)) ∙ h
+
+-- ---- operations taken back from a place on
+-- the operations up to a place are those before it and the one behind it
+pub one_more : (ops : List Op) (k n : ℕ) (op : Op) → n ≡ k - 1 → 0 < k → k ≤ length ops → op ≡ get_or ops n op → take k ops ≡ take n ops ++ op ∷ []
+one_more ops k n op e l m i =
+    ap (λ (j : ℕ). take j ops) (let f : k ≡ n + 1 = omega arith in f)
+    ∙ take_more ops n op (omega arith) ∙ ap (λ (o : Op). take n ops ++ o ∷ []) (sym i)

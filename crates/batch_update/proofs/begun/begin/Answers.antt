@@ -6,13 +6,13 @@ use Rattle.batch_update.proofs.begun.begin.Goals as goal
 pub returns-in_ok-push-in-Operation : goal.returns-in_ok-push-in-Operation
 unfolding coming
 returns-in_ok-push-in-Operation c = λ left.
-    let ops : c.push.new.self.items ≡ c.in-Operation.op ∷ [] = c.in_ok-push-in-Operation.ensures.items ∙ ap (λ xs. xs ++ c.in-Operation.op ∷ []) c.new-ops.ensures.items in
+    let ops : c.push.new.self ≡ c.in-Operation.op ∷ [] = c.in_ok-push-in-Operation.ensures.pushed ∙ ap (λ xs. xs ++ c.in-Operation.op ∷ []) c.new-batch.ensures in
     unlisted c.args.items.now.items _ _ (rw (c.in-Operation.is, ops) (begins_operation c.args.place.no c.args.place.rec c.in-Operation.op left))
 
 pub returns-in_ok-push-in-End : goal.returns-in_ok-push-in-End
 returns-in_ok-push-in-End c = λ left.
     listed c.args.items.now.items c.push-in-End.new.self.items _ _ _ c.in_ok-push-in-End.ensures.items
-    (rw (c.in-End.is, c.of.ensures, c.new.ensures.items) (begins_end c.args.place.no c.args.place.rec left))
+    (rw (c.in-End.is, c.new.ensures) (begins_end c.args.place.no c.args.place.rec left))
 
 pub returns-in_ok-push-in-Report : goal.returns-in_ok-push-in-Report
 returns-in_ok-push-in-Report c = λ left.

@@ -12,7 +12,7 @@ returns c = elim c.match-self.branch [
   | in-Nothing w ↦ rw (w.result-is, w.items-is, w.in-Nothing.is) (sym (append-nil c.args.items.now.items))
   | in-Sound+in_ok-push-in-Sound w ↦
       rw (w.result-is, w.items-is, w.in-Sound.is, w.in_ok-push-in-Sound.ensures.items)
-      (ap (λ more. c.args.items.now.items ++ more) (sym (text_ends_after_operations c.args.place.no c.args.place.rec w.in-Sound.first w.in-Sound.ops.items)))
+      (ap (λ more. c.args.items.now.items ++ more) (sym (text_ends_after_operations c.args.place.no c.args.place.rec w.in-Sound.first w.in-Sound.batch)))
   | in-Faulty+in_ok-push-in-Faulty w ↦
       rw (w.result-is, w.items-is, w.in-Faulty.is, w.in_ok-push-in-Faulty.ensures.items)
       (ap (λ more. c.args.items.now.items ++ more) (sym (text_ends_after_fault c.args.place.no c.args.place.rec w.in-Faulty.rec w.in-Faulty.why)))
