@@ -173,3 +173,62 @@ fn headers_at_the_standard_limit(rt: HostRuntime) -> Result<(), Fail> {
     assert_eq!(rt; out.as_slice(), b"1 Columns".as_slice());
     Ok(())
 }
+
+// A start, and then one record of so many cells of so many bytes each.
+fn with_cells_once(
+    alloc: Global,
+    start: &[u8],
+    cells: usize,
+    bytes: usize,
+) -> Result<Vec<u8>, AllocError> {
+    let mut text = Vec::from_slice(alloc, start)?;
+    for cell in 0..cells {
+        if cell > 0 {
+            text.push(b',')?;
+        }
+        for _ in 0..bytes {
+            text.push(b'x')?;
+        }
+    }
+    Ok(text)
+}
+
+fn with_cells(
+    alloc: Global,
+    start: &[u8],
+    cells: usize,
+    bytes: usize,
+) -> Result<Vec<u8>, AllocError> {
+    with_cells_once(alloc, start, cells, bytes)
+        .or_else(|_| with_cells_once(alloc, start, cells, bytes))
+}
+
+#[test]
+fn giant_records(rt: HostRuntime) -> Result<(), Fail> {
+    let limits = Limits::standard();
+    let cases: [(&[u8], usize, usize, &[u8]); 8] = [
+        (b"a\n", 1_200_000, 0, b"2 Fields"),
+        (b"a\r\n\r\n1\r\n", 1_200_000, 0, b"3 Fields"),
+        (b"a\n\"1\n,\"\n\"\"\"\"\n", 1_200_000, 0, b"4 Fields"),
+        (b"a,b\n1,\"\"\n\"\n\",", 129, 10_000, b"3 Fields"),
+        (b"a,b\n1\n", 1_200_000, 0, b"2 Fields"),
+        (b"a\n1\n12\n", 129, 10_000, b"4 Fields"),
+        (b",,,,,,,,,,,,,,,,,,,\n", 21, 60_000, b"2 Fields"),
+        (b"a\n", 65_537, 20, b"2 Fields"),
+    ];
+    for (start, cells, bytes, wanted) in cases {
+        let text = with_cells(rt.alloc(), start, cells, bytes)?;
+        assert_eq!(rt; shown(rt.alloc(), text.as_slice(), &limits)?.as_slice(), wanted);
+    }
+    // Of the header's width it is read.
+    let starts: [&[u8]; 2] = [
+        b",,,,,,,,,,,,,,,,,,,\n",
+        b",,,,,,,,,,,,,,,,,,,\n\"\n\"",
+    ];
+    for start in starts {
+        let text = with_cells(rt.alloc(), start, 20, 60_000)?;
+        let out = shown(rt.alloc(), text.as_slice(), &limits)?;
+        assert_eq!(rt; out.len() / 1_000, 1_200);
+    }
+    Ok(())
+}
