@@ -1,8 +1,8 @@
 -- A record of which many fields have ended is too wide.
-use Rattle.std.proofs.Common.{◌≡◌, ◌==◌, ◌∙◌, ap, refl, sym, arith, ◌+◌, suc, ◌<◌, ◌≤◌, ℕ, Bool, true, false, cond, List, [], ◌∷◌, ◌++◌, append_assoc, add-one, length, length-append, Some, None, Option, drop, get_or, subst, ◌||◌}
+use Rattle.std.proofs.Common.{◌≡◌, ◌==◌, ◌∙◌, ap, refl, sym, arith, ◌+◌, ◌<◌, ◌≤◌, ℕ, Bool, true, false, cond, List, [], ◌∷◌, ◌++◌, append_assoc, add-one, length, length-append, Some, Option, drop, get_or, subst, ◌||◌}
 use Rattle.std.proofs.lemmas.Bool.{false≢true, true≢false}
 use Rattle.std.proofs.lemmas.List.{drop_more}
-use Rattle.csv.specs.Machine.{Read, next_record, in_field, start_record, step, is_end, ends_at_end, ends_with, after_end, fields_after, field_after}
+use Rattle.csv.specs.Machine.{Read, next_record, in_field, step, is_end, ends_at_end, ends_with, after_end, fields_after, field_after}
 use Rattle.csv.specs.Reading.{default_config, records_from, records_next}
 use Rattle.csv.specs.declared.parser.State.{State}
 use Rattle.csv.specs.declared.parser.State.TheVariants as st
@@ -232,7 +232,7 @@ scanned_end text s i whole ended b l at h end =
       earlier = h.earlier ++ (row ∷ []);
       left = drop (i + 1) text;
       records_are = h.records_are ∙ ap (λ (rows : List Row). h.earlier ++ rows) (first.left ∙ ap (λ (rows : List Row). row ∷ rows) others)
-      ∙ sym (append_assoc h.earlier (row ∷ []) (records_after st.StartRecord (Some (drop (i + 1) text))));
+          ∙ sym (append_assoc h.earlier (row ∷ []) (records_after st.StartRecord (Some (drop (i + 1) text))));
       number = length-append h.earlier (row ∷ []) ∙ ap (λ (n : ℕ). n + 1) h.number;
       counted = counted_none (drop (i + 1) text);
     }

@@ -174,61 +174,71 @@ fn headers_at_the_standard_limit(rt: HostRuntime) -> Result<(), Fail> {
     Ok(())
 }
 
-// A start, and then one record of so many cells of so many bytes each.
-fn with_cells_once(
+// A start, and then a piece so many times.
+fn with_pieces_once(
     alloc: Global,
     start: &[u8],
-    cells: usize,
-    bytes: usize,
+    piece: &[u8],
+    count: usize,
 ) -> Result<Vec<u8>, AllocError> {
     let mut text = Vec::from_slice(alloc, start)?;
-    for cell in 0..cells {
-        if cell > 0 {
-            text.push(b',')?;
-        }
-        for _ in 0..bytes {
-            text.push(b'x')?;
-        }
+    for _ in 0..count {
+        text.extend_from_slice(piece)?;
     }
     Ok(text)
 }
 
-fn with_cells(
+fn with_pieces(
     alloc: Global,
     start: &[u8],
-    cells: usize,
-    bytes: usize,
+    piece: &[u8],
+    count: usize,
 ) -> Result<Vec<u8>, AllocError> {
-    with_cells_once(alloc, start, cells, bytes)
-        .or_else(|_| with_cells_once(alloc, start, cells, bytes))
+    with_pieces_once(alloc, start, piece, count).or_else(|_| with_pieces_once(
+        alloc, start, piece, count,
+    ))
 }
 
 #[test]
 fn giant_records(rt: HostRuntime) -> Result<(), Fail> {
     let limits = Limits::standard();
-    let cases: [(&[u8], usize, usize, &[u8]); 8] = [
-        (b"a\n", 1_200_000, 0, b"2 Fields"),
-        (b"a\r\n\r\n1\r\n", 1_200_000, 0, b"3 Fields"),
-        (b"a\n\"1\n,\"\n\"\"\"\"\n", 1_200_000, 0, b"4 Fields"),
-        (b"a,b\n1,\"\"\n\"\n\",", 129, 10_000, b"3 Fields"),
-        (b"a,b\n1\n", 1_200_000, 0, b"2 Fields"),
-        (b"a\n1\n12\n", 129, 10_000, b"4 Fields"),
-        (b",,,,,,,,,,,,,,,,,,,\n", 21, 60_000, b"2 Fields"),
-        (b"a\n", 65_537, 20, b"2 Fields"),
+    let cases: [(&[u8], &[u8], usize, &[u8]); 8] = [
+        (b"a\n", b",", 1_200_000, b"2 Fields"),
+        (b"a\r\n\r\n1\r\n", b",", 150_000, b"3 Fields"),
+        (b"a\n\"1\n,\"\n\"\"\"\"\n", b",", 150_000, b"4 Fields"),
+        (b"a\n", b"\"\n\",", 150_000, b"2 Fields"),
+        (b"a,b\n1,\"\"\n\"\n\",", b"xxxx,", 30_000, b"3 Fields"),
+        (b"a\n", b"xxxxx,", 30_000, b"2 Fields"),
+        // An earlier record is at fault.
+        (b"a,b\n1\n", b",", 150_000, b"2 Fields"),
+        (b"a,b\n1,2\n3\n\"\"\n", b"\"\",", 150_000, b"3 Fields"),
     ];
-    for (start, cells, bytes, wanted) in cases {
-        let text = with_cells(rt.alloc(), start, cells, bytes)?;
-        assert_eq!(rt; shown(rt.alloc(), text.as_slice(), &limits)?.as_slice(), wanted);
+    for (start, piece, count, wanted) in cases {
+        let text = with_pieces(rt.alloc(), start, piece, count)?;
+        assert_eq!(rt;
+            shown(rt.alloc(), text.as_slice(), &limits)?.as_slice(),
+            wanted
+        );
     }
-    // Of the header's width it is read.
-    let starts: [&[u8]; 2] = [
-        b",,,,,,,,,,,,,,,,,,,\n",
-        b",,,,,,,,,,,,,,,,,,,\n\"\n\"",
-    ];
-    for start in starts {
-        let text = with_cells(rt.alloc(), start, 20, 60_000)?;
+    Ok(())
+}
+
+// The third record of many has so many commas, and the header one.
+fn with_third(alloc: Global, commas: usize) -> Result<Vec<u8>, AllocError> {
+    let start = with_pieces(alloc, b"a,b\n\"\",\"\n\"\n", b",", commas)?;
+    with_pieces(alloc, start.as_slice(), b"\n\"\",", 20_000)
+}
+
+#[test]
+fn widths_among_quotes(rt: HostRuntime) -> Result<(), Fail> {
+    let limits = Limits::standard();
+    let text = with_third(rt.alloc(), 1)?;
+    let out = shown(rt.alloc(), text.as_slice(), &limits)?;
+    assert_eq!(rt; out.len(), 40_009);
+    for commas in [2, 127, 128, 150_000] {
+        let text = with_third(rt.alloc(), commas)?;
         let out = shown(rt.alloc(), text.as_slice(), &limits)?;
-        assert_eq!(rt; out.len() / 1_000, 1_200);
+        assert_eq!(rt; out.as_slice(), b"3 Fields".as_slice());
     }
     Ok(())
 }

@@ -8,7 +8,7 @@ ghost use Rattle.csv_load.specs.WideRecords.{state_of, ends_field, IsWideRecord}
 
 use crate::marks::after_marks;
 
-/// Bytes of a block of a text. A record that is cut by no whole block has less than two.
+/// The bytes of a block of a text. A record without a whole block in it is shorter than two.
 const BLOCK: usize = 65_536;
 
 // Where in a record the next byte stands.
@@ -31,10 +31,10 @@ pub(crate) fn has_wide_header(bytes: &[u8], limit: usize) -> bool
     first_wide_record(bytes, limit, 1).is_some()
 }
 
-/// The number of a record that has more fields than this, if the text may hold one of a block and more. Like `has_wide_header` it takes
-/// no memory.
+/// The number of the first record that has more fields than this, where the text may have one of a block and more. Like
+/// `has_wide_header` it takes no memory.
 ///
-/// Where records are shorter than a block, or have no quotes and few bytes, it may overlook one: such a record takes little memory.
+/// It may overlook a record that is shorter than two blocks, or has few fields for its bytes: to read one takes little memory.
 pub(crate) fn giant_record(bytes: &[u8], limit: usize) -> Option<u64>
     ensures { IfSome result (IsWideRecord limit (records_of bytes.now)) }
 {
@@ -44,10 +44,10 @@ pub(crate) fn giant_record(bytes: &[u8], limit: usize) -> Option<u64>
     first_wide_record(bytes, limit, u64::MAX)
 }
 
-// Whether some record may be longer than two blocks. It looks at some bytes of each whole block, and is far quicker than a step a byte.
+// Whether a record may go on through a whole block that is full of fields. It looks at many bytes a step.
 fn may_have_giants(bytes: &[u8]) -> bool {
     for block in bytes.chunks_exact(BLOCK) {
-        if !surely_ends_a_record(block) {
+        if !surely_ends_a_record(block) && has_many_commas(block) {
             return true;
         }
     }
@@ -57,6 +57,18 @@ fn may_have_giants(bytes: &[u8]) -> bool {
 // Whether a record surely ends in this block: a line end in it stands in no quotes.
 fn surely_ends_a_record(block: &[u8]) -> bool {
     !block.contains(&b'"') && (block.contains(&b'\n') || block.contains(&b'\r'))
+}
+
+// Whether more than a sixth of the bytes are commas. Where fewer are, the ends of the fields, of eight bytes each, take less than one and
+// a half times the block.
+fn has_many_commas(block: &[u8]) -> bool {
+    let mut commas: usize = 0;
+    for byte in block {
+        if *byte == b',' {
+            commas += 1;
+        }
+    }
+    commas > block.len() / 6
 }
 
 // The number, counted from 1, of the first record that has more fields than this, if it is one of the first `last` ones.

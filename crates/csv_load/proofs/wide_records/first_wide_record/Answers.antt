@@ -1,9 +1,8 @@
-use Rattle.std.proofs.Common.{◌≡◌, ◌+◌, ◌-◌, ◌<◌, ◌∙◌, ℕ, List, Bool, true, cond, length, get_or, drop, ap, refl, sym, subst, arith}
-use Rattle.csv.specs.declared.parser.State.{State}
+use Rattle.std.proofs.Common.{◌≡◌, ◌+◌, ◌-◌, ◌<◌, ◌∙◌, ℕ, List, Bool, cond, length, get_or, drop, ap, refl, sym, subst, arith}
 use Rattle.csv.specs.declared.parser.State.TheVariants as st
 use Rattle.csv_load.specs.Records.{records_of, without_marks}
 use Rattle.csv_load.specs.WideRecords.{state_of, IsWideRecord}
-use Rattle.csv_load.proofs.WideRecords.{IsScanned, scanned_none, scanned_step, scanned_wide, scanned_end, scanned_is}
+use Rattle.csv_load.proofs.WideRecords.{scanned_none, scanned_step, scanned_wide, scanned_end, scanned_is}
 use Rattle.csv_load.proofs.wide_records.first_wide_record.Goals as goal
 use Rattle.csv_load.proofs.wide_records.first_wide_record.Goals.{in-Some+then-ends+else-ended-limit, in-Some+else-ends, in_default+else-rec-last}
 
@@ -40,35 +39,35 @@ loop-byte-preserved c =
     let most = before.most in
     elim c.match-after_byte.branch [
       | in-Some+then-ends+else-ended-limit w ↦
-        let step = scanned_step text (state_of c.loop-byte.place) (state_of w.in-Some.next) c.loop-byte.byte-index whole c.loop-byte.ended byte w.in-Some.ends there at before.scanned w.in-Some.ensures.goes_on w.in-Some.ensures.place w.in-Some.ensures.ends in
-        let e = w.ended-is in
-        let r = w.rec-is in
-        let below = w.if-ended-limit.false in record {
-          scanned = scanned_is text rest (state_of w.in-Some.next) (state_of c.match-after_byte.place) whole (c.match-after_byte.rec - 1) (cond w.in-Some.ends (c.loop-byte.ended + 1) c.loop-byte.ended) c.match-after_byte.ended
-          step (ap state_of (sym w.place-is)) (omega (arith, r)) (ap (λ (b : Bool). cond b (c.loop-byte.ended + 1) c.loop-byte.ended) w.if-ends.true ∙ sym e);
-          few = omega (arith, e, below);
-          some = omega (arith, r, some);
-          most = omega (arith, r, most);
-        }
+          let step = scanned_step text (state_of c.loop-byte.place) (state_of w.in-Some.next) c.loop-byte.byte-index whole c.loop-byte.ended byte w.in-Some.ends there at before.scanned w.in-Some.ensures.goes_on w.in-Some.ensures.place w.in-Some.ensures.ends in
+          let e = w.ended-is in
+          let r = w.rec-is in
+          let below = w.if-ended-limit.false in record {
+            scanned = scanned_is text rest (state_of w.in-Some.next) (state_of c.match-after_byte.place) whole (c.match-after_byte.rec - 1) (cond w.in-Some.ends (c.loop-byte.ended + 1) c.loop-byte.ended) c.match-after_byte.ended
+                step (ap state_of (sym w.place-is)) (omega (arith, r)) (ap (λ (b : Bool). cond b (c.loop-byte.ended + 1) c.loop-byte.ended) w.if-ends.true ∙ sym e);
+            few = omega (arith, e, below);
+            some = omega (arith, r, some);
+            most = omega (arith, r, most);
+          }
       | in-Some+else-ends w ↦
-        let step = scanned_step text (state_of c.loop-byte.place) (state_of w.in-Some.next) c.loop-byte.byte-index whole c.loop-byte.ended byte w.in-Some.ends there at before.scanned w.in-Some.ensures.goes_on w.in-Some.ensures.place w.in-Some.ensures.ends in
-        let e = w.ended-is in
-        let r = w.rec-is in record {
-          scanned = scanned_is text rest (state_of w.in-Some.next) (state_of c.match-after_byte.place) whole (c.match-after_byte.rec - 1) (cond w.in-Some.ends (c.loop-byte.ended + 1) c.loop-byte.ended) c.match-after_byte.ended
-          step (ap state_of (sym w.place-is)) (omega (arith, r)) (ap (λ (b : Bool). cond b (c.loop-byte.ended + 1) c.loop-byte.ended) w.if-ends.false ∙ sym e);
-          few = omega (arith, e, few);
-          some = omega (arith, r, some);
-          most = omega (arith, r, most);
-        }
+          let step = scanned_step text (state_of c.loop-byte.place) (state_of w.in-Some.next) c.loop-byte.byte-index whole c.loop-byte.ended byte w.in-Some.ends there at before.scanned w.in-Some.ensures.goes_on w.in-Some.ensures.place w.in-Some.ensures.ends in
+          let e = w.ended-is in
+          let r = w.rec-is in record {
+            scanned = scanned_is text rest (state_of w.in-Some.next) (state_of c.match-after_byte.place) whole (c.match-after_byte.rec - 1) (cond w.in-Some.ends (c.loop-byte.ended + 1) c.loop-byte.ended) c.match-after_byte.ended
+                step (ap state_of (sym w.place-is)) (omega (arith, r)) (ap (λ (b : Bool). cond b (c.loop-byte.ended + 1) c.loop-byte.ended) w.if-ends.false ∙ sym e);
+            few = omega (arith, e, few);
+            some = omega (arith, r, some);
+            most = omega (arith, r, most);
+          }
       | in_default+else-rec-last w ↦
-        let step = scanned_end text (state_of c.loop-byte.place) c.loop-byte.byte-index whole c.loop-byte.ended byte there at before.scanned w.in_default.ensures.stops in
-        let e = w.ended-is in
-        let r = w.rec-is in
-        let below = w.if-rec-last.false in record {
-          scanned = scanned_is text rest st.StartRecord (state_of c.match-after_byte.place) (whole + 1) (c.match-after_byte.rec - 1) 0 c.match-after_byte.ended
-          step (ap state_of (sym w.place-is)) (omega (arith, r, some)) (sym e);
-          few = omega (arith, e);
-          some = omega (arith, r);
-          most = omega (arith, r, below);
-        }
+          let step = scanned_end text (state_of c.loop-byte.place) c.loop-byte.byte-index whole c.loop-byte.ended byte there at before.scanned w.in_default.ensures.stops in
+          let e = w.ended-is in
+          let r = w.rec-is in
+          let below = w.if-rec-last.false in record {
+            scanned = scanned_is text rest st.StartRecord (state_of c.match-after_byte.place) (whole + 1) (c.match-after_byte.rec - 1) 0 c.match-after_byte.ended
+                step (ap state_of (sym w.place-is)) (omega (arith, r, some)) (sym e);
+            few = omega (arith, e);
+            some = omega (arith, r);
+            most = omega (arith, r, below);
+          }
     ]
