@@ -208,7 +208,7 @@ fn giant_records(rt: HostRuntime) -> Result<(), Fail> {
         (b"a\n\"1\n,\"\n\"\"\"\"\n", b",", 150_000, b"4 Fields"),
         (b"a\n", b"\"\n\",", 150_000, b"2 Fields"),
         (b"a,b\n1,\"\"\n\"\n\",", b"xxxx,", 30_000, b"3 Fields"),
-        (b"a\n", b"xxxxx,", 30_000, b"2 Fields"),
+        (b"a\n", b"xxxxxxxxx,", 30_000, b"2 Fields"),
         // An earlier record is at fault.
         (b"a,b\n1\n", b",", 150_000, b"2 Fields"),
         (b"a,b\n1,2\n3\n\"\"\n", b"\"\",", 150_000, b"3 Fields"),

@@ -47,20 +47,20 @@ pub(crate) fn giant_record(bytes: &[u8], limit: usize) -> Option<u64>
 // Whether a record may go on through a whole block that is full of fields. It looks at many bytes a step.
 fn may_have_giants(bytes: &[u8]) -> bool {
     for block in bytes.chunks_exact(BLOCK) {
-        if !surely_ends_a_record(block) && has_many_commas(block) {
+        if !ends_a_record_or_no_field(block) && has_many_commas(block) {
             return true;
         }
     }
     false
 }
 
-// Whether a record surely ends in this block: a line end in it stands in no quotes.
-fn surely_ends_a_record(block: &[u8]) -> bool {
+// Whether a record ends in this block, or no field does: without a quote in it, all of it stands in quotes, or none of its line ends.
+fn ends_a_record_or_no_field(block: &[u8]) -> bool {
     !block.contains(&b'"') && (block.contains(&b'\n') || block.contains(&b'\r'))
 }
 
-// Whether more than a sixth of the bytes are commas. Where fewer are, the ends of the fields, of eight bytes each, take less than one and
-// a half times the block.
+// Whether more than an eighth of the bytes are commas. Where fewer are, the ends of the fields, of eight bytes each, take no more than the
+// block.
 fn has_many_commas(block: &[u8]) -> bool {
     let mut commas: usize = 0;
     for byte in block {
@@ -68,7 +68,7 @@ fn has_many_commas(block: &[u8]) -> bool {
             commas += 1;
         }
     }
-    commas > block.len() / 6
+    commas > block.len() / 8
 }
 
 // The number, counted from 1, of the first record that has more fields than this, if it is one of the first `last` ones.
