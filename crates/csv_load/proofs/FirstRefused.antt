@@ -12,7 +12,7 @@ use Rattle.rel_base.specs.Cells.{Row}
 use Rattle.rel_base.specs.Relation.{Content, IsContent}
 use Rattle.csv_load.specs.declared.load.Loaded.TheVariants.{Read, Refused}
 use Rattle.csv_load.specs.Loaded.{ReadsAs}
-use Rattle.csv_load.specs.Header.{IsWideHeader}
+use Rattle.csv_load.specs.WideRecords.{IsWideRecord}
 use Rattle.csv_load.specs.Records.{records_of}
 use Rattle.csv_load.specs.Laws.{IsFirstRefused, RefusedAtTheFirst}
 use Rattle.csv_load.specs.Refusal.{first_refused, has_long_cell, header_refusal, row_refusal, refusal, refused_file, refused_records, IsWithin}
@@ -134,10 +134,15 @@ pub refused_header : (limits : Limits) (names : Row) (rows : List Row) (why : Wh
 unfolding refused_records
 refused_header limits names rows why e = first_refused-here (refusal limits (length names)) 1 names rows why e
 
-pub wide_refused : (limits : Limits) (records : List Row) → IsWideHeader limits.columns records → refused_records limits records ≡ Some (1, Columns)
-wide_refused limits records h =
-    ap (refused_records limits) h.records_are
-    ∙ refused_header limits h.header h.others Columns (ap (λ (b : Bool). cond b (Some Columns) (cond (has_long_cell limits.cell h.header) (Some Cell) None)) (lt-ltb limits.columns (length h.header) h.wide))
+pub wide_header : (limits : Limits) (names : Row) → limits.columns < length names → header_refusal limits names ≡ Some Columns
+wide_header limits names wide = ap (λ (b : Bool). cond b (Some Columns) (cond (has_long_cell limits.cell names) (Some Cell) None)) (lt-ltb limits.columns (length names) wide)
+
+pub wide_refused : (limits : Limits) (records : List Row) → IsWideRecord limits.columns records 1 → refused_records limits records ≡ Some (1, Columns)
+wide_refused limits records h = by h.earlier h.number h.records_are
+  where
+    by : (earlier : List Row) → 1 ≡ length earlier + 1 → records ≡ earlier ++ (h.row ∷ h.later) → refused_records limits records ≡ Some (1, Columns)
+    by [] n is = ap (refused_records limits) is ∙ refused_header limits h.row h.later Columns (wide_header limits h.row h.wide)
+    by (first ∷ rows) n is = absurd (omega (arith, n))
 
 pub refused_later : (limits : Limits) (names : Row) (rows : List Row) → header_refusal limits names ≡ None
     → refused_records limits (names ∷ rows) ≡ first_refused (refusal limits (length names)) 2 rows
@@ -205,6 +210,23 @@ pub refuse_row : (limits : Limits) (all : List Row) (names : Row) (rows left : L
     → IsReadTo limits all names rows left → left ≡ row ∷ rest
     → row_refusal limits (length names) (length rows + 2) row ≡ Some why → refused_records limits all ≡ Some (length rows + 2, why)
 refuse_row limits all names rows left row rest why read is refuses = rw is at read.refused ∙ refused_row limits (length names) (length rows) row rest why refuses
+
+-- two lists that start with as many rows leave the same
+same_rest : (rows others left rest : List Row) → length rows ≡ length others → rows ++ left ≡ others ++ rest → left ≡ rest
+same_rest [] [] left rest n e = e
+same_rest [] (other ∷ others) left rest n e = absurd (omega (arith, n))
+same_rest (row ∷ rows) [] left rest n e = absurd (omega (arith, n))
+same_rest (row ∷ rows) (other ∷ others) left rest n e = same_rest rows others left rest (omega (arith, n)) cc
+
+-- the next record is too wide, where the header is not
+pub refuse_wide : (limits : Limits) (all : List Row) (names : Row) (rows left : List Row) → IsReadTo limits all names rows left
+    → length names ≤ limits.columns → IsWideRecord limits.columns all (length rows + 2) → refused_records limits all ≡ Some (length rows + 2, Fields)
+refuse_wide limits all names rows left read narrow h =
+    let number = h.number in
+    let wide = h.wide in
+    let same : left ≡ h.row ∷ h.later = same_rest (names ∷ rows) h.earlier left (h.row ∷ h.later) (omega (arith, number)) (sym read.records ∙ h.records_are) in
+    let other : length h.row == length names ≡ false = ne_eqb (length h.row) (length names) (omega (arith, narrow, wide)) in
+    refuse_row limits all names rows left h.row h.later Fields read same (rw other refl)
 
 -- nothing is left, and c has all names and rows
 pub record IsReadWhole (limits : Limits) (all : List Row) (c : Content) : Type 0 where

@@ -1,4 +1,4 @@
 pub mod LeadingMarks
 pub mod Steps
 pub mod FirstRefused
-pub mod HeaderWidth
+pub mod WideRecords

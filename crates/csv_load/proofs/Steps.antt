@@ -144,7 +144,7 @@ pub record TakesFirst (s s2 : State) (before after : Option (List ℕ)) (fields 
   pub between : ends_at_end s2 ≡ false
   pub some : 0 < length fields
 
-takes_first : (s : State) (xs : List ℕ) (p : Read) → ends_at_end s ≡ false → next_record default_config s [] [] xs ≡ Some p
+pub takes_first : (s : State) (xs : List ℕ) (p : Read) → ends_at_end s ≡ false → next_record default_config s [] [] xs ≡ Some p
     → TakesFirst s p.1 (Some xs) (Some p.2) p.0
 unfolding records_from
 takes_first s xs p between e =

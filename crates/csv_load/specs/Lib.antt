@@ -1,5 +1,5 @@
 pub mod Records
-pub mod Header
+pub mod WideRecords
 pub mod Refusal
 pub mod Unread
 pub mod Loaded

@@ -1,7 +1,6 @@
 //! Files of comma-separated values: their records, and the relation that they hold or the rule that refuses them.
 #![tactic(auto)]
 
-mod header_width;
 pub mod laws;
 mod load;
 mod marks;
@@ -9,6 +8,7 @@ mod record_reader;
 mod refusal;
 #[cfg(test)]
 mod tests;
+mod wide_records;
 
 pub use load::{Loaded, read_relation, records};
 pub use record_reader::RecordReader;

@@ -3,9 +3,9 @@ ghost use Rattle.std.specs.Prelude.{◌≡◌, IfOk};
 ghost use Rattle.csv_load.specs.Records.{records_of};
 ghost use Rattle.csv_load.specs.Loaded.{ReadsAs};
 
-use crate::header_width::has_wide_header;
 use crate::record_reader::RecordReader;
 use crate::refusal::{header_refusal, row_refusal};
+use crate::wide_records::{giant_record, has_wide_header};
 use csv::ByteRecord;
 use rel_base::{Limits, Relation, Row, Why};
 use std::alloc::{AllocError, Global};
@@ -73,12 +73,22 @@ fn try_read(alloc: Global, bytes: &[u8], limits: &Limits) -> Result<Loaded, Allo
     }
     let names = Row::of(record.clone()?);
     let mut relation = Relation::without_rows(alloc, names)?;
-    while reader.next(&mut record)? {
+    // Nor does a later record that is too wide take memory for its fields.
+    let giant = giant_record(bytes, limits.columns as usize);
+    loop {
         let rec = relation.len() as u64 + 2;
+        if giant == Some(rec) {
+            return Ok(Loaded::Refused {
+                rec,
+                why: Why::Fields,
+            });
+        }
+        if !reader.next(&mut record)? {
+            return Ok(Loaded::Read(relation));
+        }
         if let Some(why) = row_refusal(limits, width, rec, &record) {
             return Ok(Loaded::Refused { rec, why });
         }
         relation = relation.with_record(&record)?;
     }
-    Ok(Loaded::Read(relation))
 }

@@ -173,3 +173,72 @@ fn headers_at_the_standard_limit(rt: HostRuntime) -> Result<(), Fail> {
     assert_eq!(rt; out.as_slice(), b"1 Columns".as_slice());
     Ok(())
 }
+
+// A start, and then a piece so many times.
+fn with_pieces_once(
+    alloc: Global,
+    start: &[u8],
+    piece: &[u8],
+    count: usize,
+) -> Result<Vec<u8>, AllocError> {
+    let mut text = Vec::from_slice(alloc, start)?;
+    for _ in 0..count {
+        text.extend_from_slice(piece)?;
+    }
+    Ok(text)
+}
+
+fn with_pieces(
+    alloc: Global,
+    start: &[u8],
+    piece: &[u8],
+    count: usize,
+) -> Result<Vec<u8>, AllocError> {
+    with_pieces_once(alloc, start, piece, count).or_else(|_| with_pieces_once(
+        alloc, start, piece, count,
+    ))
+}
+
+#[test]
+fn giant_records(rt: HostRuntime) -> Result<(), Fail> {
+    let limits = Limits::standard();
+    let cases: [(&[u8], &[u8], usize, &[u8]); 8] = [
+        (b"a\n", b",", 1_200_000, b"2 Fields"),
+        (b"a\r\n\r\n1\r\n", b",", 150_000, b"3 Fields"),
+        (b"a\n\"1\n,\"\n\"\"\"\"\n", b",", 150_000, b"4 Fields"),
+        (b"a\n", b"\"\n\",", 150_000, b"2 Fields"),
+        (b"a,b\n1,\"\"\n\"\n\",", b"xxxx,", 30_000, b"3 Fields"),
+        (b"a\n", b"xxxxxxxxx,", 30_000, b"2 Fields"),
+        // An earlier record is at fault.
+        (b"a,b\n1\n", b",", 150_000, b"2 Fields"),
+        (b"a,b\n1,2\n3\n\"\"\n", b"\"\",", 150_000, b"3 Fields"),
+    ];
+    for (start, piece, count, wanted) in cases {
+        let text = with_pieces(rt.alloc(), start, piece, count)?;
+        assert_eq!(rt;
+            shown(rt.alloc(), text.as_slice(), &limits)?.as_slice(),
+            wanted
+        );
+    }
+    Ok(())
+}
+
+// The third record of many has so many commas, and the header one.
+fn with_third(alloc: Global, commas: usize) -> Result<Vec<u8>, AllocError> {
+    let start = with_pieces(alloc, b"a,b\n\"\",\"\n\"\n", b",", commas)?;
+    with_pieces(alloc, start.as_slice(), b"\n\"\",", 20_000)
+}
+
+#[test]
+fn widths_among_quotes(rt: HostRuntime) -> Result<(), Fail> {
+    let limits = Limits::standard();
+    let text = with_third(rt.alloc(), 1)?;
+    let out = shown(rt.alloc(), text.as_slice(), &limits)?;
+    assert_eq!(rt; out.len(), 40_009);
+    for commas in [2, 127, 128, 150_000] {
+        let text = with_third(rt.alloc(), commas)?;
+        let out = shown(rt.alloc(), text.as_slice(), &limits)?;
+        assert_eq!(rt; out.as_slice(), b"3 Fields".as_slice());
+    }
+    Ok(())
+}

@@ -1,19 +1,21 @@
--- Records whose first one is too wide, and the bytes of a record one by one.
-use Rattle.std.specs.Prelude.{◌≡◌, ◌<◌, ℕ, Bool, true, false, List, ◌∷◌, length}
+-- Records that are too wide, and the bytes of a record one by one.
+use Rattle.std.specs.Prelude.{◌≡◌, ◌<◌, ◌+◌, ◌++◌, ℕ, Bool, true, false, List, ◌∷◌, length}
 use Rattle.csv.specs.declared.parser.State.{State}
 use Rattle.csv.specs.declared.parser.State.TheVariants as st
 use Rattle.csv.specs.declared.parser.Action.{Action}
 use Rattle.csv.specs.declared.parser.Action.TheVariants as act
 use Rattle.rel_base.specs.Cells.{Row}
-use Rattle.csv_load.specs.declared.header_width.Place.{Place}
-use Rattle.csv_load.specs.declared.header_width.Place.TheVariants as place
+use Rattle.csv_load.specs.declared.wide_records.Place.{Place}
+use Rattle.csv_load.specs.declared.wide_records.Place.TheVariants as place
 
--- the first record has more fields than the limit
-pub record IsWideHeader (limit : ℕ) (records : List Row) : Type 0 where
-  pub header : Row
-  pub others : List Row
-  pub records_are : records ≡ header ∷ others
-  pub wide : limit < length header
+-- the record with this number, counted from 1, has more fields than the limit
+pub record IsWideRecord (limit : ℕ) (records : List Row) (rec : ℕ) : Type 0 where
+  pub earlier : List Row
+  pub row : Row
+  pub later : List Row
+  pub records_are : records ≡ earlier ++ (row ∷ later)
+  pub number : rec ≡ length earlier + 1
+  pub wide : limit < length row
 
 -- the state that a reader of records has at a place
 abbrev pub state_of : Place → State
