@@ -22,7 +22,7 @@ filter_filter p q (x ∷ xs) = by (q x) (filter_filter p q xs)
     by true e = ap (λ (ys : List ℕ). cond (p x) (x ∷ ys) ys) e ∙ ap (λ b. cond b (x ∷ filter (λ y. p y && q y) xs) (filter (λ y. p y && q y) xs)) (and-true (p x))
     by false e = e ∙ ap (λ b. cond b (x ∷ filter (λ y. p y && q y) xs) (filter (λ y. p y && q y) xs)) (and-false (p x))
 
-none_passes : (p : ℕ → Bool) (xs : List ℕ) → ((x : ℕ) → Listed x xs → p x ≡ false) → filter p xs ≡ []
+pub none_passes : (p : ℕ → Bool) (xs : List ℕ) → ((x : ℕ) → Listed x xs → p x ≡ false) → filter p xs ≡ []
 none_passes p [] f = refl
 none_passes p (x ∷ xs) f = ap (λ b. cond b (x ∷ filter p xs) (filter p xs)) (f x (inl refl)) ∙ none_passes p xs (λ y h. f y (inr h))
 

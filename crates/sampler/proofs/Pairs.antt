@@ -117,18 +117,3 @@ module _ (s : CodeTable) (c : ℕ) (within : c < length s.codes) where
       let up = p.before in
       Listed-grouped same (agree_same s (with empty c)) (live_numbers s) i h
       (two_of (group i) i j (Listed-filter (same i) i (live_numbers s) h (codes-same i i refl)) (Listed-filter (same i) j (live_numbers s) g (codes-same i j p.same)) (λ e. absurd (omega arith)))
-
-  -- two rows side by side in a group of the partition are a pair of distance 1
-  pub side-by-side : (groups : List (List ℕ)) → groups ≡ stripped s (with empty c) → (k place : ℕ) → k < length groups → 0 < place → place < length (get_or groups k []) → IsPair s c 1 (get_or (get_or groups k []) (place - 1) 0) (get_or (get_or groups k []) place 0)
-  side-by-side groups e k place l positive h =
-      let g = get_or groups k [] in
-      let i = get_or g (place - 1) 0 in
-      let of = of-groups g i (subst (Listed g) e (Listed-get_or groups k [] l)) (Listed-get_or g (place - 1) 0 (omega arith)) in
-      let to : place - 1 + 1 ≡ place = omega arith in
-      let long = ap length of.own in
-      ahead-pair 1 i (get_or g place 0) of.live (omega arith) (record {
-        place = place - 1;
-        within = omega arith;
-        first = ap (λ (x : List ℕ). get_or x (place - 1) 0) (sym of.own);
-        second = ap (λ n. get_or (group i) n 0) to ∙ ap (λ (x : List ℕ). get_or x place 0) (sym of.own);
-      })

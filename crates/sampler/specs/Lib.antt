@@ -1,3 +1,4 @@
 pub mod Agreeing
 pub mod Partners
+pub mod Spread
 pub mod Window

@@ -11,10 +11,10 @@ use row_log::RowLog;
 use std::alloc::{AllocError, Global};
 use std::thread::Threads;
 
-// About so many pairs are for each column.
+// So many pairs at most are for each column.
 const NEIGHBOURS: u32 = 1 << 13;
 
-// What neighbours in the groups by a column agree on, spread over all of them.
+// What neighbours on a column agree on, spread over all of them.
 fn sampled_in(
     alloc: Global,
     rows: &RowLog,
@@ -30,11 +30,11 @@ fn sampled_in(
     Ok(found)
 }
 
-/// What neighbours agree on, rows in the groups by each column in turn: some eight thousand pairs a column, spread over its groups
+/// What neighbours agree on, on each column in turn: some eight thousand pairs a column at most, spread evenly over the rows
 /// (`neighbours`).
 ///
-/// It is where agree sets are sought before any candidate is tried. It takes the time of the columns' partitions, and a step a pair and
-/// column.
+/// It is where agree sets are sought before any candidate is tried. It makes no partition: it takes a step a row and column, a step a
+/// pair and column to compare, and four bytes a code of one column at a time.
 pub fn sampled(
     alloc: Global,
     rows: &RowLog,

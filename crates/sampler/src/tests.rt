@@ -1,4 +1,4 @@
-// Windows beside all pairs of drawn rows, neighbours, and what pairs agree on.
+// Windows and neighbours beside all pairs of drawn rows, and what pairs agree on.
 ghost use Rattle.std.specs.Prelude.{◌<◌};
 
 use crate::{neighbours, push_witnesses, sampled, sampled_by, window};
@@ -96,9 +96,69 @@ fn windows_of_a_few_rows(rt: HostRuntime) -> Result<(), Fail> {
 fn neighbours_are_spread_over_the_groups(rt: HostRuntime) -> Result<(), Fail> {
     let snapshot = FEW.snapshot(rt.alloc())?;
     let all = neighbours(rt.alloc(), &snapshot, 0, 8)?;
-    assert!(rt; are_of(all.as_slice(), &[(1, 2), (2, 6), (6, 8), (3, 5)]));
+    assert!(rt; are_of(all.as_slice(), &[(1, 2), (3, 5), (2, 6), (6, 8)]));
     let few = neighbours(rt.alloc(), &snapshot, 0, 2)?;
-    assert!(rt; are_of(few.as_slice(), &[(1, 2), (3, 5)]));
+    assert!(rt; are_of(few.as_slice(), &[(1, 2), (2, 6)]));
+    Ok(())
+}
+
+// Whether these pairs are some of those.
+fn are_among(pairs: &[(RowNo, RowNo)], those: &[(RowNo, RowNo)]) -> bool {
+    pairs.iter().all(|pair| those.contains(pair))
+}
+
+#[test]
+fn neighbours_are_all_pairs_where_they_are_few(rt: HostRuntime) -> Result<(), Fail> {
+    for seed in 0..40 {
+        let rows = Rows::drawn(seed);
+        let snapshot = rows.snapshot(rt.alloc())?;
+        let all = rows.pairs(rt.alloc(), 1)?;
+        let found = neighbours(rt.alloc(), &snapshot, 0, 8)?;
+        assert!(rt; are_among(found.as_slice(), all.as_slice()));
+        assert!(rt; are_among(all.as_slice(), found.as_slice()));
+        assert!(rt; found.len() == all.len());
+    }
+    Ok(())
+}
+
+#[test]
+fn neighbours_are_half_the_count_at_least_where_they_are_many(rt: HostRuntime) -> Result<(), Fail> {
+    for seed in 0..40 {
+        let rows = Rows::drawn(seed);
+        let snapshot = rows.snapshot(rt.alloc())?;
+        let all = rows.pairs(rt.alloc(), 1)?;
+        for count in 1..8u32 {
+            let found = neighbours(rt.alloc(), &snapshot, 0, count)?;
+            let most = (count as usize).min(all.len());
+            let least = if all.len() > most {
+                most.div_ceil(2)
+            } else {
+                most
+            };
+            assert!(rt; are_among(found.as_slice(), all.as_slice()));
+            assert!(rt; found.len() >= least && found.len() <= most);
+        }
+    }
+    Ok(())
+}
+
+#[test]
+fn neighbours_are_spread_over_many_rows(rt: HostRuntime) -> Result<(), Fail> {
+    let alloc = rt.alloc();
+    let mut columns = Vec::new(alloc);
+    columns.push(Codes::of(vec![in alloc; 5; 100]?))?;
+    let snapshot = Snapshot::of(columns, vec![in alloc; true; 100]?, RowNo::of(101));
+    let found = neighbours(alloc, &snapshot, 0, 8)?;
+    let wanted = [
+        (1, 2),
+        (17, 18),
+        (33, 34),
+        (49, 50),
+        (65, 66),
+        (81, 82),
+        (97, 98),
+    ];
+    assert!(rt; are_of(found.as_slice(), &wanted));
     Ok(())
 }
 

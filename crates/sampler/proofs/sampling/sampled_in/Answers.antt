@@ -11,4 +11,4 @@ returns c =
     let s = c.args.snapshot.now in
     let pairs = c.in_ok-pairs.pairs.items in
     subst (All (IsNear r s)) (sym (c.in_ok-push_witnesses.ensures.exactly ∙ ap (λ (ws : List Witness). ws ++ all_agreeing r c.as_slice.result.now) c.new-found.ensures.items))
-    (subst (λ (ps : List _). All (IsNear r s) (all_agreeing r ps)) (sym c.as_slice.ensures.value) (agreeing_near r s c.args.column pairs c.requires c.in_ok-pairs.ensures))
+    (subst (λ (ps : List _). All (IsNear r s) (all_agreeing r ps)) (sym c.as_slice.ensures.value) (agreeing_near r s c.args.column pairs c.requires c.in_ok-pairs.ensures.neighbours))

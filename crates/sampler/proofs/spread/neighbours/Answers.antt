@@ -1,29 +1,39 @@
-use Rattle.std.proofs.Common.{◌≡◌, ◌∙◌, ◌-◌, ℕ, List, [], sym, ap, subst, arith, length, get_or}
-use Rattle.std.proofs.lemmas.List.{get_or_default}
-use Rattle.std.proofs.lemmas.List.Elements.{All-push}
-use Rattle.sampler.specs.Window.{IsPair, AreNeighbours}
-use Rattle.sampler.proofs.Pairs.{side-by-side}
+use Rattle.std.proofs.Common.{◌≡◌, ◌<◌, ◌-◌, ◌∙◌, ℕ, List, sym, ap, arith, get_or}
+use Rattle.rel_base.specs.CodeTable.{code_at, live_at}
+use Rattle.sampler.proofs.Among.{neighbours_more}
+use Rattle.sampler.proofs.Lasts.{last_dead, last_live, pair_of_last}
 use Rattle.sampler.proofs.spread.neighbours.Goals as goal
-use Rattle.sampler.proofs.spread.neighbours.Goals.{then-passed-eq0+in_ok-push, else-passed-eq0}
+use Rattle.sampler.proofs.spread.neighbours.Goals.{then-is_live+in_ok-before+then-before-gt0+in_ok-offer, then-is_live+in_ok-before+else-before-gt0, else-is_live}
 
-pub loop-place-preserved : goal.loop-place-preserved
-loop-place-preserved c =
+pub loop-number-preserved : goal.loop-number-preserved
+loop-number-preserved c =
     let s = c.args.snapshot.now in let column = c.args.column in
-    let groups : List (List ℕ) = c.in_ok-partition.partition in
-    let g : List ℕ = c.group-group.result.now in
-    let is : g ≡ get_or groups c.loop-k.k [] = c.group-group.ensures in
-    let count = c.group_count-k-end.ensures in let k = c.loop-k-test.true in let long = ap length is in
-    let first = c.loop-place.auto.place in let last = c.loop-place-test.true in
-    let pair : IsPair s column 1 (get_or g (c.loop-place.place - 1) 0) (get_or g c.loop-place.place 0) =
-    subst (λ (x : List ℕ). IsPair s column 1 (get_or x (c.loop-place.place - 1) 0) (get_or x c.loop-place.place 0)) (sym is)
-    (side-by-side s column c.requires.column groups c.in_ok-partition.ensures.value c.loop-k.k c.loop-place.place (omega arith) (omega arith) (omega arith)) in
-    let at : (i j : ℕ) → i ≡ get_or g (c.loop-place.place - 1) i → j ≡ get_or g c.loop-place.place j → IsPair s column 1 i j =
-    λ i j e f. subst (λ (x : ℕ). IsPair s column 1 x j) (get_or_default g (c.loop-place.place - 1) 0 i (omega arith) ∙ sym e)
-    (subst (λ (y : ℕ). IsPair s column 1 (get_or g (c.loop-place.place - 1) 0) y) (get_or_default g c.loop-place.place 0 j (omega arith) ∙ sym f) pair) in
-    elim c.if-passed-eq0.branch [
-      | then-passed-eq0+in_ok-push w ↦ rw w.pairs-is
-          (subst (λ (pairs : List (ℕ × ℕ)). AreNeighbours s column pairs) (sym w.in_ok-push.ensures.items)
-          (All-push (λ (p : ℕ × ℕ). IsPair s column 1 p.0 p.1) c.loop-place.pairs.items (w.index-group-place.result, w.index-group-place-then-passed-eq0.result) c.loop-place.invariant
-          (let a = w.index-group-place.is in let b = w.index-group-place-then-passed-eq0.is in at w.index-group-place.result w.index-group-place-then-passed-eq0.result a b)))
-      | else-passed-eq0 w ↦ rw w.pairs-is c.loop-place.invariant
+    let n = c.loop-number.number in
+    let first = c.loop-number.auto.number in let last = c.loop-number-test.true in
+    let to = c.to.ensures.value in let end = c.number-number-end.ensures.value in
+    let inside : n < s.to = omega arith in
+    let positive : 0 < n = omega arith in
+    let row = c.of-row.ensures in
+    let flag = ap (live_at s) (sym row) ∙ sym c.is_live.ensures in
+    let was = c.loop-number.invariant in
+    let old = c.loop-number.last.items in
+    elim c.if-is_live.branch [
+      | then-is_live+in_ok-before+then-before-gt0+in_ok-offer w ↦
+          let live = flag ∙ w.if-is_live.true in
+          let code : code_at s n column ≡ w.get.result = sym (w.get.ensures ∙ ap (λ (codes : List ℕ). get_or codes (n - 1) 0) c.column-codes.ensures.value) in
+          let pair = pair_of_last s column n old w.get.result w.in_ok-before.before w.of.result c.of-row.result was.last inside live code w.in_ok-before.ensures.before w.if-before-gt0.true w.of.ensures row in
+          rw (w.last-is, w.spread-is) (record {
+            last = last_live s column n old w.noted.new.last.items w.get.result was.last positive live code w.in_ok-before.ensures.noted;
+            neighbours = neighbours_more s column c.loop-number.spread.pairs.items w.offer.new.self.pairs.items w.of.result c.of-row.result was.neighbours pair w.in_ok-offer.ensures.among;
+            few = w.in_ok-offer.ensures.few was.few;
+          })
+      | then-is_live+in_ok-before+else-before-gt0 w ↦
+          let live = flag ∙ w.if-is_live.true in
+          let code : code_at s n column ≡ w.get.result = sym (w.get.ensures ∙ ap (λ (codes : List ℕ). get_or codes (n - 1) 0) c.column-codes.ensures.value) in
+          rw (w.last-is, w.spread-is) (record {
+            last = last_live s column n old w.noted.new.last.items w.get.result was.last positive live code w.in_ok-before.ensures.noted;
+            neighbours = was.neighbours;
+            few = was.few;
+          })
+      | else-is_live w ↦ rw (w.last-is, w.spread-is) (record { last = last_dead s column n old was.last (flag ∙ w.if-is_live.false); neighbours = was.neighbours; few = was.few })
     ]
