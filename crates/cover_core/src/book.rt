@@ -34,8 +34,8 @@ use crate::outdated::Outdated;
 use crate::renewal::renewed_after;
 use crate::searcher::Searcher;
 use crate::searching::{first_drawable, first_unfinished, move_both_back};
-use crate::sought::{is_calm, rank_of};
-use crate::waiting::{Sizes, Waiting, count, mark_each, of_sizes, worth_comparing};
+use crate::sought::{Wanted, is_calm, rank_of};
+use crate::waiting::{Sizes, Waiting, count, mark_each, worth_comparing};
 use candidate_cover::{CandidateCover, Draft, Marking};
 use cover_steps::evidence::{Evidence, News, news_of};
 use cover_steps::listed::listed;
@@ -579,8 +579,8 @@ impl Book {
         ensures sound { Sound self.new }
     {
         let alloc = self.alloc;
-        let mut list = judges.sought(alloc, draft, &self.searcher.order, size)?;
-        list.sort_unstable_by_key(|waiting| !waiting.places);
+        let wanted = Wanted::Left { draft, size };
+        let list = judges.collected(alloc, &wanted, &self.searcher.order)?;
         let snapshot = self.snapshot.clone()?;
         let (rows, stores) = (&self.rows, &mut self.searcher.stores);
         let asked = list.as_slice();
@@ -667,7 +667,12 @@ impl Book {
     {
         let next = self.rows.next();
         let alloc = self.alloc;
-        let list = of_sizes(alloc, &self.candidates, &self.searcher.order, sizes, next)?;
+        let wanted = Wanted::Listed {
+            candidates: &self.candidates,
+            sizes,
+            next,
+        };
+        let list = judges.collected(alloc, &wanted, &self.searcher.order)?;
         let snapshot = self.snapshot.clone()?;
         let (rows, stores) = (&self.rows, &mut self.searcher.stores);
         let judged = judged_by_parts(

@@ -5,13 +5,13 @@ ghost use Rattle.rel_base.specs.CodeTable.{CodeTable};
 ghost use Rattle.rel_base.specs.RowState.{RowState};
 ghost use Rattle.cover_steps.specs.Evidences.{IsEvidence};
 ghost use Rattle.cover_core.specs.Judged.{IsAsked, AreVerdicts};
-ghost use Rattle.cover_core.specs.Waiting.{IsSought};
+ghost use Rattle.cover_core.specs.Waiting.{IsWanted};
 ghost use Rattle.candidate_cover.specs.Cands.{width};
 ghost use Rattle.cover_steps.specs.NewLists.{IsLeftBy};
 ghost use Rattle.validator.specs.Stores.{AreOf};
 ghost use denote.Param.Send.{IsSync};
 
-use crate::sought::{sought, sought_by};
+use crate::sought::{Wanted, collected, collected_by};
 use crate::waiting::{Waiting, count};
 use candidate_cover::{CandidateCover, Draft};
 use cover_steps::evidence::Evidence;
@@ -151,16 +151,15 @@ pub(crate) trait Judges {
         requires ready { ready }
         ensures { IfOk result (λ found. All (IsEvidence rows.now) found.items) };
 
-    // Left sides of all targets with so many columns that a draft leaves.
-    fn sought(
+    // What is wanted of all targets, in the order of verdicts.
+    fn collected(
         &self,
         alloc: Global,
-        draft: &Draft,
+        wanted: &Wanted<'_>,
         order: &Order,
-        size: u8,
     ) -> Result<Vec<Waiting>, AllocError>
         requires ready { ready }
-        ensures { IfOk result (λ list. All (IsSought draft.now.width) list.items) };
+        ensures { IfOk result (λ list. All (IsWanted wanted.now) list.items) };
 
     // What a draft with so many new agree sets leaves of the candidates.
     fn drafted(
@@ -193,14 +192,13 @@ impl Judges for Alone {
         judged(alloc, rows, snapshot, list, &mut stores.own)
     }
 
-    fn sought(
+    fn collected(
         &self,
         alloc: Global,
-        draft: &Draft,
+        wanted: &Wanted<'_>,
         order: &Order,
-        size: u8,
     ) -> Result<Vec<Waiting>, AllocError> {
-        sought(alloc, draft, order, size, &AtomicUsize::new(0))
+        collected(alloc, wanted, order, &AtomicUsize::new(0))
     }
 
     fn sampled(
@@ -258,15 +256,17 @@ impl<'a, R: Threads + Sync> Judges for Beside<'a, R> {
         Ok(verdicts)
     }
 
-    fn sought(
+    fn collected(
         &self,
         alloc: Global,
-        draft: &Draft,
+        wanted: &Wanted<'_>,
         order: &Order,
-        size: u8,
     ) -> Result<Vec<Waiting>, AllocError> {
         let taken = AtomicUsize::new(0);
-        sought_by(self.rt, alloc, draft, order, size, &taken, self.workers)
+        if wanted.are_few() {
+            return collected(alloc, wanted, order, &taken);
+        }
+        collected_by(self.rt, alloc, wanted, order, &taken, self.workers)
     }
 
     fn sampled(

@@ -1,12 +1,12 @@
-// Left sides that are made from evidence to be validated, without a book that lists them.
-ghost use Rattle.std.specs.Prelude.{◌≤◌, OnOk, IfOk, IfSome};
+// What is to be validated: left sides that are made from evidence, without a book that lists them, or the candidates of a book.
+ghost use Rattle.std.specs.Prelude.{◌≡◌, ◌≤◌, OnOk, IfOk, IfSome};
 ghost use Rattle.std.specs.List.{All};
 ghost use Rattle.col_set.specs.Target.{IsColumnTarget};
-ghost use Rattle.cover_core.specs.Waiting.{IsSought};
+ghost use Rattle.cover_core.specs.Waiting.{IsSought, IsWanted, width_of};
 ghost use denote.Param.Send.{IsSync};
 
-use crate::waiting::Waiting;
-use candidate_cover::{Cand, Draft};
+use crate::waiting::{Sizes, Waiting, count, push_waiting};
+use candidate_cover::{Cand, CandidateCover, Draft};
 use rel_base::{MOST_COLUMNS, RowNo, Target};
 use std::alloc::{AllocError, Global};
 use std::sync::atomic::{AtomicUsize, Ordering};
@@ -18,6 +18,9 @@ const NOWHERE: usize = usize::MAX;
 
 // Of so many left sides with as many columns most candidates have no more.
 const MANY_SOUGHT: usize = 1 << 18;
+
+// So few candidates are looked through in less time than a thread takes to start.
+const FEW_CANDIDATES: usize = 1 << 12;
 
 // So few new witnesses leave candidates that are made in no time.
 const FEW_NEWS: usize = 1 << 13;
@@ -34,6 +37,61 @@ fn target_at(place: usize, columns: u8) -> Option<Target>
         Some(Target::Col((place - 1) as u8))
     } else {
         None
+    }
+}
+
+// What is to be validated next.
+pub(crate) enum Wanted<'a> {
+    // The left sides with so many columns that a draft leaves.
+    Left { draft: &'a Draft, size: u8 },
+    // The candidates of these sizes that are unfinished, as rows up to a number tell.
+    Listed {
+        candidates: &'a CandidateCover,
+        sizes: Sizes,
+        next: RowNo,
+    },
+}
+
+impl<'a> Wanted<'a> {
+    // How many columns there are.
+    fn columns(&self) -> u8
+        ensures width { result ≡ width_of self.now }
+        ensures bound { result ≤ MOST_COLUMNS }
+    {
+        match self {
+            Wanted::Left { draft, .. } => draft.columns(),
+            Wanted::Listed { candidates, .. } => candidates.columns(),
+        }
+    }
+
+    // Whether one thread has them sooner than another is started.
+    pub(crate) fn are_few(&self) -> bool {
+        match self {
+            Wanted::Left { .. } => false,
+            Wanted::Listed { candidates, .. } => count(candidates) < FEW_CANDIDATES,
+        }
+    }
+
+    // Adds those of a target.
+    fn push(
+        &self,
+        alloc: Global,
+        order: &Order,
+        target: Target,
+        list: &mut Vec<Waiting>,
+    ) -> Result<(), AllocError>
+        requires target { IsColumnTarget (width_of self.now) target }
+        requires wanted { All (IsWanted self.now) list.old.items }
+        ensures { OnOk result (All (IsWanted self.now) list.new.items) }
+    {
+        match self {
+            Wanted::Left { draft, size } => push_sought(alloc, draft, order, target, *size, list),
+            Wanted::Listed {
+                candidates,
+                sizes,
+                next,
+            } => push_waiting(alloc, candidates, target, order, *sizes, *next, list),
+        }
     }
 }
 
@@ -66,42 +124,41 @@ fn push_sought(
     Ok(())
 }
 
-// The left sides with so many columns that a draft leaves, of targets that it takes one after another until all are taken. Others may take
-// some beside it.
-pub(crate) fn sought(
+// What is wanted of targets that it takes one after another until all are taken. Others may take some beside it. Those with the same
+// columns at their beginning stand next to each other.
+pub(crate) fn collected(
     alloc: Global,
-    draft: &Draft,
+    wanted: &Wanted<'_>,
     order: &Order,
-    size: u8,
     taken: &AtomicUsize,
 ) -> Result<Vec<Waiting>, AllocError>
-    ensures { IfOk result (λ list. All (IsSought draft.now.width) list.items) }
+    ensures { IfOk result (λ list. All (IsWanted wanted.now) list.items) }
 {
-    let columns = draft.columns();
+    let columns = wanted.columns();
     let mut list = Vec::new(alloc);
     for _ in 0..=columns {
         let Some(target) = target_at(taken.fetch_add(1, Ordering::SeqCst), columns) else {
             break;
         };
-        push_sought(alloc, draft, order, target, size, &mut list)?;
+        wanted.push(alloc, order, target, &mut list)?;
     }
+    list.sort_unstable_by_key(|waiting| (waiting.cand.left.len(), !waiting.places));
     Ok(list)
 }
 
-// What `sought` finds for all targets, by so many threads at most. In which order it stands is left to chance.
-pub(crate) fn sought_by<R: Threads + Sync>(
+// What `collected` finds for all targets, by so many threads at most, each of which puts what it finds in order.
+pub(crate) fn collected_by<R: Threads + Sync>(
     rt: &R,
     alloc: Global,
-    draft: &Draft,
+    wanted: &Wanted<'_>,
     order: &Order,
-    size: u8,
     taken: &AtomicUsize,
     workers: u8,
 ) -> Result<Vec<Waiting>, AllocError>
-    ensures { IfOk result (λ list. All (IsSought draft.now.width) list.items) }
+    ensures { IfOk result (λ list. All (IsWanted wanted.now) list.items) }
 {
     if workers < 2 {
-        return sought(alloc, draft, order, size, taken);
+        return collected(alloc, wanted, order, taken);
     }
     let few = workers / 2;
     let others = workers - few;
@@ -109,16 +166,18 @@ pub(crate) fn sought_by<R: Threads + Sync>(
         rt,
         move || -> Result<Vec<Waiting>, AllocError>
             requires { IsSync R.row }
-            ensures { IfOk result (λ list. All (IsSought draft.entry.now.width) list.items) }
-        { sought_by(rt, alloc, draft, order, size, taken, few) },
+            ensures { IfOk result (λ list. All (IsWanted wanted.entry.now) list.items) }
+        { collected_by(rt, alloc, wanted, order, taken, few) },
         move || -> Result<Vec<Waiting>, AllocError>
             requires { IsSync R.row }
-            ensures { IfOk result (λ list. All (IsSought draft.entry.now.width) list.items) }
-        { sought_by(rt, alloc, draft, order, size, taken, others) },
+            ensures { IfOk result (λ list. All (IsWanted wanted.entry.now) list.items) }
+        { collected_by(rt, alloc, wanted, order, taken, others) },
     );
     let mut list = one?;
     let mut more = other?;
     list.append(&mut more)?;
+    // Two runs in order: this sort puts them together in time by their length.
+    list.sort_by_key(|waiting| (waiting.cand.left.len(), !waiting.places))?;
     Ok(list)
 }
 

@@ -1,5 +1,5 @@
 // The candidates of a pass.
-ghost use Rattle.std.specs.Prelude.{◌≡◌, OnOk, IfOk};
+ghost use Rattle.std.specs.Prelude.{◌≡◌, OnOk};
 ghost use Rattle.std.specs.List.{All};
 ghost use Rattle.col_set.specs.Target.{IsColumnTarget};
 ghost use Rattle.candidate_cover.specs.Cands.{width};
@@ -35,36 +35,8 @@ pub(crate) fn count(candidates: &CandidateCover) -> usize {
     count
 }
 
-// The unfinished candidates with so many columns. Those with the same columns at their beginning stand next to each other.
-pub(crate) fn of_sizes(
-    alloc: Global,
-    candidates: &CandidateCover,
-    order: &Order,
-    sizes: Sizes,
-    next: RowNo,
-) -> Result<Vec<Waiting>, AllocError>
-    ensures { IfOk result (λ list. All (IsWaiting candidates.now) list.items) }
-{
-    let mut list = Vec::new(alloc);
-    push_waiting(
-        alloc,
-        candidates,
-        Target::RowId,
-        order,
-        sizes,
-        next,
-        &mut list,
-    )?;
-    for column in 0..candidates.columns() {
-        let target = Target::Col(column);
-        push_waiting(alloc, candidates, target, order, sizes, next, &mut list)?;
-    }
-    list.sort_unstable_by_key(|waiting| (waiting.cand.left.len(), !waiting.places));
-    Ok(list)
-}
-
-// Adds those of a target.
-fn push_waiting(
+// Adds the unfinished candidates of a target with so many columns.
+pub(crate) fn push_waiting(
     alloc: Global,
     candidates: &CandidateCover,
     target: Target,

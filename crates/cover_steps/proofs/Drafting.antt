@@ -41,11 +41,6 @@ module _ {X Y : Type 0} (P : X → Y → Type 0) where
   pub AllZip-more : (xs : List X) (i : ℕ) (d : X) (us : List Y) (u : Y) → i < length xs → AllZip P (take i xs) us → P (get_or xs i d) u → AllZip P (take (i + 1) xs) (us ++ u ∷ [])
   AllZip-more xs i d us u l h p = subst (λ (zs : List X). AllZip P zs (us ++ u ∷ [])) (sym (take_more xs i d l)) (AllZip-append (take i xs) (get_or xs i d ∷ []) us (u ∷ []) h (p, tt))
 
--- two parts of a list
-pub AllZip-parts : {X Y : Type 0} (P : X → Y → Type 0) (xs first second : List X) (n : ℕ) (us vs ws : List Y) → first ≡ take n xs → second ≡ drop n xs → ws ≡ us ++ vs → AllZip P first us → AllZip P second vs → AllZip P xs ws
-AllZip-parts P xs first second n us vs ws e f g h k = subst (AllZip P xs) (sym g) (subst (λ zs. AllZip P zs (us ++ vs)) (take-append-drop n xs)
-    (AllZip-append P (take n xs) (drop n xs) us vs (subst (λ zs. AllZip P zs us) e h) (subst (λ zs. AllZip P zs vs) f k)))
-
 -- an answer of which more is known
 pub IfOk-with : {X : Type 0} {P Q : X → Type 0} (r : Result X AllocError) → IfOk r P → ((x : X) → P x → Q x) → IfOk r Q
 IfOk-with (Ok x) h f = f x h

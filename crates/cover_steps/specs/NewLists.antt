@@ -23,3 +23,8 @@ pub record AreNewLists (n : ℕ) (ws : List Columns) (c : CandLists) (first : Op
 -- the new lists are what these agree sets leave of the candidates
 abbrev pub IsLeftBy : CandLists → List Columns → NewLists → Type 0
 IsLeftBy c ws new_lists = AreNewLists (width c) ws c new_lists.row_id new_lists.columns.items
+
+-- it is the new list of the target at its place
+pub record IsPlaced (n : ℕ) (ws : List Columns) (c : CandLists) (ts : List Target) (placed : ℕ × Option (List Cand)) : Type 0 where
+  pub within : placed.0 < length ts
+  pub is : (d : Target) → IsNewList n ws c (slice_index_or ts placed.0 d) placed.1

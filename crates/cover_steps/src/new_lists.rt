@@ -1,6 +1,6 @@
 //! What agree sets leave of the candidates, as new lists which are all made before the first is put in place.
 
-ghost use Rattle.std.specs.Prelude.{◌≡◌, ◌<◌, ◌≤◌, ◌∷◌, [], ◌++◌, ℕ, not, List, length, IfOk};
+ghost use Rattle.std.specs.Prelude.{◌≡◌, ◌<◌, ◌≤◌, ◌∷◌, [], ◌++◌, ℕ, not, List, length, IfOk, IfSome};
 ghost use Rattle.std.specs.List.{All, AllZip, list_any};
 ghost use Rattle.col_set.specs.ColSet.{Columns};
 ghost use Rattle.col_set.specs.Target.{IsColumnTarget, has_target};
@@ -9,7 +9,7 @@ ghost use Rattle.candidate_cover.specs.Cands.{cands_of, lefts, width};
 ghost use Rattle.cover_steps.specs.Core.{renewed, targets};
 ghost use Rattle.candidate_cover.specs.Drafts.{AreLeast};
 ghost use Rattle.negative_cover.specs.Concerning.{concerns, is_open, AreConcerned};
-ghost use Rattle.cover_steps.specs.NewLists.{IsNewList, AreNewLists, IsLeftBy};
+ghost use Rattle.cover_steps.specs.NewLists.{IsNewList, AreNewLists, IsLeftBy, IsPlaced};
 ghost use Rattle.candidate_cover.specs.Lists.{CandLists};
 ghost use denote.Param.Send.{IsSync};
 
@@ -17,6 +17,7 @@ use candidate_cover::{CandidateCover, Draft, NewList, OldList};
 use negative_cover::Concerned;
 use rel_base::{ColSet, MOST_COLUMNS, Steps, Target};
 use std::alloc::{AllocError, Global};
+use std::sync::atomic::{AtomicUsize, Ordering};
 use std::sync::ledger::Ledger;
 use std::thread::{Threads, join};
 
@@ -193,27 +194,82 @@ fn targets_of(alloc: Global, columns: u8) -> Result<Vec<Target>, AllocError>
     Ok(found)
 }
 
-// How many of these targets have about half of their candidates: so many stand first in the one of two shares.
-fn half_of(candidates: &CandidateCover, targets: &[Target]) -> usize
-    requires { All (IsColumnTarget (width candidates.now)) targets.now }
-    ensures { result ≤ length targets.now }
+// What a draft leaves of the candidates of targets that it takes one after another until all are taken, each beside the target's place.
+// Others may take some beside it.
+fn drafted_in_turn(
+    alloc: Global,
+    candidates: &CandidateCover,
+    draft: &Draft,
+    targets: &[Target],
+    taken: &AtomicUsize,
+) -> Result<Vec<(usize, Option<NewList>)>, AllocError>
+    requires width { draft.now.width ≡ width candidates.now }
+    requires targets { All (IsColumnTarget (width candidates.now)) targets.now }
+    ensures { IfOk result (λ made. All (IsPlaced (width candidates.now) draft.now.agree_sets candidates.now targets.now) made.items) }
 {
-    let (mut low, mut high) = (0usize, targets.len());
-    let (mut first, mut second) = (0usize, 0usize);
-    while low < high {
-        if first <= second {
-            first = first.saturating_add(candidates.lefts(targets[low]).len());
-            low += 1;
-        } else {
-            high -= 1;
-            second = second.saturating_add(candidates.lefts(targets[high]).len());
+    let mut made = Vec::new(alloc);
+    for _ in 0..targets.len() {
+        let place = taken.fetch_add(1, Ordering::SeqCst);
+        if place >= targets.len() {
+            break;
         }
+        let new_list = candidates.drafted(alloc, draft, targets[place])?;
+        made.push((place, new_list))?;
     }
-    low
+    Ok(made)
 }
 
-// What a draft leaves of the candidates of each of these targets, by so many threads at most, each of which takes targets that stand side
-// by side and have about as many candidates.
+// What `drafted_in_turn` makes of all targets, by so many threads at most. In which order it stands is left to chance.
+fn drafted_beside<R: Threads + Sync>(
+    rt: &R,
+    alloc: Global,
+    candidates: &CandidateCover,
+    draft: &Draft,
+    targets: &[Target],
+    taken: &AtomicUsize,
+    workers: u8,
+) -> Result<Vec<(usize, Option<NewList>)>, AllocError>
+    requires width { draft.now.width ≡ width candidates.now }
+    requires targets { All (IsColumnTarget (width candidates.now)) targets.now }
+    ensures { IfOk result (λ made. All (IsPlaced (width candidates.now) draft.now.agree_sets candidates.now targets.now) made.items) }
+{
+    if workers < 2 {
+        return drafted_in_turn(alloc, candidates, draft, targets, taken);
+    }
+    let few = workers / 2;
+    let others = workers - few;
+    let (one, other) = join(
+        rt,
+        move || -> Result<Vec<(usize, Option<NewList>)>, AllocError>
+            requires { IsSync R.row × (draft.now.width ≡ width candidates.now) × All (IsColumnTarget (width candidates.now)) targets.now }
+            ensures { IfOk result (λ made. All (IsPlaced (width candidates.entry.now) draft.entry.now.agree_sets candidates.entry.now targets.entry.now) made.items) }
+        { drafted_beside(rt, alloc, candidates, draft, targets, taken, few) },
+        move || -> Result<Vec<(usize, Option<NewList>)>, AllocError>
+            requires { IsSync R.row × (draft.now.width ≡ width candidates.now) × All (IsColumnTarget (width candidates.now)) targets.now }
+            ensures { IfOk result (λ made. All (IsPlaced (width candidates.entry.now) draft.entry.now.agree_sets candidates.entry.now targets.entry.now) made.items) }
+        { drafted_beside(rt, alloc, candidates, draft, targets, taken, others) },
+    );
+    let mut made = one?;
+    let mut more = other?;
+    made.append(&mut more)?;
+    Ok(made)
+}
+
+// Takes what was made at a place out of the others, if it was.
+fn taken_out(made: &mut Vec<(usize, Option<NewList>)>, place: usize) -> Option<Option<NewList>>
+    ensures rest { (n : ℕ) (ws : List Columns) (c : CandLists) (ts : List Target) → All (IsPlaced n ws c ts) made.old.items → All (IsPlaced n ws c ts) made.new.items }
+    ensures found { (n : ℕ) (ws : List Columns) (c : CandLists) (ts : List Target) → All (IsPlaced n ws c ts) made.old.items → IfSome result (λ new_list. IsPlaced n ws c ts (place, new_list)) }
+{
+    for k in 0..made.len() {
+        if made[k].0 == place {
+            return Some(made.remove(k).1);
+        }
+    }
+    None
+}
+
+// What a draft leaves of the candidates of each of these targets, by so many threads at most, each of which takes one target after
+// another: how long one takes is not known before.
 fn drafted_lists<R: Threads + Sync>(
     rt: &R,
     alloc: Global,
@@ -226,30 +282,21 @@ fn drafted_lists<R: Threads + Sync>(
     requires targets { All (IsColumnTarget (width candidates.now)) targets.now }
     ensures { IfOk result (λ new_lists. AllZip (IsNewList (width candidates.now) draft.now.agree_sets candidates.now) targets.now new_lists.items) }
 {
-    if workers < 2 || targets.len() < 2 {
-        return drafted_each(alloc, candidates, draft, targets);
+    let taken = AtomicUsize::new(0);
+    let mut made = drafted_beside(rt, alloc, candidates, draft, targets, &taken, workers)?;
+    let mut new_lists = Vec::with_capacity(alloc, targets.len())?;
+    for place in 0..targets.len() {
+        // All are made; which thread took which is told by nothing but the lists.
+        let new_list = match taken_out(&mut made, place) {
+            Some(new_list) => new_list,
+            None => candidates.drafted(alloc, draft, targets[place])?,
+        };
+        new_lists.push(new_list)?;
     }
-    let (first, second) = targets.split_at(half_of(candidates, targets));
-    let few = workers / 2;
-    let others = workers - few;
-    let (one, other) = join(
-        rt,
-        move || -> Result<Vec<Option<NewList>>, AllocError>
-            requires { IsSync R.row × (draft.now.width ≡ width candidates.now) × All (IsColumnTarget (width candidates.now)) first.now }
-            ensures { IfOk result (λ new_lists. AllZip (IsNewList (width candidates.entry.now) draft.entry.now.agree_sets candidates.entry.now) first.entry.now new_lists.items) }
-        { drafted_lists(rt, alloc, candidates, draft, first, few) },
-        move || -> Result<Vec<Option<NewList>>, AllocError>
-            requires { IsSync R.row × (draft.now.width ≡ width candidates.now) × All (IsColumnTarget (width candidates.now)) second.now }
-            ensures { IfOk result (λ new_lists. AllZip (IsNewList (width candidates.entry.now) draft.entry.now.agree_sets candidates.entry.now) second.entry.now new_lists.items) }
-        { drafted_lists(rt, alloc, candidates, draft, second, others) },
-    );
-    let mut new_lists = one?;
-    let mut more = other?;
-    new_lists.append(&mut more)?;
     Ok(new_lists)
 }
 
-/// What a draft leaves, by so many threads at most, each of which takes targets that stand side by side.
+/// What a draft leaves, by so many threads at most, each of which takes one target after another.
 pub fn drafted_by<R: Threads + Sync>(
     rt: &R,
     alloc: Global,

@@ -9,6 +9,7 @@ pub mod Cuts
 pub mod Placing
 pub mod PlacingStep
 pub mod Counts
+pub mod Distinct
 pub mod SplitLoop
 pub mod Flat
 pub mod Ordering

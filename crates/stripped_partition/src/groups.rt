@@ -1,5 +1,6 @@
 // Groups of rows by code, by counting.
-ghost use Rattle.std.specs.Prelude.{◌≡◌, ◌<◌, ◌≤◌, ◌+◌, ◌-◌, ◌^◌, ◌==◌, [], ℕ, length, slice_index, replicate, count_by, vec_len, List, OnOk, IfOk};
+ghost use Rattle.std.specs.Prelude.{◌≡◌, ◌<◌, ◌≤◌, ◌+◌, ◌-◌, ◌^◌, ◌==◌, [], ℕ, true, length, slice_index, replicate, count_by, vec_len, List, OnOk, IfOk};
+ghost use Rattle.std.specs.List.{list_any};
 ghost use Rattle.stripped_partition.specs.Groups.{start_at, IsCut, IsFlat};
 ghost use Rattle.stripped_partition.specs.Splits.{AddsParts, AreSplit, IsReady, Places};
 
@@ -38,6 +39,9 @@ const PLACED: u32 = 1 << 31;
 
 // Clearing so many slots one after another takes as long as clearing one by its code.
 const STRIDE: usize = 8;
+
+// In a group of so few rows codes are compared with each other before any takes a slot: mostly no two of them are equal.
+const FEW_ROWS: usize = 6;
 
 // Where a group begins: where the one before it ends.
 pub(crate) fn start_of(ends: &[u32], k: usize) -> usize
@@ -145,6 +149,25 @@ fn split_pair(
     Ok(())
 }
 
+// Whether one of the codes is this one.
+fn has_code(codes: &[u32], code: u32) -> bool
+    ensures { result ≡ list_any (λ d. d == code) codes.now }
+{
+    codes.iter().any(|other| *other == code)
+}
+
+// Whether no two of the codes are equal, so that the rows that have them make no part. It compares each with each.
+fn are_distinct(codes: &[u32]) -> bool
+    ensures { result ≡ true → (c : ℕ) → count_by (λ d. d == c) codes.now ≤ 1 }
+{
+    for k in 1..codes.len() {
+        if has_code(&codes[..k], codes[k]) {
+            return false;
+        }
+    }
+    true
+}
+
 // Adds the parts of a group, where all slots are clear, and leaves them clear.
 fn split_clear(
     groups: &mut Groups,
@@ -158,6 +181,9 @@ fn split_clear(
 {
     if rows.len() == 2 {
         return split_pair(groups, slots.len(), rows, codes);
+    }
+    if rows.len() <= FEW_ROWS && are_distinct(codes) {
+        return Ok(());
     }
     split_group(groups, slots, rows, codes)?;
     clear(slots, codes);
