@@ -114,7 +114,7 @@ fn insert(
     ensures { (job : JobParts) → Fits book.old.rows job → Fits book.new.rows job }
 {
     let row = Row::copied(alloc, &[k, v])?;
-    let batch = Batch::of(vec![in alloc; Op::Insert(row)]?);
+    let batch = Batch::of(alloc, &[Op::Insert(row)])?;
     let wanted = Applying::Applied {
         inserted: 1,
         deleted: 0,

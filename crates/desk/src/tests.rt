@@ -74,11 +74,11 @@ fn columns(list: &[u8]) -> ColSet {
 // The batch that inserts a row of two cells.
 fn insertion(alloc: Global, k: &[u8], v: &[u8]) -> Result<Batch, AllocError> {
     let row = Row::copied(alloc, &[k, v])?;
-    Ok(Batch::of(vec![in alloc; Op::Insert(row)]?))
+    Batch::of(alloc, &[Op::Insert(row)])
 }
 
 // The batch that deletes a row.
 fn deletion(rt: &impl Abort, alloc: Global, number: u32) -> Result<Batch, AllocError> {
     assert!(rt; 0 < number);
-    Ok(Batch::of(vec![in alloc; Op::Delete(RowNo::of(number))]?))
+    Batch::of(alloc, &[Op::Delete(RowNo::of(number))])
 }

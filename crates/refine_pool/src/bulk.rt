@@ -34,7 +34,7 @@ pub fn are_fed_first(batches: &[Batch], book: &Book) -> bool {
     }
     let mut count = 0usize;
     for batch in batches {
-        count = count.saturating_add(batch.ops().len());
+        count = count.saturating_add(batch.len());
     }
     count >= MANY_OPERATIONS && count >= rows as usize / 8
 }

@@ -132,7 +132,7 @@ const MANY_ROWS: usize = 10;
 // The batch that inserts a row.
 fn insertion(alloc: Global, seed: u64) -> Result<Batch, AllocError> {
     let row = Samples::from_seed(seed).row(alloc, MANY_COLUMNS)?;
-    Ok(Batch::of(vec![in alloc; Op::Insert(row)]?))
+    Batch::of(alloc, &[Op::Insert(row)])
 }
 
 // Whether the rows that came are worth comparing with all rows.

@@ -39,7 +39,7 @@ fn delete(rt: &impl Abort, alloc: Global, book: &mut Book, number: u32) -> Resul
     ensures { (job : JobParts) → Fits book.old.rows job → Fits book.new.rows job }
 {
     assert!(rt; 0 < number);
-    let batch = Batch::of(vec![in alloc; Op::Delete(RowNo::of(number))]?);
+    let batch = Batch::of(alloc, &[Op::Delete(RowNo::of(number))])?;
     let wanted = Applying::Applied {
         inserted: 0,
         deleted: 1,

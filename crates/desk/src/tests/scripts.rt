@@ -166,7 +166,7 @@ fn failing(alloc: Global) -> Result<Batch, AllocError> {
     let mut ops = Vec::with_capacity(alloc, 2)?;
     ops.push(Op::Insert(row))?;
     ops.push(Op::Delete(RowNo::of(9)))?;
-    Ok(Batch::of(ops))
+    Batch::of(alloc, &ops)
 }
 
 // The feeder applies the step's batch, and what it is answered is compared.

@@ -198,7 +198,7 @@ fn batches(rt: &impl Abort, alloc: Global, feed: Feed) -> Result<Vec<Batch>, All
     let mut batches = Vec::new(alloc);
     match feed {
         Feed::Nothing => {}
-        Feed::Empty => batches.push(Batch::of(Vec::new(alloc)))?,
+        Feed::Empty => batches.push(Batch::new(alloc))?,
         Feed::Deletion => batches.push(deletion(rt, alloc, 2)?)?,
         Feed::Three => {
             batches.push(deletion(rt, alloc, 2)?)?;
@@ -368,7 +368,7 @@ fn each_batch_is_answered(rt: HostRuntime) -> Result<(), Fail> {
     let mut ops = Vec::new(alloc);
     ops.push(Op::Insert(Row::copied(alloc, &[b"9", b"q"])?))?;
     ops.push(Op::Delete(RowNo::of(4)))?;
-    let fed = vec![in alloc; Batch::of(ops), Batch::of(Vec::new(alloc))]?;
+    let fed = vec![in alloc; Batch::of(alloc, &ops)?, Batch::new(alloc)]?;
     let book = letters(&rt, alloc)?;
     let Ok(refined) = run(&rt, alloc, book, fed, 2, &OpenGate) else {
         return Err(Fail::from(AllocError));
