@@ -41,6 +41,7 @@ fn target_at(place: usize, columns: u8) -> Option<Target>
 }
 
 // What is to be validated next.
+#[derive(Clone, Copy)]
 pub(crate) enum Wanted<'a> {
     // The left sides with so many columns that a draft leaves.
     Left { draft: &'a Draft, size: u8 },
