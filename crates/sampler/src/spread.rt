@@ -101,7 +101,7 @@ fn noted(last: &mut Vec<u32>, code: u32, number: u32) -> Result<u32, AllocError>
 /// of them where they are at most `count`, else at most so many and at least half as many, spread evenly over the rows.
 ///
 /// It is for evidence from many rows, where `window` would give more pairs than are worth comparing. It goes over the rows once and
-/// makes no partition: it takes a step a row, four bytes a code, and memory for the pairs.
+/// makes no partition: it takes a step a row, four bytes for each code up to the greatest, and memory for the pairs.
 pub fn neighbours(
     alloc: Global,
     snapshot: &Snapshot,
