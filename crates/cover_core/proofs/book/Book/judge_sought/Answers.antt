@@ -6,7 +6,6 @@ use Rattle.cover_steps.specs.Core.{Core}
 use Rattle.cover_core.specs.Judged.{IsAsked}
 use Rattle.cover_core.specs.Waiting.{IsSought}
 use Rattle.cover_core.specs.declared.waiting.Waiting.{Waiting}
-use Rattle.cover_steps.proofs.Evidences.{All-permuted}
 use Rattle.cover_core.proofs.Passes.{sought-all}
 use Rattle.cover_core.proofs.book.Book.judge_sought.Goals as goal
 
@@ -16,5 +15,4 @@ judged_by_parts-requires-clause-asked g c =
     subst (λ (table : CodeTable). All (IsAsked c.self.inside.rows table) c.as_slice-asked.result.now) (sym c.in_ok-snapshot.ensures.cases)
     (sought-all (record { rows = c.self.inside.rows; witnesses = c.self.inside.witnesses; candidates = c.self.inside.candidates }) c.self.inside.snapshot.value c.self.invariant.0 c.as_slice-asked.result.now
     (subst (λ (ws : List Waiting). All (IsSought (width c.self.inside.rows)) ws) (sym c.as_slice-asked.ensures.value)
-    (All-permuted (IsSought (width c.self.inside.rows)) c.in_ok-list.list.items c.sort_unstable_by_key.new.self.items c.sort_unstable_by_key.ensures.permutation
-    (subst (λ (m : ℕ). All (IsSought m) c.in_ok-list.list.items) n c.in_ok-list.ensures))))
+    (subst (λ (m : ℕ). All (IsSought m) c.in_ok-list.list.items) n c.in_ok-list.ensures)))
