@@ -1,8 +1,8 @@
 // What is to be validated: left sides that are made from evidence, without a book that lists them, or the candidates of a book.
-ghost use Rattle.std.specs.Prelude.{◌≡◌, ◌≤◌, OnOk, IfOk, IfSome};
+ghost use Rattle.std.specs.Prelude.{◌≡◌, ◌≤◌, ◌++◌, IsPermutation, OnOk, IfOk, IfSome};
 ghost use Rattle.std.specs.List.{All};
 ghost use Rattle.col_set.specs.Target.{IsColumnTarget};
-ghost use Rattle.cover_core.specs.Waiting.{IsSought, IsWanted, width_of};
+ghost use Rattle.cover_core.specs.Waiting.{IsSought, IsWaiting, IsWanted, width_of};
 ghost use denote.Param.Send.{IsSync};
 
 use crate::waiting::{Sizes, Waiting, count, push_waiting};
@@ -125,9 +125,8 @@ fn push_sought(
     Ok(())
 }
 
-// What is wanted of targets that it takes one after another until all are taken. Others may take some beside it. Those with the same
-// columns at their beginning stand next to each other.
-pub(crate) fn collected(
+// What is wanted of targets that it takes one after another until all are taken. Others may take some beside it.
+fn taken_in_turn(
     alloc: Global,
     wanted: &Wanted<'_>,
     order: &Order,
@@ -143,11 +142,104 @@ pub(crate) fn collected(
         };
         wanted.push(alloc, order, target, &mut list)?;
     }
+    Ok(list)
+}
+
+// What `taken_in_turn` takes, in the order of verdicts: those with the same columns at their beginning stand next to each other.
+pub(crate) fn collected(
+    alloc: Global,
+    wanted: &Wanted<'_>,
+    order: &Order,
+    taken: &AtomicUsize,
+) -> Result<Vec<Waiting>, AllocError>
+    ensures { IfOk result (λ list. All (IsWanted wanted.now) list.items) }
+{
+    let mut list = taken_in_turn(alloc, wanted, order, taken)?;
     list.sort_unstable_by_key(|waiting| (waiting.cand.left.len(), !waiting.places));
     Ok(list)
 }
 
-// What `collected` finds for all targets, by so many threads at most, each of which puts what it finds in order.
+// What two threads collected, in the order of verdicts: two runs, which this sort puts together in time by their length.
+fn merged(one: Vec<Waiting>, other: Vec<Waiting>) -> Result<Vec<Waiting>, AllocError>
+    ensures { IfOk result (λ list. IsPermutation (one.items ++ other.items) list.items) }
+{
+    let (mut list, mut more) = (one, other);
+    list.append(&mut more)?;
+    list.sort_by_key(|waiting| (waiting.cand.left.len(), !waiting.places))?;
+    Ok(list)
+}
+
+// What `collected` makes of a draft, by so many threads at most, each of which puts what it makes in order.
+fn sought_by<R: Threads + Sync>(
+    rt: &R,
+    alloc: Global,
+    draft: &Draft,
+    order: &Order,
+    size: u8,
+    taken: &AtomicUsize,
+    workers: u8,
+) -> Result<Vec<Waiting>, AllocError>
+    ensures { IfOk result (λ list. All (IsSought draft.now.width) list.items) }
+{
+    if workers < 2 {
+        return collected(alloc, &Wanted::Left { draft, size }, order, taken);
+    }
+    let few = workers / 2;
+    let others = workers - few;
+    let (one, other) = join(
+        rt,
+        move || -> Result<Vec<Waiting>, AllocError>
+            requires { IsSync R.row }
+            ensures { IfOk result (λ list. All (IsSought draft.entry.now.width) list.items) }
+        { sought_by(rt, alloc, draft, order, size, taken, few) },
+        move || -> Result<Vec<Waiting>, AllocError>
+            requires { IsSync R.row }
+            ensures { IfOk result (λ list. All (IsSought draft.entry.now.width) list.items) }
+        { sought_by(rt, alloc, draft, order, size, taken, others) },
+    );
+    let list = merged(one?, other?)?;
+    Ok(list)
+}
+
+// The candidates that `collected` finds in a book, by so many threads at most, each of which puts what it finds in order.
+fn listed_by<R: Threads + Sync>(
+    rt: &R,
+    alloc: Global,
+    candidates: &CandidateCover,
+    order: &Order,
+    sizes: &Sizes,
+    next: &RowNo,
+    taken: &AtomicUsize,
+    workers: u8,
+) -> Result<Vec<Waiting>, AllocError>
+    ensures { IfOk result (λ list. All (IsWaiting candidates.now) list.items) }
+{
+    if workers < 2 {
+        let wanted = Wanted::Listed {
+            candidates,
+            sizes: *sizes,
+            next: *next,
+        };
+        return collected(alloc, &wanted, order, taken);
+    }
+    let few = workers / 2;
+    let others = workers - few;
+    let (one, other) = join(
+        rt,
+        move || -> Result<Vec<Waiting>, AllocError>
+            requires { IsSync R.row }
+            ensures { IfOk result (λ list. All (IsWaiting candidates.entry.now) list.items) }
+        { listed_by(rt, alloc, candidates, order, sizes, next, taken, few) },
+        move || -> Result<Vec<Waiting>, AllocError>
+            requires { IsSync R.row }
+            ensures { IfOk result (λ list. All (IsWaiting candidates.entry.now) list.items) }
+        { listed_by(rt, alloc, candidates, order, sizes, next, taken, others) },
+    );
+    let list = merged(one?, other?)?;
+    Ok(list)
+}
+
+// What `collected` finds for all targets, by so many threads at most.
 pub(crate) fn collected_by<R: Threads + Sync>(
     rt: &R,
     alloc: Global,
@@ -158,28 +250,14 @@ pub(crate) fn collected_by<R: Threads + Sync>(
 ) -> Result<Vec<Waiting>, AllocError>
     ensures { IfOk result (λ list. All (IsWanted wanted.now) list.items) }
 {
-    if workers < 2 {
-        return collected(alloc, wanted, order, taken);
+    match wanted {
+        Wanted::Left { draft, size } => sought_by(rt, alloc, draft, order, *size, taken, workers),
+        Wanted::Listed {
+            candidates,
+            sizes,
+            next,
+        } => listed_by(rt, alloc, candidates, order, sizes, next, taken, workers),
     }
-    let few = workers / 2;
-    let others = workers - few;
-    let (one, other) = join(
-        rt,
-        move || -> Result<Vec<Waiting>, AllocError>
-            requires { IsSync R.row }
-            ensures { IfOk result (λ list. All (IsWanted wanted.entry.now) list.items) }
-        { collected_by(rt, alloc, wanted, order, taken, few) },
-        move || -> Result<Vec<Waiting>, AllocError>
-            requires { IsSync R.row }
-            ensures { IfOk result (λ list. All (IsWanted wanted.entry.now) list.items) }
-        { collected_by(rt, alloc, wanted, order, taken, others) },
-    );
-    let mut list = one?;
-    let mut more = other?;
-    list.append(&mut more)?;
-    // Two runs in order: this sort puts them together in time by their length.
-    list.sort_by_key(|waiting| (waiting.cand.left.len(), !waiting.places))?;
-    Ok(list)
 }
 
 // Whether evidence was sought long enough without candidates: whether so many left sides gave less evidence than they are, where either
