@@ -6,3 +6,4 @@ pub mod Few
 pub mod Steps
 pub mod Numbered
 pub mod Wide
+pub mod Parts

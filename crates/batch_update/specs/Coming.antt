@@ -48,3 +48,8 @@ number_after number entry = if is_end entry then number + 1 else number
 abbrev pub TakesEntry : List Item → List Item → ℕ → ℕ → Begun → Entry → Begun → Type 0
 TakesEntry before after number n begun entry next =
     (left : List Entry) → before ++ coming number n begun (entry ∷ left) ≡ after ++ coming (number_after number entry) (n + 1) next left
+
+-- the same before and after these entries are read
+abbrev pub TakesEntries : List Item → List Item → ℕ → ℕ → Begun → List Entry → ℕ → ℕ → Begun → Type 0
+TakesEntries before after number n begun entries next_number m next =
+    (left : List Entry) → before ++ coming number n begun (entries ++ left) ≡ after ++ coming next_number m next left

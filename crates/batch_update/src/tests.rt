@@ -141,3 +141,79 @@ fn limits_of_numbers_and_cells(rt: HostRuntime) -> Result<(), Fail> {
     }
     Ok(())
 }
+
+// A start, then a piece so many times, and an end: twice one after the other, with two counts.
+fn with_pieces_once(
+    alloc: Global,
+    start: &[u8],
+    piece: &[u8],
+    end: &[u8],
+    counts: [usize; 2],
+) -> Result<Vec<u8>, AllocError> {
+    let mut text = Vec::new(alloc);
+    for count in counts {
+        text.extend_from_slice(start)?;
+        for _ in 0..count {
+            text.extend_from_slice(piece)?;
+        }
+        text.extend_from_slice(end)?;
+    }
+    Ok(text)
+}
+
+fn with_pieces(
+    alloc: Global,
+    start: &[u8],
+    piece: &[u8],
+    end: &[u8],
+    counts: [usize; 2],
+) -> Result<Vec<u8>, AllocError> {
+    with_pieces_once(alloc, start, piece, end, counts).or_else(|_| with_pieces_once(
+        alloc, start, piece, end, counts,
+    ))
+}
+
+#[test]
+fn giant_records(rt: HostRuntime) -> Result<(), Fail> {
+    let standard = Limits::standard();
+    let end = b"\n!\n-,1\n!\n".as_slice();
+    // Behind a giant record byte order marks are bytes of a field.
+    let marked = b"\r\n\xEF\xBB\xBF!\n-,7\n!\n-,1\n!\n".as_slice();
+    let cases: [(&[u8], &[u8], &[u8], &[u8]); 6] = [
+        (
+            b"+,3,w\n+,4",
+            b",",
+            end,
+            b"1:2:Fields 2:4/-,1 3:7:Fields 4:9/-,1 ",
+        ),
+        (b"x", b",\"\"", end, b"1:1:Kind 2:3/-,1 3:5:Kind 4:7/-,1 "),
+        (
+            b"\"=\",1",
+            b",\"\n!\n,\"",
+            end,
+            b"1:1:Fields 2:3/-,1 3:5:Fields 4:7/-,1 ",
+        ),
+        (b"", b",", end, b"1:1:Kind 2:3/-,1 3:5:Kind 4:7/-,1 "),
+        (
+            b"?\n!",
+            b",",
+            marked,
+            b"? 1:2:Fields 2:6/-,1 ? 3:9:Fields 4:13/-,1 ",
+        ),
+        (b"-", b",", b"", b"1:1:Fields "),
+    ];
+    for (start, piece, end, wanted) in cases {
+        for counts in [
+            [5, 5],
+            [150_000, 150_000],
+            [5_000, 150_000],
+            [150_000, 5_000],
+            [1_100_000, 4_096],
+        ] {
+            let text = with_pieces(rt.alloc(), start, piece, end, counts)?;
+            let out = shown(rt.alloc(), text.as_slice(), 2, &standard)?;
+            assert_eq!(rt; out.as_slice(), wanted);
+        }
+    }
+    Ok(())
+}

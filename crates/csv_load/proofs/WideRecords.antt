@@ -36,7 +36,7 @@ stays false x y f g = g
 open_in_field : (c : ℕ) → StaysOpen (in_field default_config c)
 open_in_field c = stays (c == 44) (st.StartField, act.EndField) _ (λ e. refl) (stays (ends_with default_config.terminator c) (after_end default_config.terminator c, act.EndRecord) (st.InField, act.Copy) (λ e. absurd (true≢false e)) (λ e. refl))
 
-open_step : (s : State) (c : ℕ) → is_open s ≡ true → StaysOpen (step default_config s c)
+pub open_step : (s : State) (c : ℕ) → is_open s ≡ true → StaysOpen (step default_config s c)
 open_step st.StartRecord c e = absurd (false≢true e)
 open_step st.AfterCr c e = absurd (false≢true e)
 open_step st.StartField c e = stays (c == 34) (st.InQuoted, act.Skip) (in_field default_config c) (λ e. refl) (open_in_field c)
@@ -46,7 +46,7 @@ open_step st.AfterQuote c e = stays (c == 34) (st.InQuoted, act.Copy) (in_field 
 open_step st.InEscape c e = absurd (false≢true e)
 open_step st.InComment c e = absurd (false≢true e)
 
-open_ends : (s : State) → is_open s ≡ true → ends_at_end s ≡ true
+pub open_ends : (s : State) → is_open s ≡ true → ends_at_end s ≡ true
 open_ends st.StartRecord e = absurd (false≢true e)
 open_ends st.AfterCr e = absurd (false≢true e)
 open_ends st.StartField e = refl
@@ -102,7 +102,7 @@ pub record IsCounted (text : List ℕ) (s : State) (rest : List ℕ) (ended : �
 pub counted_none : (text : List ℕ) → IsCounted text st.StartRecord text 0
 counted_none text = record { fields = []; field = []; read = refl; count = refl }
 
-ended_after : (a : Action) (fields : List (List ℕ)) (field : List ℕ) → is_end a ≡ false → length (fields_after a fields field) ≡ cond (ends_field a) (length fields + 1) (length fields)
+pub ended_after : (a : Action) (fields : List (List ℕ)) (field : List ℕ) → is_end a ≡ false → length (fields_after a fields field) ≡ cond (ends_field a) (length fields + 1) (length fields)
 ended_after act.EndField fields field e = length-append fields (field ∷ [])
 ended_after act.EndRecord fields field e = absurd (true≢false e)
 ended_after act.Copy fields field e = refl
@@ -210,12 +210,12 @@ next_between s fields field (c ∷ xs) between =
     ap (λ (p : State × Action). cond (is_end p.1) (Some (fields_after p.1 fields field, p.0, xs)) (next_record default_config p.0 (fields_after p.1 fields field) (field_after p.1 c field) xs))
     (step_between s c between)
 
-records_between : (s : State) (xs : List ℕ) → ends_at_end s ≡ false → records_after s (Some xs) ≡ records_after st.StartRecord (Some xs)
+pub records_between : (s : State) (xs : List ℕ) → ends_at_end s ≡ false → records_after s (Some xs) ≡ records_after st.StartRecord (Some xs)
 unfolding records_from
 records_between s xs between = rw add-one (ap (records_next (records_from default_config (length xs))) (next_between s [] [] xs between))
 
 -- what is read where a byte ends a record
-ended_read : (s : State) (c : ℕ) (fields : Row) (field rest : List ℕ) → is_end (step default_config s c).1 ≡ true
+pub ended_read : (s : State) (c : ℕ) (fields : Row) (field rest : List ℕ) → is_end (step default_config s c).1 ≡ true
     → next_record default_config s fields field (c ∷ rest) ≡ Some (fields_after (step default_config s c).1 fields field, (step default_config s c).0, rest)
 unfolding next_record
 ended_read s c fields field rest end = rw end refl

@@ -1,5 +1,6 @@
 pub mod Records
 pub mod WideRecords
+pub mod Parting
 pub mod Refusal
 pub mod Unread
 pub mod Loaded

@@ -4,6 +4,7 @@
 pub mod laws;
 mod load;
 mod marks;
+mod parted;
 mod record_reader;
 mod refusal;
 #[cfg(test)]
@@ -11,5 +12,6 @@ mod tests;
 mod wide_records;
 
 pub use load::{Loaded, read_relation, records};
+pub use parted::{Parted, part_at_giant};
 pub use record_reader::RecordReader;
 pub use refusal::has_long_cell;

@@ -1,5 +1,5 @@
 // Where an allocation fails, a call is made once more, so that these tests also pass where any one fails.
-use crate::{Loaded, RecordReader, read_relation, records};
+use crate::{Loaded, RecordReader, part_at_giant, read_relation, records};
 use csv::ByteRecord;
 use rel_base::{Limits, MOST_CELL_BYTES, MOST_COLUMNS, MOST_ROWS, Row};
 use std::alloc::{AllocError, Global};
@@ -239,6 +239,37 @@ fn widths_among_quotes(rt: HostRuntime) -> Result<(), Fail> {
         let text = with_third(rt.alloc(), commas)?;
         let out = shown(rt.alloc(), text.as_slice(), &limits)?;
         assert_eq!(rt; out.as_slice(), b"3 Fields".as_slice());
+    }
+    Ok(())
+}
+
+#[test]
+fn parted_texts(rt: HostRuntime) -> Result<(), Fail> {
+    let cases: [(&[u8], usize, &[u8], &[u8]); 5] = [
+        (
+            b"a,b\r\n\"x\n,\",,c,d\r\ne\n",
+            2,
+            b"a,b\r\n\"x\n,\",,",
+            b"\r\ne\n",
+        ),
+        (b"\xEF\xBB\xBFa,b,c", 1, b"a,", b""),
+        (b"a,b\n\xEF\xBB\xBFc\n", 1, b"a,", b"\n\xEF\xBB\xBFc\n"),
+        (b"\n\n,,\"\"\"\n\",x", 2, b"\n\n,,", b""),
+        // No record is too wide.
+        (b"a,b\nc\n", 2, b"", b""),
+    ];
+    for (bytes, limit, upto, behind) in cases {
+        match part_at_giant(bytes, limit, true) {
+            Some(parted) => {
+                assert_eq!(rt; parted.upto, upto);
+                assert_eq!(rt; parted.behind, behind);
+            }
+            None => {
+                assert_eq!(rt; upto.len(), 0);
+            }
+        }
+        // None is as long as a block.
+        assert_eq!(rt; part_at_giant(bytes, limit, false).is_none(), true);
     }
     Ok(())
 }

@@ -11,9 +11,9 @@ use crate::marks::after_marks;
 /// The bytes of a block of a text. A record without a whole block in it is shorter than two.
 const BLOCK: usize = 65_536;
 
-// Where in a record the next byte stands.
+/// Where in a record the next byte stands.
 #[derive(Clone, Copy)]
-enum Place {
+pub(crate) enum Place {
     BeforeRecord,
     BeforeField,
     InField,
@@ -44,8 +44,8 @@ pub(crate) fn giant_record(bytes: &[u8], limit: usize) -> Option<u64>
     first_wide_record(bytes, limit, u64::MAX)
 }
 
-// Whether a record may go on through a whole block that is full of fields. It looks at many bytes a step.
-fn may_have_giants(bytes: &[u8]) -> bool {
+/// Whether a record may go on through a whole block that is full of fields. It looks at many bytes a step.
+pub(crate) fn may_have_giants(bytes: &[u8]) -> bool {
     for block in bytes.chunks_exact(BLOCK) {
         if !ends_a_record_or_no_field(block) && has_many_commas(block) {
             return true;
@@ -101,13 +101,14 @@ fn first_wide_record(bytes: &[u8], limit: usize, last: u64) -> Option<u64>
     None
 }
 
-// The place after a byte, and whether the byte ends a field before another. There is none where it ends the record.
-fn after_byte(place: Place, byte: u8) -> Option<(Place, bool)>
+/// The place after a byte, and whether the byte ends a field before another. There is none where it ends the record.
+pub(crate) fn after_byte(place: Place, byte: u8) -> Option<(Place, bool)>
     ensures place { IfSome result (λ after. (step default_config (state_of place) byte).0 ≡ state_of after.0) }
     ensures ends { IfSome result (λ after. ends_field (step default_config (state_of place) byte).1 ≡ after.1) }
     ensures before_field { IfSome result (λ after. after.1 ≡ true → state_of after.0 ≡ st.StartField) }
     ensures goes_on { IfSome result (λ after. is_end (step default_config (state_of place) byte).1 ≡ false) }
     ensures stops { IfNone result (is_end (step default_config (state_of place) byte).1 ≡ true) }
+    ensures line_end { IfNone result (ends_with default_config.terminator byte ≡ true) }
 {
     match place {
         Place::InQuotes if byte == b'"' => Some((Place::AfterQuote, false)),
