@@ -1,8 +1,8 @@
-use Rattle.std.proofs.Common.{◌≡◌, ◌∙◌, ◌+◌, ◌≤◌, ◌++◌, ◌∷◌, ℕ, Bool, true, false, cond, List, ap, map, sym, arith, length, refl}
+use Rattle.std.proofs.Common.{◌≡◌, ◌∙◌, ◌+◌, ◌≤◌, ◌++◌, ◌∷◌, ℕ, Bool, true, false, cond, List, ap, map, sym, arith, length, refl, rules}
 use Rattle.rel_base.specs.Cells.{Row}
 use Rattle.batch_update.specs.declared.entry.Entry.{Entry}
 use Rattle.batch_update.specs.Coming.{coming, number_after}
-use Rattle.batch_update.specs.Entry.{entry_of}
+use Rattle.batch_update.specs.Entry.{entry_of, is_end}
 use Rattle.batch_update.proofs.changes.read_part.Goals as goal
 
 -- the number of a batch grows by no more than that of a record
@@ -39,7 +39,7 @@ loop-fields-preserved c =
     let before = c.loop-fields.invariant in
     let place = c.loop-fields.place in
     let found = rw c.if-branch.true at c.in_ok-next.ensures.found in
-    let number : number_after place.no c.in_ok-entry.entry ≡ c.next-place.result.no = sym (rw c.is_end-ends.ensures at c.next-place.ensures.no) in
+    let number : number_after place.no c.in_ok-entry.entry ≡ c.next-place.result.no = search rules in
     let one = ap length found in
     let rec = c.next-place.ensures.rec in
     let count = before.count in
@@ -54,7 +54,7 @@ loop-fields-preserved c =
           ∙ ap (λ (n : ℕ). c.after.new.items.items ++ coming n (place.rec + 1) c.in_ok-begun.begun (more ++ left)) number
           ∙ ap (λ (n : ℕ). c.after.new.items.items ++ coming c.next-place.result.no n c.in_ok-begun.begun (more ++ left)) (sym rec);
       some = omega (arith, rec);
-      numbered = at_most_one_more place.no place.rec c.next-place.result.no c.next-place.result.rec c.is_end-ends.result c.next-place.ensures.no rec numbered;
+      numbered = at_most_one_more place.no place.rec c.next-place.result.no c.next-place.result.rec (is_end c.in_ok-entry.entry) (sym number) rec numbered;
       count = omega (arith, one, rec, count);
     }
 
