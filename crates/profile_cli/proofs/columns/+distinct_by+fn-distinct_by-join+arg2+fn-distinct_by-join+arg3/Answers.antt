@@ -1,8 +1,14 @@
-use Rattle.std.proofs.Common.{rules}
+use Rattle.std.proofs.Common.{◌≡◌, ℕ, List, ◌++◌, take, drop, sym, subst, rules}
 use Rattle.std.specs.List.{AllZip}
+use Rattle.std.proofs.lemmas.List.{take-append-drop}
 use Rattle.row_log.specs.Distinct.{AreDistinctCells}
-use Rattle.cover_steps.proofs.Drafting.{AllZip-parts}
+use Rattle.cover_steps.proofs.Drafting.{AllZip-append}
 use Rattle.profile_cli.proofs.columns.+distinct_by+fn-distinct_by-join+arg2+fn-distinct_by-join+arg3.Goals as goal
+
+-- two parts of a list
+AllZip-parts : {X Y : Type 0} (P : X → Y → Type 0) (xs first second : List X) (n : ℕ) (us vs ws : List Y) → first ≡ take n xs → second ≡ drop n xs → ws ≡ us ++ vs → AllZip P first us → AllZip P second vs → AllZip P xs ws
+AllZip-parts P xs first second n us vs ws e f g h k = subst (AllZip P xs) (sym g) (subst (λ zs. AllZip P zs (us ++ vs)) (take-append-drop n xs)
+    (AllZip-append P (take n xs) (drop n xs) us vs (subst (λ zs. AllZip P zs us) e h) (subst (λ zs. AllZip P zs vs) f k)))
 
 pub returns : goal.returns
 returns g t c =
