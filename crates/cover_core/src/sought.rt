@@ -44,7 +44,10 @@ fn target_at(place: usize, columns: u8) -> Option<Target>
 #[derive(Clone, Copy)]
 pub(crate) enum Wanted<'a> {
     // The left sides with so many columns that a draft leaves.
-    Left { draft: &'a Draft, size: u8 },
+    Left {
+        draft: &'a Draft,
+        size: u8,
+    },
     // The candidates of these sizes that are unfinished, as rows up to a number tell.
     Listed {
         candidates: &'a CandidateCover,
