@@ -1,5 +1,5 @@
 -- Codes of which no two are equal, and what they make of a group: nothing.
-use Rattle.std.proofs.Common.{inl, inr, ◌≡◌, ◌⊎◌, ℕ, zero, suc, ◌+◌, ◌<◌, ◌≤◌, Bool, true, false, cond, ◌&&◌, ◌||◌, eqb, ltb, leb, refl, sym, ap, ◌∙◌, subst, arith, List, [], ◌∷◌, length, get_or, take, count_by, map, zip}
+use Rattle.std.proofs.Common.{◌≡◌, ℕ, ◌+◌, ◌<◌, ◌≤◌, Bool, true, false, cond, ◌&&◌, ◌||◌, eqb, ltb, leb, refl, sym, ap, ◌∙◌, subst, arith, List, [], ◌∷◌, length, get_or, take, map, zip}
 use Rattle.std.specs.List.{filter, list_any}
 use Rattle.std.proofs.lemmas.Bool.{true≢false, eqb-true, lt-leb}
 use Rattle.std.proofs.lemmas.List.{length-take}

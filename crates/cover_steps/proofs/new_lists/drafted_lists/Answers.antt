@@ -1,5 +1,5 @@
-use Rattle.std.proofs.Common.{◌+◌, ℕ, List, Option, IfSome, take, sym, subst, arith}
-use Rattle.std.specs.List.{All, AllZip}
+use Rattle.std.proofs.Common.{◌+◌, List, Option, IfSome, take, sym, subst}
+use Rattle.std.specs.List.{AllZip}
 use Rattle.candidate_cover.specs.Cands.{width}
 use Rattle.candidate_cover.specs.declared.cand.Cand.{Cand}
 use Rattle.col_set.specs.declared.target.Target.TheVariants.{Col}

@@ -1,4 +1,4 @@
-use Rattle.std.proofs.Common.{◌≤◌, ◌∙◌, ℕ, List, eqb, count_by, sym, subst, arith}
+use Rattle.std.proofs.Common.{◌≤◌, ◌∙◌, ℕ, List, eqb, count_by, sym, subst}
 use Rattle.std.proofs.lemmas.List.{take_all}
 use Rattle.stripped_partition.proofs.Distinct.{differing_first, differing_more}
 use Rattle.stripped_partition.proofs.groups.are_distinct.Goals as goal

@@ -1,9 +1,5 @@
-use Rattle.std.proofs.Common.{◌≡◌, ◌∙◌, ◌+◌, List, take, get_or, Ok, refl, sym, ap, subst, arith, ℕ}
-use Rattle.std.specs.List.{All}
-use Rattle.rel_base.specs.declared.batch.Op.{Op}
-use Rattle.rel_base.specs.Batches.{IsAsWide}
+use Rattle.std.proofs.Common.{◌∙◌, ◌+◌, take, get_or, Ok, refl, sym, ap, subst, arith, ℕ}
 use Rattle.rel_base.specs.PackedOps.{cells_of, op_at}
-use Rattle.rel_base.specs.RowState.{width}
 use Rattle.rel_base.specs.Batches.{applied}
 use Rattle.row_log.specs.Applying.{LeadsFrom}
 use Rattle.row_log.proofs.Batch.{from_state, DidAll-after, as_wide, stepped, halted, answered, whole}

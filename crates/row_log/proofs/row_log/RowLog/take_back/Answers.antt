@@ -1,4 +1,4 @@
-use Rattle.std.proofs.Common.{◌≡◌, ◌∙◌, ◌<◌, ◌++◌, ◌∷◌, sym, ap, arith, [], take, Ok, length}
+use Rattle.std.proofs.Common.{◌∙◌, ◌<◌, sym, ap, arith, take, Ok}
 use Rattle.std.proofs.lemmas.List.{length-take-le}
 use Rattle.rel_base.specs.PackedOps.{cells_of, op_at, place_of}
 use Rattle.row_log.proofs.Batch.{from_last, one_more, nothing_back}
