@@ -675,15 +675,8 @@ impl Book {
         let list = judges.collected(alloc, &wanted, &self.searcher.order)?;
         let snapshot = self.snapshot.clone()?;
         let (rows, stores) = (&self.rows, &mut self.searcher.stores);
-        let judged = judged_by_parts(
-            judges,
-            gate,
-            alloc,
-            rows,
-            &snapshot,
-            list.as_slice(),
-            stores,
-        )?;
+        let asked = list.as_slice();
+        let judged = judged_by_parts(judges, gate, alloc, rows, &snapshot, asked, stores)?;
         let few = judged.found.len() < list.len();
         self.mark_held(judged.held.as_slice());
         self.book_all(judges, judged.found)?;

@@ -9,6 +9,6 @@ use Rattle.cover_core.proofs.book.Book.pass.Goals as goal
 
 pub judged_by_parts-requires-clause-asked : goal.judged_by_parts-requires-clause-asked
 judged_by_parts-requires-clause-asked g c =
-    subst (λ (table : CodeTable). All (IsAsked c.self.inside.rows table) c.as_slice.result.now) (sym c.in_ok-snapshot.ensures.cases)
-    (asked-all (record { rows = c.self.inside.rows; witnesses = c.self.inside.witnesses; candidates = c.self.inside.candidates }) c.self.inside.snapshot.value c.self.invariant.0 c.as_slice.result.now
-    (subst (λ (ws : List Waiting). All (IsWaiting c.self.inside.candidates) ws) (sym c.as_slice.ensures.value) c.in_ok-list.ensures))
+    subst (λ (table : CodeTable). All (IsAsked c.self.inside.rows table) c.as_slice-asked.result.now) (sym c.in_ok-snapshot.ensures.cases)
+    (asked-all (record { rows = c.self.inside.rows; witnesses = c.self.inside.witnesses; candidates = c.self.inside.candidates }) c.self.inside.snapshot.value c.self.invariant.0 c.as_slice-asked.result.now
+    (subst (λ (ws : List Waiting). All (IsWaiting c.self.inside.candidates) ws) (sym c.as_slice-asked.ensures.value) c.in_ok-list.ensures))
