@@ -14,7 +14,7 @@ use Rattle.col_set.specs.AllSets.{Listed-upto, Listed-upto_within}
 use Rattle.col_set.specs.Lists.{Listed-append_left, list_any_at, list_any_which}
 use Rattle.col_set.proofs.Least.{refuted_inside}
 use Rattle.candidate_cover.specs.declared.filing.Known.{Known}
-use Rattle.candidate_cover.specs.Drafts.{Drafted, is_news}
+use Rattle.candidate_cover.specs.Drafts.{is_news}
 use Rattle.col_set.proofs.Specialise.{refuted-push}
 use Rattle.candidate_cover.proofs.Evidence.{choice_parts}
 use Rattle.col_set.proofs.Outside.{outside_of}
@@ -120,15 +120,15 @@ module _ (n z : ℕ) (ws : List ℕ) (row_id : Bool) (lacking : ℕ) (k : KnownS
   unfolding is_news
   news_told = ap (λ b. not b || not (subset (minus (all n) z) lacking)) k.of_row_id ∙ ap (λ b. not (refuted ws RowId z) || b) (same_test _ _ some_open open_some)
 
-module _ (n z : ℕ) (ws : List ℕ) (row_id : Bool) (lacking : ℕ) (k : KnownSoFar n ws z row_id lacking) (d : Drafted) (e : n ≡ d.width) (f : ws ≡ d.agree_sets) where
-  told : (not row_id || not (subset (minus (all n) z) lacking)) ≡ is_news d.width d.agree_sets z
-  told = news_told n z ws row_id lacking k ∙ ap (λ (m : ℕ). is_news m ws z) e ∙ ap (λ vs. is_news d.width vs z) f
-
-  pub news_then : not row_id ≡ true → not row_id ≡ is_news d.width d.agree_sets z
-  news_then h = h ∙ sym (ap (λ b. b || not (subset (minus (all n) z) lacking)) h) ∙ told
-
-  pub news_else : not row_id ≡ false → (u x : ℕ) (s : Bool) → u ≡ all n → x ≡ minus u z → s ≡ subset x lacking → not s ≡ is_news d.width d.agree_sets z
-  news_else h u x s i j m = ap not (m ∙ ap (λ (y : ℕ). subset y lacking) (j ∙ ap (λ (v : ℕ). minus v z) i)) ∙ sym (ap (λ b. b || not (subset (minus (all n) z) lacking)) h) ∙ told
+-- a set is news unless it is known for the row's identity and all columns that it lacks
+pub news_not_known : (n z m : ℕ) (ws : List ℕ) (row_id : Bool) (lacking u x : ℕ) (known : Bool) → KnownSoFar n ws z row_id lacking → m ≡ n → u ≡ all m → x ≡ minus u z → known ≡ (row_id && subset x lacking)
+    → not known ≡ is_news n ws z
+news_not_known n z m ws row_id lacking u x known k e f g h =
+    ap not (h ∙ ap (λ (y : ℕ). row_id && subset y lacking) (g ∙ ap (λ (v : ℕ). minus v z) (f ∙ ap all e))) ∙ not_both row_id (subset (minus (all n) z) lacking) ∙ news_told n z ws row_id lacking k
+  where
+    not_both : (a b : Bool) → not (a && b) ≡ (not a || not b)
+    not_both true b = refl
+    not_both false b = refl
 
 -- ---- one more agree set
 -- where it lies inside one that lacks the target, it refutes nothing more

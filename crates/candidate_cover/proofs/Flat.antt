@@ -1,13 +1,13 @@
 -- Three flat lists as one list of pairs.
-use Rattle.std.proofs.Common.{◌≡◌, ℕ, zero, suc, ◌+◌, ◌-◌, ◌<◌, ◌≤◌, max, Bool, true, false, cond, refl, sym, ap, ap₂, ◌∙◌, subst, arith, List, [], ◌∷◌, ◌++◌, length, get_or, take, drop, set, map, Some, None, drop-cons, add-one}
+use Rattle.std.proofs.Common.{◌≡◌, ℕ, zero, suc, ◌+◌, ◌-◌, ◌<◌, ◌≤◌, max, Bool, true, false, cond, refl, sym, ap, ap₂, ◌∙◌, subst, arith, List, [], ◌∷◌, ◌++◌, length, get_or, take, drop, set, map, replicate, Some, None, drop-cons, add-one}
 use Rattle.std.proofs.lemmas.List.Elements.{filter-append}
-use Rattle.std.proofs.lemmas.List.{append-nil, length-append, length-drop, length-set, length-map, get_or-map, map-append, take_more, take_all, drop_all, drop-map}
+use Rattle.std.proofs.lemmas.List.{append-nil, length-append, length-drop, length-replicate, length-set, length-map, get_or-map, map-append, take_more, take_all, drop_all, drop-map}
 use Rattle.candidate_cover.specs.declared.cand.Mark.{Mark}
 use Rattle.std.specs.List.{find, filter}
 use Rattle.col_set.specs.ColSet.{report_cmp}
 use Rattle.col_set.specs.Lists.{Rises}
 use Rattle.candidate_cover.specs.declared.cand.Cand.{Cand}
-use Rattle.candidate_cover.specs.Cands.{all_free, kept_or_fresh}
+use Rattle.candidate_cover.specs.Cands.{all_free, fresh, kept_or_fresh}
 use Rattle.candidate_cover.specs.AllMarked.{all_marked}
 use Rattle.candidate_cover.specs.Marks.{cand, cands}
 use Rattle.candidate_cover.specs.Pairs.{pairs_of, AreEven, keys, IsInOrder, value_at, with_value}
@@ -202,6 +202,18 @@ marked_more cs xs i us us' hs hs' x m l is c e f s = record {
 
 pub marked_all : (cs : List Cand) (xs : List ℕ) (i : ℕ) (us : List ℕ) (hs : List Bool) (ys : List ℕ) → length xs ≤ i → xs ≡ ys → MarkedSoFar cs xs i us hs → AreEven ys us hs × (cands (pairs_of ys us hs) ≡ map (kept_or_fresh cs) ys)
 marked_all cs xs i us hs ys l e s = subst (λ (zs : List ℕ). AreEven zs us hs × (cands (pairs_of zs us hs) ≡ map (kept_or_fresh cs) zs)) (take_all i xs l ∙ e) (s.even, s.made)
+
+-- ---- fresh marks alone
+pub fresh_even : (xs us : List ℕ) (hs : List Bool) (n m : ℕ) → us ≡ replicate n 1 → hs ≡ replicate m false → n ≡ length xs → m ≡ length xs → AreEven xs us hs
+fresh_even xs us hs n m e f g h = record { uptos = ap length e ∙ length-replicate n 1 ∙ g; helds = ap length f ∙ length-replicate m false ∙ h }
+
+all_fresh_so_far : (xs : List ℕ) → cands (pairs_of xs (replicate (length xs) 1) (replicate (length xs) false)) ≡ map fresh xs
+all_fresh_so_far [] = refl
+all_fresh_so_far (x ∷ xs) = ap (λ (cs : List Cand). fresh x ∷ cs) (all_fresh_so_far xs)
+
+pub all_fresh : (xs us : List ℕ) (hs : List Bool) (n m : ℕ) → us ≡ replicate n 1 → hs ≡ replicate m false → n ≡ length xs → m ≡ length xs → cands (pairs_of xs us hs) ≡ map fresh xs
+all_fresh xs us hs n m e f g h =
+    ap₂ (λ (vs : List ℕ) (gs : List Bool). cands (pairs_of xs vs gs)) (e ∙ ap (λ (k : ℕ). replicate k 1) g) (f ∙ ap (λ (k : ℕ). replicate k false) h) ∙ all_fresh_so_far xs
 
 -- ---- a search from a place on
 module _ (p : Cand → Bool) (cs : List Cand) (i : ℕ) (c : Cand) (l : i < length cs) (is : get_or cs i c ≡ c) where

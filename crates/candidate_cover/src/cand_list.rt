@@ -233,9 +233,9 @@ impl CandList {
         ensures { IfOk result (λ made. cands made ≡ refreshed (cands self.now)) }
     {
         let sets = self.copied_sets(alloc)?;
-        let none = CandList::of(Lists::with_room(alloc, 0)?);
-        let made = none.with_lefts(alloc, sets)?;
-        Ok(made)
+        let uptos = vec![in alloc; RowNo::first(); sets.len()]?;
+        let helds = vec![in alloc; false; sets.len()]?;
+        Ok(CandList::of(Lists { sets, uptos, helds }))
     }
 
     // A copy of the left sides.

@@ -124,19 +124,12 @@ impl Draft {
         Ok(sets)
     }
 
-    /// Whether a further agree set is news: for some target that it lacks, none of those that came in and lack the target
-    /// contains it. It takes a step for each agree set that has the rarest of its columns, and no memory.
-    pub fn is_news(&self, z: ColSet) -> bool
-        ensures { result ≡ drafts.is_news self.now.width self.now.agree_sets z }
-    {
-        let columns = self.filing.columns();
-        let known = self.filing.known(z);
-        !known.row_id || !ColSet::all(columns).minus(z).subset_of(known.columns)
-    }
-
-    /// The draft with a further agree set, which is noted in the time that `is_news` takes and two steps a column.
-    pub fn grown(self, _alloc: Global, z: ColSet) -> Result<Draft, AllocError>
-        ensures { IfOk result (λ draft. draft ≡ record { width = self.width; agree_sets = self.agree_sets ++ z ∷ [] }) }
+    /// The draft with a further agree set, where it is news, and whether it is: for some target that it lacks, none of those that came in
+    /// and lack the target contains it. It takes a step for each agree set that has the rarest of its columns, and where it is news two
+    /// steps a column.
+    pub fn noted(self, z: ColSet) -> Result<(Draft, bool), AllocError>
+        ensures news { IfOk result (λ made. made.1 ≡ drafts.is_news self.width self.agree_sets z) }
+        ensures draft { IfOk result (λ made. made.0 ≡ record { width = self.width; agree_sets = if made.1 then self.agree_sets ++ z ∷ [] else self.agree_sets }) }
     {
         let Draft {
             row_id,
@@ -144,13 +137,14 @@ impl Draft {
             filing,
             made,
         } = self;
-        let filing = filing.noted(z)?;
-        Ok(Draft {
+        let (filing, is_news) = filing.noted(z)?;
+        let draft = Draft {
             row_id,
             columns,
             filing,
             made,
-        })
+        };
+        Ok((draft, is_news))
     }
 }
 

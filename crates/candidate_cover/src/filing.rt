@@ -6,7 +6,7 @@ ghost use Rattle.col_set.specs.Target.{IsColumnTarget};
 ghost use Rattle.col_set.specs.declared.target.Target.{Target as TargetSpec};
 ghost use Rattle.col_set.specs.declared.target.Target.TheVariants.{Col, RowId};
 ghost use Rattle.col_set.specs.Evidence.{refuted};
-ghost use Rattle.candidate_cover.specs.Drafts.{Drafted, AreFiled, AreAdded, lists_behind};
+ghost use Rattle.candidate_cover.specs.Drafts.{Drafted, AreFiled, AreAdded, is_news, lists_behind};
 
 use rel_base::{ColSet, MOST_COLUMNS, Target};
 use std::alloc::{AllocError, Global};
@@ -110,13 +110,17 @@ impl Filing {
         known_by(few, columns, z)
     }
 
-    // With one more agree set.
-    pub(crate) fn noted(self, z: ColSet) -> Result<Filing, AllocError>
-        ensures { IfOk result (λ filing. filing ≡ record { width = self.width; agree_sets = self.agree_sets ++ z ∷ [] }) }
+    // With one more agree set, where it is news, and whether it is: whether there is a target that it lacks and that is not known.
+    pub(crate) fn noted(self, z: ColSet) -> Result<(Filing, bool), AllocError>
+        ensures news { IfOk result (λ made. made.1 ≡ is_news self.width self.agree_sets z) }
+        ensures filing { IfOk result (λ made. made.0 ≡ record { width = self.width; agree_sets = if made.1 then self.agree_sets ++ z ∷ [] else self.agree_sets }) }
     {
         let known = self.known(z);
+        if known.has_all(ColSet::all(self.columns()).minus(z)) {
+            return Ok((self, false));
+        }
         let filing = self.filed(known, z)?;
-        Ok(filing)
+        Ok((filing, true))
     }
 
     // With one more agree set, filed for the targets that it lacks and that are not known.

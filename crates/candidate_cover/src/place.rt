@@ -1,5 +1,5 @@
 // Where a left side stands in a list in report order.
-ghost use Rattle.std.specs.Prelude.{◌≡◌, ◌≤◌, ◌<◌, ℕ, true, length, slice_index_or};
+ghost use Rattle.std.specs.Prelude.{◌≡◌, ◌≤◌, ◌<◌, ℕ, true, length, slice_index_or, IfSome, Ok};
 ghost use Rattle.std.specs.declared.cmp.Ordering.TheVariants.{Less};
 ghost use Rattle.col_set.specs.ColSet.{report_cmp};
 ghost use Rattle.col_set.specs.Lists.{Rises};
@@ -87,16 +87,29 @@ const BEFORE: usize = 3;
 const AFTER: usize = 5;
 
 // The place of the set, or the place at which it would stand, by a look at a place and those about it first: calls mostly follow
-// the list's order, and those of several threads nearly do.
+// the list's order, and those of several threads nearly do. The place itself and those behind it come first.
 pub(crate) fn place_about(sets: &[ColSet], near: usize, x: ColSet) -> Result<usize, usize>
     requires { Rises report_cmp sets.now }
     ensures { IsPlace sets.now x result }
 {
-    let end = sets.len().min(near.saturating_add(AFTER));
-    for place in near.saturating_sub(BEFORE)..end {
-        if sets[place] == x {
-            return Ok(place);
-        }
+    if let Some(place) = place_among(sets, near, near.saturating_add(AFTER), x) {
+        return Ok(place);
+    }
+    if let Some(place) = place_among(sets, near.saturating_sub(BEFORE), near, x) {
+        return Ok(place);
     }
     place_of(sets, x)
+}
+
+// The place of the set, where it is one of these.
+fn place_among(sets: &[ColSet], first: usize, end: usize, x: ColSet) -> Option<usize>
+    requires { Rises report_cmp sets.now }
+    ensures { IfSome result (λ place. IsPlace sets.now x (Ok place)) }
+{
+    for place in first..end.min(sets.len()) {
+        if sets[place] == x {
+            return Some(place);
+        }
+    }
+    None
 }

@@ -275,7 +275,7 @@ fn draft_of(alloc: Global, columns: u8, sets: &[ColSet]) -> Result<Draft, AllocE
     let cover = CandidateCover::new(alloc, columns)?;
     let mut draft = cover.draft(alloc, Vec::new(alloc))?;
     for z in sets {
-        draft = draft.grown(alloc, *z)?;
+        draft = draft.noted(*z)?.0;
     }
     Ok(draft)
 }
@@ -358,13 +358,22 @@ fn a_set_around_another_is_found_in_a_later_block(rt: HostRuntime) -> Result<(),
     Ok(())
 }
 
+// Whether an agree set is news after these.
+fn is_news(alloc: Global, columns: u8, sets: &[ColSet], z: ColSet) -> Result<bool, AllocError>
+    requires { columns ≤ MOST_COLUMNS }
+{
+    let (_draft, is_news) = draft_of(alloc, columns, sets)?.noted(z)?;
+    Ok(is_news)
+}
+
 // The agree set of the first column is told for each target but that column.
 #[test]
 fn a_set_inside_one_that_came_in_is_news_for_other_targets(rt: HostRuntime) -> Result<(), Fail> {
     let first = set(&[0]);
-    let draft = draft_of(rt.alloc(), 3, &[first])?;
-    assert!(rt; !draft.is_news(first) && draft.is_news(ColSet::empty()));
-    assert!(rt; draft.is_news(set(&[1])) && draft.is_news(set(&[0, 1, 2])));
+    assert!(rt; !is_news(rt.alloc(), 3, &[first], first)?);
+    for z in [ColSet::empty(), set(&[1]), set(&[0, 1, 2])] {
+        assert!(rt; is_news(rt.alloc(), 3, &[first], z)?);
+    }
     Ok(())
 }
 
@@ -396,10 +405,9 @@ fn news_are_what_no_set_before_tells(rt: HostRuntime) -> Result<(), Fail> {
     let alloc = rt.alloc();
     for seed in 0..300u32 {
         let sets = some_sets(alloc, (seed % 12) as usize, seed)?;
-        let draft = draft_of(alloc, 6, sets.as_slice())?;
         for z in some_sets(alloc, 8, seed + 1000)?.as_slice() {
             let told = is_told_for_all(sets.as_slice(), 6, *z);
-            assert!(rt; draft.is_news(*z) != told);
+            assert!(rt; is_news(alloc, 6, sets.as_slice(), *z)? != told);
         }
     }
     Ok(())

@@ -212,6 +212,7 @@ impl Book {
     ///
     /// It takes a step a witness, which tells the targets of which their agree set refutes a candidate, and copies the lists of
     /// these alone. It fails only where there are such targets, and then nothing changed: `Gone` and `Known` take no memory.
+    #[inline(never)]
     pub fn refute(&mut self, i: RowNo, j: RowNo) -> Result<Refutation, AllocError>
         requires { i ≢ j }
         ensures step { IfOk result (λ refutation. steps.IsRefuting self.old i j (reply_of_refutation refutation) self.new) }
@@ -283,6 +284,7 @@ impl Book {
     ///
     /// It takes a copy of the codes of the last rows for the new snapshot, a look at each witness, and for each target of which a withdrawn agree
     /// set lacks the target what `generalise` takes. After a refusal or want of memory nothing changed.
+    #[inline(never)]
     pub fn apply(&mut self, batch: &Batch) -> Applying
         requires { All (IsAsWide (width self.old.rows)) batch.now }
         ensures step { steps.IsApplying self.old batch.now (reply_of_batch result) self.new }
@@ -322,6 +324,7 @@ impl Book {
 
     /// The covers of the rows, where each candidate is known to hold in all rows, or else the first candidate that is not, which
     /// takes a look alone. Want of memory comes only where the covers are to be made.
+    #[inline(never)]
     pub fn settle(&self) -> Result<Settling, AllocError>
         ensures step { IfOk result (λ settling. steps.IsSettling self.now (reply_of_settle settling) self.now) }
         ensures exact { IfOk result (λ settling. IfReady settling (λ found. found ≡ covers self.now.rows)) }
@@ -549,9 +552,9 @@ impl Book {
         let mut held = Vec::new(alloc);
         for size in 0..=self.candidates.columns() {
             let (mut verdicts, asked) = self.judge_sought(judges, gate, &news.draft, size)?;
-            let is_calm = is_calm(verdicts.found.len(), asked, news.witnesses.len());
+            let is_calm = is_calm(verdicts.told, asked, news.witnesses.len());
             held.append(&mut verdicts.held)?;
-            news = news.with(alloc, verdicts.found)?;
+            news = news.with(verdicts.found)?;
             if is_calm {
                 break;
             }
@@ -677,7 +680,7 @@ impl Book {
         let (rows, stores) = (&self.rows, &mut self.searcher.stores);
         let asked = list.as_slice();
         let judged = judged_by_parts(judges, gate, alloc, rows, &snapshot, asked, stores)?;
-        let few = judged.found.len() < list.len();
+        let few = judged.told < list.len();
         self.mark_held(judged.held.as_slice());
         self.book_all(judges, judged.found)?;
         Ok(few)

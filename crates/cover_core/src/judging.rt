@@ -17,10 +17,11 @@ use candidate_cover::{CandidateCover, Draft};
 use cover_steps::evidence::Evidence;
 use cover_steps::new_lists::{NewLists, drafted, drafted_by};
 use cover_steps::recent::Recent;
+use cover_steps::seen::Seen;
 use ports::{Gate, Point};
 use rel_base::{Job, Snapshot};
 use row_log::RowLog;
-use sampler::{push_witnesses, sampled, sampled_by};
+use sampler::{push_unseen, sampled, sampled_by};
 use std::alloc::{AllocError, Global};
 use std::marker::Brand;
 use std::slice;
@@ -48,12 +49,14 @@ const LOOKS_AN_AGREE_SET: usize = 1 << 13;
 // The number of who seeks, at the gate.
 const SEEKER: u32 = 0;
 
-// The candidates that hold, and evidence against others.
+// The candidates that hold, and evidence against others: of all that was told, what had not been seen lately.
 #[derive(Drop)]
 pub(crate) struct Verdicts {
     pub(crate) held: Vec<Waiting>,
     pub(crate) found: Vec<Evidence>,
+    pub(crate) told: usize,
     recent: Recent,
+    seen: Seen,
 }
 
 impl Verdicts {
@@ -64,7 +67,9 @@ impl Verdicts {
         Verdicts {
             held: Vec::new(alloc),
             found: Vec::new(alloc),
+            told: 0,
             recent: Recent::none(alloc),
+            seen: Seen::none(alloc),
         }
     }
 }
@@ -252,7 +257,7 @@ impl<'a, R: Threads + Sync> Judges for Beside<'a, R> {
         let others = stores.others.as_mut_slice();
         let verdicts = both_halves(self.rt, alloc, rows, snapshot, &queue, own, others)?;
         // Stores that share less, for want of memory, are as right.
-        drop(stores.level());
+        drop(stores.level(self.rt));
         Ok(verdicts)
     }
 
@@ -415,7 +420,8 @@ fn judge(
         return Ok(());
     }
     let known = all.found.len();
-    push_witnesses(rows, pairs.as_slice(), &mut all.found)?;
+    all.told = all.told.saturating_add(pairs.len());
+    push_unseen(rows, pairs.as_slice(), &mut all.seen, &mut all.found)?;
     all.recent.note(&all.found[known..]);
     Ok(())
 }
@@ -485,6 +491,7 @@ fn together(first: Verdicts, second: Verdicts) -> Result<Verdicts, AllocError>
     ensures found { IfOk result (λ all. all.found.items ≡ first.found.items ++ second.found.items) }
 {
     let mut all = first;
+    all.told = all.told.saturating_add(second.told);
     let (mut more, mut others) = (second.held, second.found);
     all.held.append(&mut more)?;
     all.found.append(&mut others)?;

@@ -117,6 +117,7 @@ fn push_sought(
         list.push(Waiting {
             places: order.places_of(*left),
             target,
+            size: size as u32,
             near: NOWHERE,
             cand: Cand {
                 left: *left,
@@ -158,7 +159,7 @@ pub(crate) fn collected(
     ensures { IfOk result (λ list. All (IsWanted wanted.now) list.items) }
 {
     let mut list = taken_in_turn(alloc, wanted, order, taken)?;
-    list.sort_unstable_by_key(|waiting| (waiting.cand.left.len(), !waiting.places));
+    list.sort_unstable_by_key(|waiting| (waiting.size, !waiting.places));
     Ok(list)
 }
 
@@ -168,7 +169,7 @@ fn merged(one: Vec<Waiting>, other: Vec<Waiting>) -> Result<Vec<Waiting>, AllocE
 {
     let (mut list, mut more) = (one, other);
     list.append(&mut more)?;
-    list.sort_by_key(|waiting| (waiting.cand.left.len(), !waiting.places))?;
+    list.sort_by_key(|waiting| (waiting.size, !waiting.places))?;
     Ok(list)
 }
 

@@ -26,28 +26,25 @@ pub struct News {
 }
 
 // What is news with this evidence, which is one more witness where it is news.
-fn noted(alloc: Global, news: News, evidence: Evidence) -> Result<News, AllocError>
+fn noted(news: News, evidence: Evidence) -> Result<News, AllocError>
     ensures news { IfOk result (λ new. (r : RowState) (n : ℕ) (ws : List Witness) → IsEvidence r evidence → IsNews r n ws news.witnesses.items news.draft → IsNews r n ws new.witnesses.items new.draft) }
     ensures told { IfOk result (λ new. is_news new.draft.width new.draft.agree_sets evidence.agree ≡ false) }
     ensures kept { IfOk result (λ new. (z : ℕ) → is_news news.draft.width news.draft.agree_sets z ≡ false → is_news new.draft.width new.draft.agree_sets z ≡ false) }
 {
-    if !news.draft.is_news(evidence.agree) {
-        return Ok(news);
-    }
     let News {
         mut witnesses,
         draft,
     } = news;
-    let grown = draft.grown(alloc, evidence.agree)?;
+    let (draft, is_news) = draft.noted(evidence.agree)?;
+    if !is_news {
+        return Ok(News { witnesses, draft });
+    }
     witnesses.push(evidence)?;
-    Ok(News {
-        witnesses,
-        draft: grown,
-    })
+    Ok(News { witnesses, draft })
 }
 
 // What is news with one piece of evidence after another.
-fn noted_each(alloc: Global, start: News, found: &[Evidence]) -> Result<News, AllocError>
+fn noted_each(start: News, found: &[Evidence]) -> Result<News, AllocError>
     ensures news { IfOk result (λ new. (r : RowState) (n : ℕ) (ws : List Witness) → All (IsEvidence r) found.now → IsNews r n ws start.witnesses.items start.draft → IsNews r n ws new.witnesses.items new.draft) }
     ensures told { IfOk result (λ new. All (λ e. is_news new.draft.width new.draft.agree_sets e.agree ≡ false) found.now) }
 {
@@ -55,7 +52,7 @@ fn noted_each(alloc: Global, start: News, found: &[Evidence]) -> Result<News, Al
     let mut last = None;
     for evidence in found {
         if last != Some(evidence.agree) {
-            news = noted(alloc, news, *evidence)?;
+            news = noted(news, *evidence)?;
             last = Some(evidence.agree);
         }
     }
@@ -65,13 +62,13 @@ fn noted_each(alloc: Global, start: News, found: &[Evidence]) -> Result<News, Al
 impl News {
     /// With what is news in further evidence. It takes a look at the witnesses a piece. The largest agree sets come first, since one inside
     /// another is seldom news.
-    pub fn with(self, alloc: Global, mut found: Vec<Evidence>) -> Result<News, AllocError>
+    pub fn with(self, mut found: Vec<Evidence>) -> Result<News, AllocError>
         ensures news { IfOk result (λ new. (r : RowState) (n : ℕ) (ws : List Witness) → All (IsEvidence r) found.items → IsNews r n ws self.witnesses.items self.draft → IsNews r n ws new.witnesses.items new.draft) }
         ensures told { IfOk result (λ new. All (λ e. is_news new.draft.width new.draft.agree_sets e.agree ≡ false) found.items) }
     {
         found.sort_unstable();
         found.reverse();
-        noted_each(alloc, self, found.as_slice())
+        noted_each(self, found.as_slice())
     }
 }
 
@@ -91,5 +88,5 @@ pub fn news_of(
         witnesses: Vec::new(alloc),
         draft,
     };
-    none.with(alloc, found)
+    none.with(found)
 }

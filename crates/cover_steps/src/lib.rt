@@ -7,6 +7,7 @@ pub mod laws;
 pub mod listed;
 pub mod new_lists;
 pub mod recent;
+pub mod seen;
 mod step;
 #[cfg(test)]
 mod tests;

@@ -1,6 +1,7 @@
-// What is told of the evidence that was found last.
+// What is told of the evidence that was found last, and which of it was seen.
 use crate::evidence::Evidence;
 use crate::recent::Recent;
+use crate::seen::Seen;
 use rel_base::{ColSet, RowNo, Target};
 use std::test::Fail;
 
@@ -35,5 +36,16 @@ fn a_thousand_pieces_are_told_and_no_more(rt: HostRuntime) -> Result<(), Fail> {
     recent.note(&[agreeing_on(other), agreeing_on(other)]);
     assert!(rt; !recent.tells(Target::Col(1), first));
     assert!(rt; recent.tells(Target::Col(1), other));
+    Ok(())
+}
+
+#[test]
+fn an_agree_set_is_new_once(rt: HostRuntime) -> Result<(), Fail> {
+    let first = ColSet::empty().with(0);
+    let other = first.with(127);
+    let mut seen = Seen::none(rt.alloc());
+    assert!(rt; seen.is_new(first) && !seen.is_new(first));
+    assert!(rt; seen.is_new(other) && !seen.is_new(other));
+    assert!(rt; seen.is_new(ColSet::empty()));
     Ok(())
 }

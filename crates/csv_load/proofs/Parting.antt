@@ -24,14 +24,14 @@ has_mark (a ∷ []) = false
 has_mark (a ∷ b ∷ []) = false
 has_mark (a ∷ b ∷ c ∷ rest) = is_bom a b c
 
-plain : (xs : List ℕ) → has_mark xs ≡ false → without_marks xs ≡ xs
+pub plain : (xs : List ℕ) → has_mark xs ≡ false → without_marks xs ≡ xs
 unfolding without_marks
 plain [] e = refl
 plain (a ∷ []) e = refl
 plain (a ∷ b ∷ []) e = refl
 plain (a ∷ b ∷ c ∷ rest) e = ap (λ t. cond t (without_marks rest) (a ∷ b ∷ c ∷ rest)) e
 
-no_mark_left : (xs : List ℕ) → has_mark (without_marks xs) ≡ false
+pub no_mark_left : (xs : List ℕ) → has_mark (without_marks xs) ≡ false
 unfolding without_marks
 no_mark_left [] = refl
 no_mark_left (a ∷ []) = refl
@@ -42,7 +42,7 @@ no_mark_left (a ∷ b ∷ c ∷ rest) = by (is_bom a b c) refl (no_mark_left res
     by true e again = again
     by false e again = e
 
-no_mark_before : (n : ℕ) (xs : List ℕ) → has_mark xs ≡ false → has_mark (take n xs) ≡ false
+pub no_mark_before : (n : ℕ) (xs : List ℕ) → has_mark xs ≡ false → has_mark (take n xs) ≡ false
 no_mark_before zero xs e = refl
 no_mark_before (suc n) [] e = refl
 no_mark_before (suc zero) (a ∷ xs) e = refl
@@ -83,7 +83,7 @@ unfolding next_record
 none_behind = after_none [] refl
 
 -- a byte that goes on with a record
-goes_on : (s : State) (c : ℕ) (fields : Row) (field rest : List ℕ) → is_end (step default_config s c).1 ≡ false
+pub goes_on : (s : State) (c : ℕ) (fields : Row) (field rest : List ℕ) → is_end (step default_config s c).1 ≡ false
     → next_record default_config s fields field (c ∷ rest) ≡ next_record default_config (step default_config s c).0 (fields_after (step default_config s c).1 fields field) (field_after (step default_config s c).1 c field) rest
 unfolding next_record
 goes_on s c fields field rest end =
@@ -113,7 +113,7 @@ pub record IsReadIn (start : List ℕ) (s : State) (ended : ℕ) : Type 0 where
 pub read_none : IsReadIn [] st.StartRecord 0
 read_none = record { earlier = []; fields = []; field = []; reads = after_first; count = refl }
 
-one_further : (start : List ℕ) (c : ℕ) (rest : List ℕ) → records_after st.StartRecord (Some ((start ++ c ∷ []) ++ rest)) ≡ records_after st.StartRecord (Some (start ++ c ∷ rest))
+pub one_further : (start : List ℕ) (c : ℕ) (rest : List ℕ) → records_after st.StartRecord (Some ((start ++ c ∷ []) ++ rest)) ≡ records_after st.StartRecord (Some (start ++ c ∷ rest))
 one_further start c rest = ap (λ (xs : List ℕ). records_after st.StartRecord (Some xs)) (append_assoc start (c ∷ []) rest)
 
 read_more : (start : List ℕ) (s : State) (c ended : ℕ) → IsReadIn start s ended → is_end (step default_config s c).1 ≡ false

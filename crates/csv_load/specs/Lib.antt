@@ -4,4 +4,6 @@ pub mod Parting
 pub mod Refusal
 pub mod Unread
 pub mod Loaded
+pub mod Cuts
+pub mod RowsBelow
 pub mod Laws

@@ -1,5 +1,5 @@
 // What may stand before the first record: byte order marks.
-ghost use Rattle.std.specs.Prelude.{◌≡◌};
+ghost use Rattle.std.specs.Prelude.{◌≡◌, false};
 ghost use Rattle.csv_load.specs.Records.{without_marks};
 
 /// U+FEFF in UTF-8.
@@ -14,4 +14,11 @@ pub(crate) fn after_marks(bytes: &[u8]) -> &[u8]
         rest = after;
     }
     rest
+}
+
+/// Whether a byte order mark comes first.
+pub(crate) fn begins_with_mark(bytes: &[u8]) -> bool
+    ensures { result ≡ false → without_marks bytes.now ≡ bytes.now }
+{
+    bytes.strip_prefix(&MARK).is_some()
 }

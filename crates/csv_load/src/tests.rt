@@ -1,9 +1,14 @@
 // Where an allocation fails, a call is made once more, so that these tests also pass where any one fails.
-use crate::{Loaded, RecordReader, part_at_giant, read_relation, records};
+use crate::by_threads::{read_parts, try_parts};
+use crate::cutting::cut;
+use crate::marks::after_marks;
+use crate::{Loaded, RecordReader, part_at_giant, read_relation, read_relation_by, records};
 use csv::ByteRecord;
 use rel_base::{Limits, MOST_CELL_BYTES, MOST_COLUMNS, MOST_ROWS, Row};
 use std::alloc::{AllocError, Global};
+use std::process::Abort;
 use std::test::Fail;
+use std::thread::Threads;
 
 const CITIES: &[u8] = b"id,city,zip\n1,Berlin,10115\n2,Berlin,10115\n3,Potsdam,14467\n";
 
@@ -19,10 +24,10 @@ fn show_row(out: &mut Vec<u8>, row: &Row) -> Result<(), AllocError> {
     Ok(())
 }
 
-// The names and rows of a file, or the record and the cause of its refusal.
-fn shown_once(alloc: Global, bytes: &[u8], limits: &Limits) -> Result<Vec<u8>, AllocError> {
+// The names and rows that were read, or the record and the cause of its refusal.
+fn show(alloc: Global, reading: Loaded) -> Result<Vec<u8>, AllocError> {
     let mut out = Vec::new(alloc);
-    match read_relation(alloc, bytes, limits) {
+    match reading {
         Loaded::Read(relation) => {
             show_row(&mut out, relation.names())?;
             for row in &relation.rows(alloc)? {
@@ -38,8 +43,26 @@ fn shown_once(alloc: Global, bytes: &[u8], limits: &Limits) -> Result<Vec<u8>, A
     Ok(out)
 }
 
+// What a file comes to.
 fn shown(alloc: Global, bytes: &[u8], limits: &Limits) -> Result<Vec<u8>, AllocError> {
-    shown_once(alloc, bytes, limits).or_else(|_| shown_once(alloc, bytes, limits))
+    show(alloc, read_relation(alloc, bytes, limits)).or_else(|_| show(
+        alloc,
+        read_relation(alloc, bytes, limits),
+    ))
+}
+
+// The same, where so many workers read it.
+fn shown_by<R: Threads + Sync>(
+    rt: &R,
+    alloc: Global,
+    bytes: &[u8],
+    limits: &Limits,
+    workers: u8,
+) -> Result<Vec<u8>, AllocError> {
+    show(alloc, read_parts(rt, alloc, bytes, limits, workers)).or_else(|_| show(
+        alloc,
+        read_parts(rt, alloc, bytes, limits, workers),
+    ))
 }
 
 // All records of a text.
@@ -270,6 +293,147 @@ fn parted_texts(rt: HostRuntime) -> Result<(), Fail> {
         }
         // None is as long as a block.
         assert_eq!(rt; part_at_giant(bytes, limit, false).is_none(), true);
+    }
+    Ok(())
+}
+
+// A file is read alike by any number of workers.
+fn is_read_alike<R: Threads + Sync + Abort>(
+    rt: &R,
+    alloc: Global,
+    bytes: &[u8],
+    limits: &Limits,
+) -> Result<(), Fail> {
+    let wanted = shown(alloc, bytes, limits)?;
+    for workers in [0u8, 1, 2, 3, 4, 16] {
+        let out = shown_by(rt, alloc, bytes, limits, workers)?;
+        assert_eq!(rt; out.as_slice(), wanted.as_slice(), "{workers} workers");
+    }
+    Ok(())
+}
+
+#[test]
+fn any_number_of_workers_reads_the_same(rt: HostRuntime) -> Result<(), Fail> {
+    let standard = Limits::standard();
+    let cases: [(&[u8], Limits); 24] = [
+        (CITIES, standard),
+        (b"", standard),
+        (b"\n", standard),
+        (b"a,b", standard),
+        (b"a,b\n", standard),
+        (b"\n\na\n1\n2\n3\n", standard),
+        (b"a\n\n1\n\n\n2\n\n3\n\n\n\n", standard),
+        (b"a,b\r1,2\r3,4\r5,6\r7,8\r9,0\r", standard),
+        (b"a,b\r\n1,2\r\n3,4\r\n5,6\r\n7,8\r\n", standard),
+        (b"a,b\r1,2\n3,4\r\n\r\n5,6\n7,8", standard),
+        // The middle stands in quotes, and so does the end of the header's line.
+        (b"a,b\n1,2\n\"\n\n\n\n\n\n\n\n\n\",3\n4,5\n", standard),
+        (
+            b"a\n\"\"\n\"\"\"\n\"\"\"\n\"\n\"\n\"\n\n\"\"\n\n\"\n1\n",
+            standard,
+        ),
+        (b"\"a\n\",\"\nb\"\n1,\"2\"\n\"\n\",\"\"\n5,6\n", standard),
+        (b"a,b\n1,2\n3,\"4\n5,6\n7,8\n9,0\n", standard),
+        // A byte order mark at the start of the file is none of it; another belongs to its cell.
+        (b"\xEF\xBB\xBFa,b\n1,2\n3,4\n5,6\n", standard),
+        (b"a\n1\n2\n\xEF\xBB\xBF3\n\xEF\xBB\xBF4\n5\n6\n", standard),
+        (
+            b"a\n\xEF\xBB\xBF3\n\xEF\xBB\xBF4\n\xEF\xBB\xBF5\n",
+            standard,
+        ),
+        // A rule refuses it.
+        (b"a,b\n1,2\n3,4\n5,6\n7\n", standard),
+        (b"a,b\n1\n3,4\n5,6\n7\n", standard),
+        (b"a,b\n1,2\n3,4\n5,66\n7,8\n", Limits::smaller(2, 9, 1, 99)),
+        (b"a,bb\n1,2\n3,4\n5,6\n7,8\n", Limits::smaller(2, 9, 1, 99)),
+        (b"a,b,c\n1,2,3\n4,5,6\n", Limits::smaller(2, 9, 9, 99)),
+        (b"a\n1\n2\n3\n4\n5\n", Limits::smaller(2, 4, 9, 99)),
+        (b"a\n1\n2\n3\n4\n5\n", Limits::smaller(2, 5, 9, 99)),
+    ];
+    for (bytes, limits) in cases {
+        is_read_alike(&rt, rt.alloc(), bytes, &limits)?;
+    }
+    Ok(())
+}
+
+// Whether parts of a file were read and put together.
+fn is_parted<R: Threads + Sync>(
+    rt: &R,
+    alloc: Global,
+    bytes: &[u8],
+    limits: &Limits,
+) -> Result<bool, AllocError> {
+    Ok(try_parts(rt, alloc, bytes, limits, 4)?.is_some())
+}
+
+#[test]
+fn parts_are_put_together_where_no_rule_refuses(rt: HostRuntime) -> Result<(), Fail> {
+    let standard = Limits::standard();
+    let cases: [(&[u8], Limits, bool); 6] = [
+        (CITIES, standard, true),
+        (b"a,b\r1,2\r3,4\r5,6\r", standard, true),
+        (b"a,b\n1,\"\n\"\n3,\"\n\"\n5,\"\n\"\n", standard, true),
+        (b"a\n1\n2\n3\n4\n5\n", Limits::smaller(2, 5, 9, 99), true),
+        (b"a\n1\n2\n3\n4\n5\n", Limits::smaller(2, 4, 9, 99), false),
+        (b"a\n1\n2\n3\n4,4\n5\n", standard, false),
+    ];
+    for (bytes, limits, wanted) in cases {
+        let alloc = rt.alloc();
+        let parted = is_parted(&rt, alloc, bytes, &limits).or_else(|_| is_parted(
+            &rt, alloc, bytes, &limits,
+        ))?;
+        assert_eq!(rt; parted, wanted);
+    }
+    Ok(())
+}
+
+#[test]
+fn cuts_between_records(rt: HostRuntime) -> Result<(), Fail> {
+    let cases: [(&[u8], usize, Option<usize>); 12] = [
+        (b"a,b\nc\n", 0, Some(4)),
+        (b"a,b\nc\n", 3, Some(4)),
+        // Nothing would be left.
+        (b"a,b\nc\n", 4, None),
+        (b"a,b\nc", 5, None),
+        (b"", 0, None),
+        (b"a,b\rc\r", 0, Some(4)),
+        (b"a\r\nb", 0, Some(3)),
+        (b"a\n\"\n\"\nb\n", 2, Some(6)),
+        (b"\"a\"\n\"\n\"\nb\n", 0, Some(4)),
+        (b"a\n\"b\nc\n", 2, None),
+        (b"a\n\xEF\xBB\xBFb\nc\n", 0, Some(7)),
+        (b"a\n\xEF\xBB\xBFb\n", 0, None),
+    ];
+    for (text, near, wanted) in cases {
+        assert_eq!(rt; cut(after_marks(text), near), wanted);
+    }
+    Ok(())
+}
+
+// The rows of a file that several workers read.
+fn row_count<R: Threads + Sync>(
+    rt: &R,
+    alloc: Global,
+    text: &[u8],
+    workers: u8,
+) -> Result<usize, AllocError> {
+    match read_relation_by(rt, alloc, text, &Limits::standard(), workers) {
+        Loaded::Read(relation) => Ok(relation.len()),
+        Loaded::Refused { .. } => Ok(0),
+        Loaded::NoMemory => Err(AllocError),
+    }
+}
+
+#[test]
+fn a_long_file_is_read_by_several_workers(rt: HostRuntime) -> Result<(), Fail> {
+    let alloc = rt.alloc();
+    let text = with_pieces(alloc, b"a,b\n", b"1,\"x\n\"\n22,yy\n", 25_000)?;
+    for workers in [1u8, 2, 16, 255] {
+        let bytes = text.as_slice();
+        let rows = row_count(&rt, alloc, bytes, workers).or_else(|_| row_count(
+            &rt, alloc, bytes, workers,
+        ))?;
+        assert_eq!(rt; rows, 50_000);
     }
     Ok(())
 }

@@ -5,10 +5,11 @@ ghost use Rattle.ports.specs.Files.{Nothing, bytes_of};
 ghost use Rattle.ports.specs.Whole.{Loads, load_failed};
 ghost use Rattle.profile_cli.specs.FilesRead.{faulted, Understands, any_faulted, fault_name, most_opened, IsOfFiles, UnderstandsAll};
 
-use csv_load::{Loaded, read_relation};
+use csv_load::{Loaded, read_relation_by};
 use ports::{Loading, Shelf, load_file};
 use rel_base::{Limits, Name, Relation, Why};
 use std::alloc::Global;
+use std::thread::Threads;
 
 /// What reading one file comes to.
 #[derive(Drop)]
@@ -33,17 +34,25 @@ pub(crate) enum FilesRead {
     NoMemory,
 }
 
-// The relation in the bytes that were loaded, or why there is none.
-fn understood(alloc: Global, loading: Loading, limits: &Limits) -> FileRead
+// The relation in the bytes that were loaded, read by so many workers at most, or why there is none.
+fn understood<R: Threads + Sync>(
+    rt: &R,
+    alloc: Global,
+    loading: Loading,
+    limits: &Limits,
+    workers: u8,
+) -> FileRead
     ensures failed { faulted result ≡ load_failed loading }
     ensures bytes { (bytes : List ℕ) → Loads loading limits.now.bytes bytes → Understands result limits.now bytes }
 {
     match loading {
-        Loading::Loaded(bytes) => match read_relation(alloc, bytes.as_slice(), limits) {
-            Loaded::Read(relation) => FileRead::Read(relation),
-            Loaded::Refused { rec, why } => FileRead::Refused { rec, why },
-            Loaded::NoMemory => FileRead::NoMemory,
-        },
+        Loading::Loaded(bytes) => {
+            match read_relation_by(rt, alloc, bytes.as_slice(), limits, workers) {
+                Loaded::Read(relation) => FileRead::Read(relation),
+                Loaded::Refused { rec, why } => FileRead::Refused { rec, why },
+                Loaded::NoMemory => FileRead::NoMemory,
+            }
+        }
         Loading::TooLong => FileRead::Refused {
             rec: 0,
             why: Why::Bytes,
@@ -53,12 +62,14 @@ fn understood(alloc: Global, loading: Loading, limits: &Limits) -> FileRead
     }
 }
 
-/// Reads one file.
-pub(crate) fn read_file<H: Shelf>(
+/// Reads one file, by so many workers at most.
+pub(crate) fn read_file<R: Threads + Sync, H: Shelf>(
+    rt: &R,
     alloc: Global,
     shelf: &mut H,
     name: &Name,
     limits: &Limits,
+    workers: u8,
 ) -> FileRead
     requires { H.opened shelf.old ≡ Nothing }
     ensures bytes { IfSome (H.content shelf.old) (λ files. Understands result limits.now (bytes_of files name.now)) }
@@ -69,17 +80,22 @@ pub(crate) fn read_file<H: Shelf>(
     ensures writes { SameFaults H.write_faults H.write_last shelf.old shelf.new }
 {
     match name.clone() {
-        Ok(own) => understood(alloc, load_file(alloc, shelf, own, limits.bytes), limits),
+        Ok(own) => {
+            let loading = load_file(alloc, shelf, own, limits.bytes);
+            understood(rt, alloc, loading, limits, workers)
+        }
         Err(_) => FileRead::NoMemory,
     }
 }
 
-/// Reads these files in order, up to the first that is refused or fails. None behind it is opened.
-pub(crate) fn read_files<H: Shelf>(
+/// Reads these files in order, each by so many workers at most, up to the first that is refused or fails. None behind it is opened.
+pub(crate) fn read_files<R: Threads + Sync, H: Shelf>(
+    rt: &R,
     alloc: Global,
     shelf: &mut H,
     names: &[Name],
     limits: &Limits,
+    workers: u8,
 ) -> FilesRead
     requires { H.opened shelf.old ≡ Nothing }
     ensures files { IfSome (H.content shelf.old) (UnderstandsAll result limits.now names.now) }
@@ -92,7 +108,7 @@ pub(crate) fn read_files<H: Shelf>(
 {
     let mut relations = Vec::new(alloc);
     for place in 0..names.len() {
-        match read_file(alloc, shelf, &names[place], limits) {
+        match read_file(rt, alloc, shelf, &names[place], limits, workers) {
             FileRead::Read(relation) => {
                 if relations.push(relation).is_err() {
                     return FilesRead::NoMemory;

@@ -96,6 +96,18 @@ impl Request {
         }
     }
 
+    /// How many workers it asks for.
+    pub(crate) fn workers(&self) -> u8
+        ensures { result ≡ (task_of self.now).workers }
+    {
+        match self {
+            Request::Profile { options, .. } => options.workers,
+            Request::Session { options, .. } => options.workers,
+            Request::Normalize { workers, .. } => *workers,
+            Request::Demo { workers, .. } => *workers,
+        }
+    }
+
     /// Whether it has the input read.
     pub(crate) fn reads_input(&self) -> bool
         ensures { result ≡ (task_of self.now).reads_input }

@@ -164,7 +164,8 @@ fn perform<R: Threads + Wait + Sync, H: Shelf, I: Source, O: Sink, G: Gate + Syn
     ensures room { O.room out.new ≡ O.room out.old }
     ensures closed { H.opened shelf.new ≡ Nothing }
 {
-    match read_files(alloc, shelf, request.files(), limits) {
+    let workers = request.workers();
+    match read_files(rt, alloc, shelf, request.files(), limits, workers) {
         FilesRead::Read(relations) => {
             answer(
                 rt, alloc, &request, relations, shelf, input, out, gate, limits,

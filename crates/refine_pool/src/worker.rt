@@ -226,6 +226,7 @@ fn book<R: Wait>(
 }
 
 // Says what pairs of rows tell, and answers whether some of it was news.
+#[inline(never)]
 fn refute_all<R: Wait>(
     rt: &R,
     desk: &Desk,
@@ -246,6 +247,7 @@ fn refute_all<R: Wait>(
 
 // Says what rows near each other tell, among those of the last job that it validated, where there was one. The next time it looks
 // further, where this brought news.
+#[inline(never)]
 fn look_around<R: Wait>(
     rt: &R,
     alloc: Global,

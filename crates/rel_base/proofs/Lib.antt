@@ -1,6 +1,8 @@
 pub mod Packed
+pub mod PackedBehind
 pub mod PackedOps
 pub mod Across
+pub mod AcrossBoth
 pub mod Fields
 pub mod Agree
 pub mod Valid

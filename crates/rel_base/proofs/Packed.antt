@@ -31,7 +31,7 @@ ArePacked-none = record {
 
 -- ---- one cell more
 -- what stands within the first of two lists
-inside : (bytes more : List ℕ) (a b : ℕ) → a ≤ b → b ≤ length bytes → take (b - a) (drop a (bytes ++ more)) ≡ take (b - a) (drop a bytes)
+pub inside : (bytes more : List ℕ) (a b : ℕ) → a ≤ b → b ≤ length bytes → take (b - a) (drop a (bytes ++ more)) ≡ take (b - a) (drop a bytes)
 inside bytes more a b l m =
     ap (take (b - a)) (drop-append-le a bytes more (omega arith))
     ∙ take-append-le (b - a) (drop a bytes) more (let d = length-drop a bytes in omega arith)

@@ -6,7 +6,7 @@ use Rattle.std.proofs.lemmas.List.Concat.{flat_map-append, get_or-flat_map}
 use Rattle.rel_base.specs.declared.batch.Op.{Op}
 use Rattle.rel_base.specs.declared.batch.Op.TheVariants.{Insert, Delete, Update}
 use Rattle.rel_base.specs.declared.batch.Step.{Step}
-use Rattle.rel_base.specs.declared.batch.Step.TheVariants.{Comes, Ends, Turns}
+use Rattle.rel_base.specs.declared.batch.Step.TheVariants as step
 use Rattle.rel_base.specs.declared.batch.Cursor.{Cursor}
 use Rattle.rel_base.specs.Cells.{Cell, Row}
 use Rattle.rel_base.specs.PackedOps.{step_of, numbers_in, cells_in, numbers_of, cells_of, step_numbers, step_cells, ops_of, ArePackedOps, IsCursor}
@@ -117,9 +117,9 @@ cells-count (Delete number) = refl
 cells-count (Update number row) = refl
 
 abbrev kind : Step → ℕ
-kind (Comes width) = 0
-kind Ends = 1
-kind (Turns width) = 2
+kind (step.Insert width) = 0
+kind step.Delete = 1
+kind (step.Update width) = 2
 
 -- the operation at a place of which the step is known
 abbrev pub at : List Op → ℕ → Op
@@ -208,21 +208,21 @@ module _ (now : List Op) (k : ℕ) (l : k < length now) where
       ap (λ (i : ℕ). get_or (flat_map numbers_in now) i d) (let e : length (flat_map numbers_in (take k now)) ≡ length (flat_map numbers_in (take k now)) + 0 = omega arith in e)
       ∙ get_or-flat_map numbers_in now k 0 (Delete 0) d l m
 
-comes-at : (op : Op) (width first : ℕ) (cells : List Cell) → Comes width ≡ step_of op → take (length (cells_in op)) (drop first cells) ≡ cells_in op → Insert (take width (drop first cells)) ≡ op
-comes-at (Insert row) width first cells e p = ap Insert (ap (λ (n : ℕ). take n (drop first cells)) (ap step_cells e) ∙ p)
-comes-at (Delete number) width first cells e p = let k = ap kind e in absurd (omega arith)
-comes-at (Update number row) width first cells e p = let k = ap kind e in absurd (omega arith)
+insert-at : (op : Op) (width first : ℕ) (cells : List Cell) → step.Insert width ≡ step_of op → take (length (cells_in op)) (drop first cells) ≡ cells_in op → Insert (take width (drop first cells)) ≡ op
+insert-at (Insert row) width first cells e p = ap Insert (ap (λ (n : ℕ). take n (drop first cells)) (ap step_cells e) ∙ p)
+insert-at (Delete number) width first cells e p = let k = ap kind e in absurd (omega arith)
+insert-at (Update number row) width first cells e p = let k = ap kind e in absurd (omega arith)
 
-ends-at : (op : Op) (number : ℕ) → Ends ≡ step_of op → (0 < length (numbers_in op) → number ≡ get_or (numbers_in op) 0 number) → Delete number ≡ op
-ends-at (Insert row) number e p = let k = ap kind e in absurd (omega arith)
-ends-at (Delete gone) number e p = ap Delete (p (omega arith))
-ends-at (Update gone row) number e p = let k = ap kind e in absurd (omega arith)
+delete-at : (op : Op) (number : ℕ) → step.Delete ≡ step_of op → (0 < length (numbers_in op) → number ≡ get_or (numbers_in op) 0 number) → Delete number ≡ op
+delete-at (Insert row) number e p = let k = ap kind e in absurd (omega arith)
+delete-at (Delete gone) number e p = ap Delete (p (omega arith))
+delete-at (Update gone row) number e p = let k = ap kind e in absurd (omega arith)
 
-turns-at : (op : Op) (number width first : ℕ) (cells : List Cell) → Turns width ≡ step_of op → (0 < length (numbers_in op) → number ≡ get_or (numbers_in op) 0 number)
+update-at : (op : Op) (number width first : ℕ) (cells : List Cell) → step.Update width ≡ step_of op → (0 < length (numbers_in op) → number ≡ get_or (numbers_in op) 0 number)
     → take (length (cells_in op)) (drop first cells) ≡ cells_in op → Update number (take width (drop first cells)) ≡ op
-turns-at (Insert row) number width first cells e p q = let k = ap kind e in absurd (omega arith)
-turns-at (Delete gone) number width first cells e p q = let k = ap kind e in absurd (omega arith)
-turns-at (Update gone row) number width first cells e p q =
+update-at (Insert row) number width first cells e p q = let k = ap kind e in absurd (omega arith)
+update-at (Delete gone) number width first cells e p q = let k = ap kind e in absurd (omega arith)
+update-at (Update gone row) number width first cells e p q =
     ap₂ (λ (n : ℕ) (r : Row). Update n r) (p (omega arith)) (ap (λ (n : ℕ). take n (drop first cells)) (ap step_cells e) ∙ q)
 
 module _ (now : List Op) (cursor : Cursor) (is : IsCursor now cursor) (l : cursor.op < length now) (d : Op) where
@@ -235,15 +235,15 @@ module _ (now : List Op) (cursor : Cursor) (is : IsCursor now cursor) (l : curso
   numbered : (numbers : List ℕ) (number : ℕ) → numbers ≡ numbers_of now → number ≡ get_or numbers cursor.number number → 0 < length (numbers_in (at now cursor.op)) → number ≡ get_or (numbers_in (at now cursor.op)) 0 number
   numbered numbers number e i m = i ∙ ap₂ (λ (ns : List ℕ) (j : ℕ). get_or ns j number) e is.number ∙ numbers-part now cursor.op l number m
 
-  pub comes : (width : ℕ) → Comes width ≡ step_of (at now cursor.op) → Insert (take width (drop cursor.cell (cells_of now))) ≡ get_or now cursor.op d
-  comes width e = comes-at (at now cursor.op) width cursor.cell (cells_of now) e held ∙ op-is
+  pub inserts : (width : ℕ) → step.Insert width ≡ step_of (at now cursor.op) → Insert (take width (drop cursor.cell (cells_of now))) ≡ get_or now cursor.op d
+  inserts width e = insert-at (at now cursor.op) width cursor.cell (cells_of now) e held ∙ op-is
 
-  pub ends : (numbers : List ℕ) (number : ℕ) → Ends ≡ step_of (at now cursor.op) → numbers ≡ numbers_of now → number ≡ get_or numbers cursor.number number → Delete number ≡ get_or now cursor.op d
-  ends numbers number e f i = ends-at (at now cursor.op) number e (numbered numbers number f i) ∙ op-is
+  pub deletes : (numbers : List ℕ) (number : ℕ) → step.Delete ≡ step_of (at now cursor.op) → numbers ≡ numbers_of now → number ≡ get_or numbers cursor.number number → Delete number ≡ get_or now cursor.op d
+  deletes numbers number e f i = delete-at (at now cursor.op) number e (numbered numbers number f i) ∙ op-is
 
-  pub turns : (numbers : List ℕ) (number width : ℕ) → Turns width ≡ step_of (at now cursor.op) → numbers ≡ numbers_of now → number ≡ get_or numbers cursor.number number
+  pub updates : (numbers : List ℕ) (number width : ℕ) → step.Update width ≡ step_of (at now cursor.op) → numbers ≡ numbers_of now → number ≡ get_or numbers cursor.number number
       → Update number (take width (drop cursor.cell (cells_of now))) ≡ get_or now cursor.op d
-  turns numbers number width e f i = turns-at (at now cursor.op) number width cursor.cell (cells_of now) e (numbered numbers number f i) held ∙ op-is
+  updates numbers number width e f i = update-at (at now cursor.op) number width cursor.cell (cells_of now) e (numbered numbers number f i) held ∙ op-is
 
 -- ---- the cells of a row at a place
 pub row-within : (cells : List Cell) (first width column : ℕ) → column < length (take width (drop first cells)) → first + column < length cells

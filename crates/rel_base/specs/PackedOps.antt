@@ -4,7 +4,7 @@ use Rattle.std.specs.List.{flat_map}
 use Rattle.rel_base.specs.declared.batch.Op.{Op}
 use Rattle.rel_base.specs.declared.batch.Op.TheVariants.{Insert, Delete, Update}
 use Rattle.rel_base.specs.declared.batch.Step.{Step}
-use Rattle.rel_base.specs.declared.batch.Step.TheVariants.{Comes, Ends, Turns}
+use Rattle.rel_base.specs.declared.batch.Step.TheVariants as step
 use Rattle.rel_base.specs.declared.batch.Change.{Change}
 use Rattle.rel_base.specs.declared.batch.Change.TheVariants as change
 use Rattle.rel_base.specs.declared.batch.Cursor.{Cursor}
@@ -13,9 +13,9 @@ use Rattle.rel_base.specs.Cells.{Cell, Row}
 
 -- the parts of an operation
 abbrev pub step_of : Op → Step
-step_of (Insert row) = Comes (length row)
-step_of (Delete number) = Ends
-step_of (Update number row) = Turns (length row)
+step_of (Insert row) = step.Insert (length row)
+step_of (Delete number) = step.Delete
+step_of (Update number row) = step.Update (length row)
 
 abbrev pub numbers_in : Op → List ℕ
 numbers_in (Insert row) = []
@@ -36,21 +36,21 @@ cells_of ops = flat_map cells_in ops
 
 -- how many numbers and cells an operation has
 abbrev pub step_numbers : Step → ℕ
-step_numbers (Comes width) = 0
-step_numbers Ends = 1
-step_numbers (Turns width) = 1
+step_numbers (step.Insert width) = 0
+step_numbers step.Delete = 1
+step_numbers (step.Update width) = 1
 
 abbrev pub step_cells : Step → ℕ
-step_cells (Comes width) = width
-step_cells Ends = 0
-step_cells (Turns width) = width
+step_cells (step.Insert width) = width
+step_cells step.Delete = 0
+step_cells (step.Update width) = width
 
 -- the operations back from their parts
 unfoldable pub ops_of : List Step → List ℕ → List Cell → List Op
 ops_of [] numbers cells = []
-ops_of (Comes width ∷ steps) numbers cells = Insert (take width cells) ∷ ops_of steps numbers (drop width cells)
-ops_of (Ends ∷ steps) numbers cells = Delete (slice_index_or numbers 0 0) ∷ ops_of steps (drop 1 numbers) cells
-ops_of (Turns width ∷ steps) numbers cells =
+ops_of (step.Insert width ∷ steps) numbers cells = Insert (take width cells) ∷ ops_of steps numbers (drop width cells)
+ops_of (step.Delete ∷ steps) numbers cells = Delete (slice_index_or numbers 0 0) ∷ ops_of steps (drop 1 numbers) cells
+ops_of (step.Update width ∷ steps) numbers cells =
     Update (slice_index_or numbers 0 0) (take width cells) ∷ ops_of steps (drop 1 numbers) (drop width cells)
 
 -- these are the parts of some operations

@@ -1,9 +1,10 @@
 // Changes of a relation's rows.
-ghost use Rattle.std.specs.Prelude.{◌≡◌, ◌==◌, ◌<◌, ◌+◌, ◌-◌, ◌++◌, ◌∷◌, [], List, length, slice_index_or, IfOk, OnOk, OnErr, vec_len, vec_capacity};
+ghost use Rattle.std.specs.Prelude.{◌≡◌, ◌==◌, ◌<◌, ◌+◌, ◌-◌, ◌++◌, ◌∷◌, [], List, length, slice_index_or, IfOk, OnOk, OnErr};
 ghost use Rattle.rel_base.specs.declared.batch.Op.{Op};
 ghost use Rattle.rel_base.specs.declared.batch.Op.TheVariants.{Insert, Delete, Update};
 ghost use Rattle.rel_base.specs.PackedOps.{cells_of, step_numbers, step_cells, row_at, op_at, place_of, IsCursor};
 
+use crate::append::append;
 use crate::{Cells, Row, RowNo};
 use std::alloc::{AllocError, Global};
 use std::marker::Model;
@@ -25,12 +26,9 @@ pub enum Op {
 // What an operation is, with the width of its row.
 #[derive(Clone, Copy)]
 enum Step {
-    // A row comes.
-    Comes(u8),
-    // A row ends.
-    Ends,
-    // A row ends and another one comes.
-    Turns(u8),
+    Insert(u8),
+    Delete,
+    Update(u8),
 }
 
 impl Step {
@@ -39,9 +37,9 @@ impl Step {
         ensures { result ≡ step_numbers self }
     {
         match self {
-            Step::Comes(_) => 0,
-            Step::Ends => 1,
-            Step::Turns(_) => 1,
+            Step::Insert(_) => 0,
+            Step::Delete => 1,
+            Step::Update(_) => 1,
         }
     }
 
@@ -50,9 +48,9 @@ impl Step {
         ensures { result ≡ step_cells self }
     {
         match self {
-            Step::Comes(width) => width as usize,
-            Step::Ends => 0,
-            Step::Turns(width) => width as usize,
+            Step::Insert(width) => width as usize,
+            Step::Delete => 0,
+            Step::Update(width) => width as usize,
         }
     }
 }
@@ -188,7 +186,7 @@ impl Batch {
         }
         self.steps.reserve(1)?;
         self.cells.push_row(row)?;
-        append_step(&mut self.steps, Step::Comes(row.len() as u8));
+        append(&mut self.steps, Step::Insert(row.len() as u8));
         Ok(())
     }
 
@@ -198,7 +196,7 @@ impl Batch {
     {
         self.steps.reserve(1)?;
         self.numbers.push(number)?;
-        append_step(&mut self.steps, Step::Ends);
+        append(&mut self.steps, Step::Delete);
         Ok(())
     }
 
@@ -212,8 +210,8 @@ impl Batch {
         self.steps.reserve(1)?;
         self.numbers.reserve(1)?;
         self.cells.push_row(row)?;
-        append_number(&mut self.numbers, number);
-        append_step(&mut self.steps, Step::Turns(row.len() as u8));
+        append(&mut self.numbers, number);
+        append(&mut self.steps, Step::Update(row.len() as u8));
         Ok(())
     }
 
@@ -236,12 +234,12 @@ impl Batch {
         ensures { (d : Op) → op_at (cells_of self.now) result ≡ slice_index_or self.now (place_of cursor) d }
     {
         match self.steps[cursor.op] {
-            Step::Comes(width) => Change::Insert(RowPlace {
+            Step::Insert(width) => Change::Insert(RowPlace {
                 first: cursor.cell,
                 width,
             }),
-            Step::Ends => Change::Delete(self.numbers[cursor.number]),
-            Step::Turns(width) => Change::Update(
+            Step::Delete => Change::Delete(self.numbers[cursor.number]),
+            Step::Update(width) => Change::Update(
                 self.numbers[cursor.number],
                 RowPlace {
                     first: cursor.cell,
@@ -331,20 +329,4 @@ impl Batch {
             Change::Update(number, row) => Op::Update(number, self.row(alloc, row)?),
         })
     }
-}
-
-// Appends to a list that has room.
-fn append_step(list: &mut Vec<Step>, item: Step)
-    requires { vec_len list.old < vec_capacity list.old }
-    ensures { list.new.items ≡ list.old.items ++ item ∷ [] }
-{
-    let _ = list.push(item);
-}
-
-// Appends to a list that has room.
-fn append_number(list: &mut Vec<RowNo>, item: RowNo)
-    requires { vec_len list.old < vec_capacity list.old }
-    ensures { list.new.items ≡ list.old.items ++ item ∷ [] }
-{
-    let _ = list.push(item);
 }

@@ -1,8 +1,10 @@
 // The cells of a column, packed.
-ghost use Rattle.std.specs.Prelude.{◌≡◌, ◌<◌, ◌≤◌, ◌^◌, ◌==◌, ◌++◌, ◌∷◌, length, take, slice_range, slice_index_or, [], OnOk, OnErr, vec_len, vec_capacity};
+ghost use Rattle.std.specs.Prelude.{◌≡◌, ◌<◌, ◌≤◌, ◌+◌, ◌^◌, ◌==◌, ◌++◌, ◌∷◌, length, map, take, slice_range, slice_index_or, [], OnOk, OnErr};
+ghost use Rattle.std.specs.List.{All};
 ghost use Rattle.rel_base.specs.Packed as packed;
 
 use crate::Row;
+use crate::append::append;
 use std::alloc::{AllocError, Global};
 use std::marker::Model;
 
@@ -100,6 +102,31 @@ impl Cells {
         Ok(())
     }
 
+    /// Puts other cells behind these, all of them or none. Where there are none yet it takes over the others' memory; else it copies their
+    /// bytes, at once, and where each ends. It is refused as `push` is.
+    pub fn append(&mut self, others: Cells) -> Result<(), AllocError>
+        ensures appended { OnOk result (self.new ≡ self.old ++ others) }
+        ensures refused { OnErr result (self.new ≡ self.old) }
+    {
+        if self.is_empty() {
+            *self = others;
+            return Ok(());
+        }
+        let Cells { bytes, mut ends } = others;
+        let start = self.bytes.len();
+        if bytes.len() > MOST_PACKED - start {
+            return Err(AllocError);
+        }
+        move_by(&mut ends, start as u32);
+        let count = self.ends.len();
+        self.ends.extend_from_slice(&ends)?;
+        if let Err(refused) = self.bytes.extend_from_slice(&bytes) {
+            self.ends.truncate(count);
+            return Err(refused);
+        }
+        Ok(())
+    }
+
     // Keeps so many cells, the first ones.
     fn truncate(&mut self, count: usize)
         requires { count ≤ length self.old }
@@ -132,10 +159,12 @@ fn part(bytes: &[u8], start: usize, end: usize) -> &[u8]
     &bytes[start..end]
 }
 
-// Appends to a list that has room.
-fn append(list: &mut Vec<u32>, item: u32)
-    requires { vec_len list.old < vec_capacity list.old }
-    ensures { list.new.items ≡ list.old.items ++ item ∷ [] }
+// Moves places so many bytes further.
+fn move_by(ends: &mut [u32], start: u32)
+    requires { All (λ end. start + end < 2 ^ 32) ends.old }
+    ensures { ends.new ≡ map (λ end. start + end) ends.old }
 {
-    let _ = list.push(item);
+    for end in ends.iter_mut() {
+        *end += start;
+    }
 }

@@ -3,6 +3,7 @@
 //! Column sets and targets come from the crate `col_set` and are passed on here.
 #![tactic(auto)]
 
+mod append;
 mod batch;
 mod cell;
 mod cells;

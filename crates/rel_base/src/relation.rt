@@ -1,5 +1,5 @@
 // A relation as it was read.
-ghost use Rattle.std.specs.Prelude.{◌≡◌, ◌<◌, ◌≤◌, ◌==◌, ◌++◌, ◌∷◌, ℕ, List, [], length, map, slice_index_or, IfOk};
+ghost use Rattle.std.specs.Prelude.{◌≡◌, ◌<◌, ◌≤◌, ◌+◌, ◌==◌, ◌++◌, ◌∷◌, ℕ, List, [], length, map, slice_index_or, IfOk};
 ghost use Rattle.col_set.specs.declared.col_set.TheConstants.{MOST_COLUMNS};
 ghost use Rattle.rel_base.specs.declared.limits.TheConstants.{MOST_ROWS};
 ghost use Rattle.csv.specs.Records.{fields_of};
@@ -78,6 +78,27 @@ impl Relation {
         ensures rows { IfOk result (λ relation. relation.rows ≡ self.rows ++ row.now ∷ []) }
     {
         self.with_record(row.record())
+    }
+
+    /// The relation with the rows of another behind its own. It goes column by column: the other's bytes are copied at once, or taken over
+    /// where there are no rows yet, and let go.
+    pub fn with_rows(self, others: Relation) -> Result<Relation, AllocError>
+        requires wide { length others.names ≡ length self.names }
+        requires room { length self.rows + length others.rows ≤ MOST_ROWS }
+        ensures names { IfOk result (λ relation. relation.names ≡ self.names) }
+        ensures rows { IfOk result (λ relation. relation.rows ≡ self.rows ++ others.rows) }
+    {
+        let mut columns = self.columns;
+        let mut place = 0;
+        for cells in others.columns {
+            columns[place].append(cells)?;
+            place += 1;
+        }
+        Ok(Relation {
+            names: self.names,
+            columns,
+            count: self.count + others.count,
+        })
     }
 
     /// The names of the columns.

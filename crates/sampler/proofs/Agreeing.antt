@@ -1,11 +1,12 @@
 -- What pairs of rows agree on.
 use Rattle.std.proofs.Common.{◌≡◌, ◌<◌, ◌≤◌, ◌+◌, ◌∙◌, ℕ, Bool, true, false, not, eqb, refl, sym, ap, subst, List, [], ◌∷◌, ◌++◌, length, map, take, get_or, cond, append_assoc, append-nil, if◌then◌else◌, Some, None, take_all}
-use Rattle.std.specs.List.{filter, All}
+use Rattle.std.specs.List.{filter, All, Contains}
 use Rattle.std.proofs.lemmas.Bool.{true≢false, and_parts, eq-eqb, not-true}
 use Rattle.std.proofs.lemmas.Option.{none-some, same_Some}
 use Rattle.std.proofs.lemmas.List.{map-append}
-use Rattle.std.proofs.lemmas.List.Elements.{All-append, filter_more}
-use Rattle.col_set.specs.Lists.{Listed, Listed-map_which, Listed-filter_parts}
+use Rattle.std.proofs.lemmas.List.Elements.{All-append, All-contains, All-contains_itself, All-push, Contains-append_left, Contains-append_right, filter_more}
+use Rattle.col_set.specs.Lists.{Listed, Listed-filter, Listed-map, Listed-map_which, Listed-filter_parts}
+use Rattle.col_set.proofs.Places.{Contains-listed, Listed-contained}
 use Rattle.rel_base.specs.CodeTable.{CodeTable}
 use Rattle.rel_base.specs.RowState.{RowState}
 use Rattle.rel_base.specs.Batches.{is_live}
@@ -94,3 +95,23 @@ module _ (r : RowState) (pairs : List (ℕ × ℕ)) (i : ℕ) (p : ℕ × ℕ) (
 
   pub agreeing_same : are_two r p ≡ false → found ≡ old ++ all_agreeing r (take (i + 1) pairs)
   agreeing_same e = so_far ∙ ap (λ (ws : List Witness). old ++ ws) (sym (agreeing_next r pairs i p false l is e ∙ append-nil _))
+
+-- ---- what is among all that pairs tell
+pub among_old : (r : RowState) (pairs : List (ℕ × ℕ)) (old : List Witness) → All (Contains (old ++ all_agreeing r pairs)) old
+among_old r pairs old = λ k d l. Contains-append_left old (all_agreeing r pairs) (get_or old k d) (All-contains_itself old k d l)
+
+-- what a pair of different live rows tells is one of them
+pub among_told : (r : RowState) (pairs : List (ℕ × ℕ)) (i : ℕ) (p : ℕ × ℕ) (w : Witness) (old found new : List Witness) → i < length pairs → p ≡ get_or pairs i p → are_two r p ≡ true → w ≡ agreeing r p
+    → new ≡ found ++ w ∷ [] → All (Contains (old ++ all_agreeing r pairs)) found → All (Contains (old ++ all_agreeing r pairs)) new
+unfolding all_agreeing
+among_told r pairs i p w old found new l is two told made among =
+    subst (All (Contains (old ++ all_agreeing r pairs))) (sym made)
+    (All-push (Contains (old ++ all_agreeing r pairs)) found w among
+    (subst (Contains (old ++ all_agreeing r pairs)) (sym told)
+    (Contains-append_right old (all_agreeing r pairs) (agreeing r p)
+    (Contains-listed (agreeing r p) (all_agreeing r pairs) (Listed-map (agreeing r) p (filter (are_two r) pairs) (Listed-filter (are_two r) p pairs (Listed-contained p pairs (i, l, sym is)) two))))))
+
+-- what is true of the old ones and of all that pairs tell is true of what is among them
+pub all_among : (P : Witness → Type 0) (r : RowState) (pairs : List (ℕ × ℕ)) (old new : List Witness) → All (Contains (old ++ all_agreeing r pairs)) new → All P old → All P (all_agreeing r pairs) → All P new
+all_among P r pairs old new among before told = λ k d l.
+    All-contains P (old ++ all_agreeing r pairs) (get_or new k d) (All-append P old (all_agreeing r pairs) before told) (among k d l)

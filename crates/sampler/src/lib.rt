@@ -12,4 +12,4 @@ mod witnesses;
 pub use sampling::{sampled, sampled_by};
 pub use spread::neighbours;
 pub use windows::window;
-pub use witnesses::push_witnesses;
+pub use witnesses::{push_unseen, push_witnesses};

@@ -3,7 +3,8 @@ ghost use Rattle.std.specs.Prelude.{◌<◌, length, IfOk};
 ghost use Rattle.std.specs.List.{All};
 ghost use Rattle.sampler.specs.Agreeing.{IsNear};
 
-use crate::{neighbours, push_witnesses};
+use crate::{neighbours, push_unseen};
+use cover_steps::seen::Seen;
 use negative_cover::Witness;
 use rayon::prelude::*;
 use rel_base::Snapshot;
@@ -26,7 +27,7 @@ fn sampled_in(
 {
     let mut found = Vec::new(alloc);
     let pairs = neighbours(alloc, snapshot, column, NEIGHBOURS)?;
-    push_witnesses(rows, pairs.as_slice(), &mut found)?;
+    push_unseen(rows, pairs.as_slice(), &mut Seen::none(alloc), &mut found)?;
     Ok(found)
 }
 

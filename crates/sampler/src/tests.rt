@@ -1,7 +1,8 @@
 // Windows and neighbours beside all pairs of drawn rows, and what pairs agree on.
 ghost use Rattle.std.specs.Prelude.{◌<◌};
 
-use crate::{neighbours, push_witnesses, sampled, sampled_by, window};
+use crate::{neighbours, push_unseen, push_witnesses, sampled, sampled_by, window};
+use cover_steps::seen::Seen;
 use negative_cover::Witness;
 use plain_base::{Samples, relation_of};
 use rel_base::{Codes, ColSet, Limits, MOST_COLUMNS, Row, RowNo, Snapshot};
@@ -209,6 +210,27 @@ fn pairs_with_what_they_agree_on(rt: HostRuntime) -> Result<(), Fail> {
     ];
     let mut found = Vec::new(alloc);
     push_witnesses(&rows, &pairs, &mut found)?;
+    assert!(rt; found.len() == 2);
+    assert!(rt; is_witness(found[0], 2, 1, 0));
+    assert!(rt; is_witness(found[1], 2, 3, 1));
+    Ok(())
+}
+
+// Each pair is told once, though it comes twice.
+#[test]
+fn pairs_that_agree_on_what_was_seen_are_passed_over(rt: HostRuntime) -> Result<(), Fail> {
+    let alloc = rt.alloc();
+    let rows = letters(&rt, alloc)?;
+    let (first, second, third) = (RowNo::of(1), RowNo::of(2), RowNo::of(3));
+    let pairs = [
+        (second, first),
+        (second, first),
+        (first, first),
+        (second, third),
+        (third, second),
+    ];
+    let mut found = Vec::new(alloc);
+    push_unseen(&rows, &pairs, &mut Seen::none(alloc), &mut found)?;
     assert!(rt; found.len() == 2);
     assert!(rt; is_witness(found[0], 2, 1, 0));
     assert!(rt; is_witness(found[1], 2, 3, 1));

@@ -388,7 +388,7 @@ impl Cache {
         for k in from..other.lasting.min(other.kept.len()) {
             let columns = other.kept[k].columns;
             let place = self.kept.len();
-            if place < MOST_KEPT && self.lacks(columns) && note(&mut self.places, columns, place) {
+            if place < MOST_KEPT && self.notes_new(columns, place) {
                 self.kept.push(other.kept[k].shared()?)?;
                 self.lasting = self.kept.len();
             }
@@ -396,9 +396,18 @@ impl Cache {
         Ok(())
     }
 
-    // Whether no partition by these columns is kept.
-    fn lacks(&self, columns: ColSet) -> bool {
-        place_of(&self.kept, &self.places, columns).is_none()
+    // Whether no partition by these columns is kept, and there is memory to note that it will be at a place.
+    fn notes_new(&mut self, columns: ColSet, place: usize) -> bool
+        ensures kept { self.new.kept ≡ self.old.kept }
+        ensures weights { self.new.weights ≡ self.old.weights }
+    {
+        match self.places.insert(columns, place) {
+            Ok(Some(known)) if known < self.kept.len() && self.kept[known].columns == columns => {
+                note(&mut self.places, columns, known);
+                false
+            }
+            noted => noted.is_ok(),
+        }
     }
 
     // All that stays for good was handed to the others.

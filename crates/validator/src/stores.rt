@@ -1,10 +1,11 @@
 // Stores of one snapshot for several threads.
-ghost use Rattle.std.specs.Prelude.{◌≡◌, ◌<◌, [], true, IfOk};
+ghost use Rattle.std.specs.Prelude.{◌≡◌, ◌<◌, [], length, true, IfOk};
 ghost use Rattle.std.specs.List.{All};
 ghost use Rattle.rel_base.specs.Shows.{holds_in};
 ghost use Rattle.validator.specs.Stores.{AreOf};
 ghost use Rattle.validator.specs.Verdicts.{IsFitting, IsVerdict};
 ghost use Rattle.validator.specs.declared.verdict.Verdict.TheVariants.{Broken};
+ghost use denote.Param.Send.{IsSync};
 
 use crate::{OldGroups, Store};
 use rel_base::{Job, RowNo, Snapshot, Steps};
@@ -12,6 +13,7 @@ use std::alloc::{AllocError, Global};
 use std::mem;
 use std::sync::Arc;
 use std::sync::ledger::{Blank, Ledger};
+use std::thread::{Threads, join_mut};
 
 // How many row numbers a store keeps, 4 bytes each; further stores have together as much again.
 const ROOM: usize = 1 << 25;
@@ -54,19 +56,16 @@ impl Stores {
     /// many partitions. So what one thread has made serves all that work after this call.
     ///
     /// It copies no groups, and what is shared comes on top of a store's room. It takes a look-up for each new partition and each
-    /// store. What the stores made on their way and may not keep goes where there is something to share. After want of memory they
-    /// are as useful as before.
-    pub fn level(&mut self) -> Result<(), AllocError>
+    /// store, those of the further stores by a thread each. What the stores made on their way and may not keep goes where there is
+    /// something to share. After want of memory they are as useful as before.
+    pub fn level<R: Threads + Sync>(&mut self, rt: &R) -> Result<(), AllocError>
         requires { AreOf self.old.own self.old }
         ensures { AreOf self.old.own self.new }
     {
         for k in 0..self.others.len() {
             self.own.take_over(&self.others[k])?;
         }
-        for k in 0..self.others.len() {
-            self.others[k].take_over(&self.own)?;
-            self.others[k].end_levelling();
-        }
+        levelled_by(rt, &self.own, self.others.as_mut_slice())?;
         self.own.end_levelling();
         Ok(())
     }
@@ -124,6 +123,64 @@ impl Stores {
         self.others.clear();
         self.own.renew(alloc, snapshot)
     }
+}
+
+// Has each of these stores share what another one keeps, beside each other.
+#[cycle(halves)]
+fn levelled_by<R: Threads + Sync>(
+    rt: &R,
+    own: &Store,
+    others: &mut [Store],
+) -> Result<(), AllocError>
+    requires { All (λ store. store ≡ own.now) others.old }
+    ensures { All (λ store. store ≡ own.now) others.new }
+{
+    let count = others.len();
+    if count < 2 {
+        return levelled(own, others);
+    }
+    let (few, rest) = others.split_at_mut(count / 2);
+    both_levelled(rt, own, few, rest)
+}
+
+// A function of its own, so that what the closures require is what it is given.
+#[cycle(halves)]
+fn both_levelled<R: Threads + Sync>(
+    rt: &R,
+    own: &Store,
+    few: &mut [Store],
+    others: &mut [Store],
+) -> Result<(), AllocError>
+    requires some { 0 < length few.old }
+    requires more { 0 < length others.old }
+    requires few { All (λ store. store ≡ own.now) few.old }
+    requires others { All (λ store. store ≡ own.now) others.old }
+    ensures few { All (λ store. store ≡ own.now) few.new }
+    ensures others { All (λ store. store ≡ own.now) others.new }
+{
+    let mut first = || -> Result<(), AllocError>
+        requires { IsSync R.row × All (λ store. store ≡ own.now) few.now }
+        ensures { All (λ store. store ≡ own.entry.now) few.exit.now }
+    { levelled_by(rt, own, few) };
+    let mut second = || -> Result<(), AllocError>
+        requires { IsSync R.row × All (λ store. store ≡ own.now) others.now }
+        ensures { All (λ store. store ≡ own.entry.now) others.exit.now }
+    { levelled_by(rt, own, others) };
+    let (first, second) = join_mut(rt, &mut first, &mut second);
+    first?;
+    second
+}
+
+// Has each of these stores share what another one keeps, one after another.
+fn levelled(own: &Store, others: &mut [Store]) -> Result<(), AllocError>
+    requires { All (λ store. store ≡ own.now) others.old }
+    ensures { All (λ store. store ≡ own.now) others.new }
+{
+    for k in 0..others.len() {
+        others[k].take_over(own)?;
+        others[k].end_levelling();
+    }
+    Ok(())
 }
 
 // An empty store for a snapshot.

@@ -212,9 +212,9 @@ fn is_determined(
 }
 
 // Whether the first column determines the second one, as each further store tells after what the stores keep was handed round.
-fn is_determined_by_each(
+fn is_determined_by_each<R: Threads + Sync + Abort>(
     alloc: Global,
-    rt: &impl Abort,
+    rt: &R,
     sample: &Sample,
     stores: &mut Stores,
 ) -> Result<bool, AllocError>
@@ -222,12 +222,12 @@ fn is_determined_by_each(
     ensures { AreOf sample.now.snapshot.value stores.new }
 {
     let wanted = is_determined(alloc, rt, sample, &mut stores.own)?;
-    stores.level()?;
+    stores.level(rt)?;
     for k in 0..stores.others.len() {
         let found = is_determined(alloc, rt, sample, &mut stores.others[k])?;
         assert!(rt; found == wanted);
     }
-    stores.level()?;
+    stores.level(rt)?;
     Ok(wanted)
 }
 
@@ -266,9 +266,9 @@ fn weights_are_found_by_several_threads(rt: HostRuntime) -> Result<(), Fail> {
 }
 
 // Makes two further stores, which tell the same as the own one.
-fn spread_and_compare(
+fn spread_and_compare<R: Threads + Sync + Abort>(
     alloc: Global,
-    rt: &impl Abort,
+    rt: &R,
     sample: &Sample,
     stores: &mut Stores,
     wanted: bool,
@@ -307,9 +307,9 @@ fn lend_and_take_back(
 }
 
 // Compares what the own store tells before and after there were others, which are lent and taken back.
-fn lend_and_compare(
+fn lend_and_compare<R: Threads + Sync + Abort>(
     alloc: Global,
-    rt: &impl Abort,
+    rt: &R,
     sample: &Sample,
     stores: &mut Stores,
 ) -> Result<(), AllocError>

@@ -3,13 +3,7 @@ use Rattle.validator.specs.Stores.{AreOf}
 use Rattle.validator.proofs.stores.Stores.level.Given as goal
 
 abbrev pub invariant-loop-k : goal.invariant-loop-k
-invariant-loop-k l = record {
-  are : AreOf l.fn.self.own l.self;
-  len : vec_len l.self.others ≡ vec_len l.fn.self.others;
-}
-
-abbrev pub invariant-loop-k-2 : goal.invariant-loop-k-2
-invariant-loop-k-2 l = record {
+invariant-loop-k g l = record {
   are : AreOf l.fn.self.own l.self;
   len : vec_len l.self.others ≡ vec_len l.fn.self.others;
 }

@@ -1,7 +1,7 @@
 use Rattle.std.proofs.Common.{◌<◌, ◌∙◌, length, sym, rules}
 use Rattle.std.proofs.lemmas.Bool.{eqb-true}
 use Rattle.candidate_cover.proofs.Places.{place_seen}
-use Rattle.candidate_cover.proofs.place.place_about.Goals as goal
+use Rattle.candidate_cover.proofs.place.place_among.Goals as goal
 
 pub returns-then-eq : goal.returns-then-eq
 returns-then-eq c =
