@@ -93,7 +93,7 @@ fn slot_of(mark: u64, slots: usize) -> usize
     requires { 0 < slots }
     ensures { result < slots }
 {
-    (mark >> 40) as usize & (slots - 1)
+    (mark >> 17) as usize & (slots - 1)
 }
 
 // The part of a mark that is kept in its slot.
@@ -116,9 +116,11 @@ pub fn mark_of(bytes: &[u8]) -> u64 {
     } else {
         (0, 0)
     };
-    (first.wrapping_mul(SPREAD).rotate_left(32) ^ last)
+    let spread = (first.wrapping_mul(SPREAD).rotate_left(32) ^ last)
         .wrapping_add(length as u64)
-        .wrapping_mul(SPREAD_AGAIN)
+        .wrapping_mul(SPREAD_AGAIN);
+    // The cell's last byte reaches the highest bits alone, and slots and tags are of lower ones.
+    spread ^ spread >> 32
 }
 
 // The eight bytes at this place as one number.

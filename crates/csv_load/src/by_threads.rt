@@ -82,7 +82,7 @@ pub(crate) fn try_parts<R: Threads + Sync>(
         Loaded::NoMemory => return Err(AllocError),
     };
     match rows_by(rt, alloc, rest, first.names(), limits, workers)? {
-        Some(others) => put_together(first, others, limits),
+        Some(others) => put_together(rt, first, others, limits, workers),
         None => Ok(None),
     }
 }
@@ -121,7 +121,7 @@ fn rows_by<R: Threads + Sync>(
         { rows_by(rt, alloc, back, names, limits, others) },
     );
     match (first?, second?) {
-        (Some(one), Some(other)) => put_together(one, other, limits),
+        (Some(one), Some(other)) => put_together(rt, one, other, limits, workers),
         _ => Ok(None),
     }
 }
@@ -154,11 +154,14 @@ fn read_rows(
     Ok(Some(relation))
 }
 
-// The relation with the rows of another, of the same names, behind its own. There is none where they are more than the limit.
-fn put_together(
+// The relation with the rows of another, of the same names, behind its own, put together by so many workers at most. There is none where they are
+// more than the limit.
+fn put_together<R: Threads + Sync>(
+    rt: &R,
     relation: Relation,
     others: Relation,
     limits: &Limits,
+    workers: u8,
 ) -> Result<Option<Relation>, AllocError>
     requires same { others.names ≡ relation.names }
     requires within { IsWithin limits.now relation }
@@ -168,5 +171,5 @@ fn put_together(
     if relation.len() + others.len() > limits.rows as usize {
         return Ok(None);
     }
-    Ok(Some(relation.with_rows(others)?))
+    Ok(Some(relation.with_rows(rt, others, workers)?))
 }

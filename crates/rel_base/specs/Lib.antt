@@ -1,6 +1,7 @@
 pub mod Cells
 pub mod Packed
 pub mod PackedCodes
+pub mod Joined
 pub mod LentCodes
 pub mod Relation
 pub mod RowState

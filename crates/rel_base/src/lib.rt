@@ -9,6 +9,7 @@ mod cell;
 mod cells;
 mod dependency;
 mod job;
+mod joining;
 pub mod laws;
 mod limits;
 mod name;

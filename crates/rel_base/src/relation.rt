@@ -6,11 +6,13 @@ ghost use Rattle.csv.specs.Records.{fields_of};
 ghost use Rattle.rel_base.specs.Cells.{cell};
 ghost use Rattle.rel_base.specs.Relation.{IsContent};
 
+use crate::joining::joined_by;
 use crate::row::field;
 use crate::{Cells, Row};
 use csv::ByteRecord;
 use std::alloc::{AllocError, Global};
 use std::marker::Model;
+use std::thread::Threads;
 
 /// A relation: the names of its columns, and its rows.
 ///
@@ -80,20 +82,20 @@ impl Relation {
         self.with_record(row.record())
     }
 
-    /// The relation with the rows of another behind its own. It goes column by column: the other's bytes are copied at once, or taken over
-    /// where there are no rows yet, and let go.
-    pub fn with_rows(self, others: Relation) -> Result<Relation, AllocError>
+    /// The relation with the rows of another behind its own, put together by so many workers at most: one is the thread of the caller and
+    /// no other. It goes column by column: the other's bytes are copied at once, or taken over where there are no rows yet, and let go.
+    pub fn with_rows<R: Threads + Sync>(
+        self,
+        rt: &R,
+        others: Relation,
+        workers: u8,
+    ) -> Result<Relation, AllocError>
         requires wide { length others.names ≡ length self.names }
         requires room { length self.rows + length others.rows ≤ MOST_ROWS }
         ensures names { IfOk result (λ relation. relation.names ≡ self.names) }
         ensures rows { IfOk result (λ relation. relation.rows ≡ self.rows ++ others.rows) }
     {
-        let mut columns = self.columns;
-        let mut place = 0;
-        for cells in others.columns {
-            columns[place].append(cells)?;
-            place += 1;
-        }
+        let columns = joined_by(rt, self.columns, others.columns, workers)?;
         Ok(Relation {
             names: self.names,
             columns,

@@ -316,11 +316,14 @@ fn a_relation_keeps_its_names_and_rows(rt: HostRuntime) -> Result<(), Fail> {
     Ok(())
 }
 
-// The relation of one column `n` with these cells.
+// The relation whose columns `n` and `again` have these cells, and a dash between them.
 fn numbered(alloc: Global, cells: &[&[u8]]) -> Result<Relation, AllocError> {
-    let mut relation = Relation::without_rows(alloc, Row::copied(alloc, &[b"n"])?)?;
+    let mut relation = Relation::without_rows(
+        alloc,
+        Row::copied(alloc, &[b"n", b"same", b"again"])?,
+    )?;
     for cell in cells {
-        let row = Row::copied(alloc, &[*cell])?;
+        let row = Row::copied(alloc, &[*cell, b"-", *cell])?;
         if relation.len() < 9 && relation.names().len() == row.len() {
             relation = relation.with_row(&row)?;
         }
@@ -331,21 +334,26 @@ fn numbered(alloc: Global, cells: &[&[u8]]) -> Result<Relation, AllocError> {
 #[test]
 fn a_relation_takes_the_rows_of_another(rt: HostRuntime) -> Result<(), Fail> {
     let alloc = rt.alloc();
-    let none = numbered(alloc, &[])?;
-    let some = numbered(alloc, &[b"10", b"", b"7"])?;
-    assert!(rt; none.len() + some.len() == 3 && none.names().len() == some.names().len());
-    let taken = none.with_rows(some)?;
-    let more = numbered(alloc, &[b"", b"2345"])?;
-    assert!(rt; taken.len() + more.len() == 5 && taken.names().len() == more.names().len());
-    let both = taken.with_rows(more)?;
-    let last = numbered(alloc, &[])?;
-    assert!(rt; both.len() + last.len() == 5 && both.names().len() == last.names().len());
-    let all = both.with_rows(last)?;
-    let (_, columns) = all.into_columns();
-    assert!(rt; columns.len() == 1 && columns[0].size() == 7);
-    let wanted: [&[u8]; 5] = [b"10", b"", b"7", b"", b"2345"];
-    for (place, cell) in wanted.iter().enumerate() {
-        assert!(rt; place < columns[0].len() && columns[0].get(place) == *cell);
+    for workers in 1u8..5 {
+        let none = numbered(alloc, &[])?;
+        let some = numbered(alloc, &[b"10", b"", b"7"])?;
+        assert!(rt; none.len() + some.len() == 3 && none.names().len() == some.names().len());
+        let taken = none.with_rows(&rt, some, workers)?;
+        let more = numbered(alloc, &[b"", b"2345"])?;
+        assert!(rt; taken.len() + more.len() == 5 && taken.names().len() == more.names().len());
+        let both = taken.with_rows(&rt, more, workers)?;
+        let last = numbered(alloc, &[])?;
+        assert!(rt; both.len() + last.len() == 5 && both.names().len() == last.names().len());
+        let all = both.with_rows(&rt, last, workers)?;
+        let (_, columns) = all.into_columns();
+        assert!(rt; columns.len() == 3);
+        assert!(rt; columns[0].size() == 7 && columns[1].size() == 5 && columns[2].size() == 7);
+        let wanted: [&[u8]; 5] = [b"10", b"", b"7", b"", b"2345"];
+        for (place, cell) in wanted.iter().enumerate() {
+            assert!(rt; place < columns[0].len() && columns[0].get(place) == *cell);
+            assert!(rt; place < columns[1].len() && columns[1].get(place) == b"-".as_slice());
+            assert!(rt; place < columns[2].len() && columns[2].get(place) == *cell);
+        }
     }
     Ok(())
 }

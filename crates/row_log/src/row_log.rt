@@ -115,9 +115,7 @@ impl RowLog {
         requires { (rows : List (List (List ℕ))) × AreCodedRows names nulls rows count columns.items }
         ensures { IfOk result (λ log. (rows : List (List (List ℕ))) → AreCodedRows names nulls rows count columns.items → log ≡ opened nulls limits.rows (record { names = names; rows = rows })) }
     {
-        let mut columns = columns;
         let live = vec![in alloc; true; count]?;
-        share_codes(alloc, &mut columns);
         Ok(RowLog {
             names,
             columns,

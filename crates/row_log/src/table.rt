@@ -124,13 +124,14 @@ pub fn columns_of(alloc: Global, nulls: Nulls, cells: Vec<Cells>) -> Result<Vec<
     Ok(columns)
 }
 
-// The column of these cells.
+// The column of these cells, with the lists that snapshots share.
 fn column_of(alloc: Global, nulls: Nulls, cells: Cells) -> Result<Column, AllocError>
     requires { length cells ≤ MOST_ROWS }
     ensures { IfOk result (λ column. column ≡ coded_cells nulls cells) }
 {
     let mut column = Column::with_room(alloc, nulls, cells.len())?;
     column.extend(&cells)?;
+    column.share(alloc);
     Ok(column)
 }
 

@@ -1,122 +1,38 @@
-use Rattle.std.proofs.Common.{◌≡◌, ◌<◌, ◌≤◌, ◌+◌, ◌∙◌, ◌++◌, ◌∷◌, ◌⊎◌, inl, inr, sym, ap, ap₂, refl, arith, ℕ, List, [], length, set, get_or}
-use Rattle.std.proofs.lemmas.Bool.{cases_lt}
-use Rattle.std.proofs.lemmas.List.{length-append, length-set, get_or-set_same, get_or-set_other, get_or_default}
-use Rattle.std.proofs.lemmas.Iterator.Adapters.{YieldsList-from_vec}
-use Rattle.std.proofs.lemmas.Iterator.Consumers.{YieldsList-end, YieldsList-turn}
+use Rattle.std.proofs.Common.{◌≡◌, ◌≤◌, ◌+◌, ◌∙◌, ◌++◌, sym, ap, ap₂, arith, ℕ, List, length}
 use Rattle.rel_base.specs.Cells.{Cell, Row}
-use Rattle.rel_base.specs.Relation.{Content}
+use Rattle.rel_base.specs.Joined.{AreJoined}
+use Rattle.rel_base.specs.Relation.{Content, AreColumns, rows_across}
+use Rattle.rel_base.specs.declared.limits.TheConstants.{MOST_ROWS}
 use Rattle.rel_base.proofs.Across.{length-across}
 use Rattle.rel_base.proofs.AcrossBoth.{AreColumns-both, across-both}
 use Rattle.rel_base.proofs.relation.Relation.with_rows.Goals as goal
 
-pub loop-cells-init : goal.loop-cells-init
-loop-cells-init c = record {
-  place = refl;
-  long = refl;
-  behind = λ j l. absurd (omega arith);
-  before = λ j l. refl;
-}
+-- What is given of both relations, as they are kept: there is room for the rows of both.
+module _ (own others : Content) (names more : Row) (columns later all : List (List Cell)) (n m : ℕ) (h : AreColumns names columns n) (g : AreColumns more later m)
+    (is : record { names = names; rows = rows_across columns n } ≡ own) (was : record { names = more; rows = rows_across later m } ≡ others)
+    (wide : length others.names ≡ length own.names) (joined : AreJoined columns later all) where
+  same : length more ≡ length names
+  same = ap (λ (r : Content). length r.names) was ∙ wide ∙ sym (ap (λ (r : Content). length r.names) is)
 
--- the names of both are as many
-as_wide : (own others : Content) (names more : Row) (rows later : List Row) → length others.names ≡ length own.names
-    → record { names = names; rows = rows } ≡ own → record { names = more; rows = later } ≡ others → length more ≡ length names
-as_wide own others names more rows later e f g = ap (λ (r : Content). length r.names) g ∙ e ∙ sym (ap (λ (r : Content). length r.names) f)
+  kept : length own.rows + length others.rows ≤ MOST_ROWS → AreColumns names all (n + m)
+  kept room =
+      let r = ap (λ (r : Content). length r.rows) is in
+      let s = ap (λ (r : Content). length r.rows) was in
+      let x = length-across columns n in
+      let y = length-across later m in
+      AreColumns-both names more columns later all n m h g same joined.long joined.each (omega (arith, room, r, s, x, y))
 
--- the column that is taken stands at the place
-taken : (place : ℕ) (columns yielded : List (List Cell)) (cells : List Cell) → place ≡ length yielded → length yielded < length columns → cells ≡ get_or columns (length yielded) cells → cells ≡ get_or columns place []
-taken place columns yielded cells e l is = is ∙ get_or_default columns (length yielded) cells [] l ∙ ap (λ (j : ℕ). get_or columns j []) (sym e)
-
--- a column more has the other's cells behind its own
-one_more : (columns old more : List (List Cell)) (place : ℕ) (cells new : List Cell) → length columns ≡ length old → place < length old
-    → ((j : ℕ) → j < place → get_or columns j [] ≡ get_or old j [] ++ get_or more j []) → ((j : ℕ) → place ≤ j → get_or columns j [] ≡ get_or old j [])
-    → cells ≡ get_or more place [] → new ≡ get_or columns place [] ++ cells
-    → (j : ℕ) → j < place + 1 → (j < place) ⊎ (place ≤ j) → get_or (set columns place new) j [] ≡ get_or old j [] ++ get_or more j []
-one_more columns old more place cells new long l behind before is made j m (inl f) = get_or-set_other columns place j new [] (omega arith) ∙ behind j f
-one_more columns old more place cells new long l behind before is made j m (inr f) =
-    let e : j ≡ place = omega arith in
-    ap (λ (i : ℕ). get_or (set columns place new) i []) e ∙ get_or-set_same columns place new [] (omega (arith, l, long))
-    ∙ made ∙ ap₂ (λ (xs ys : List Cell). xs ++ ys) (before place (omega arith)) is
-    ∙ ap (λ (i : ℕ). get_or old i [] ++ get_or more i []) (sym e)
-
-pub index_mut-requires : goal.index_mut-requires
-index_mut-requires c =
-    let others = c.others.inside.columns in
-    let from = c.into_iter-cells-iterator.ensures.into_iter_gives in
-    let turn = YieldsList-turn (YieldsList-from_vec others.items from.0 (from.1 ∙ others.ok.0)) c.loop-cells.yielded c.loop-cells.cells-iterator c.loop-cells.yielded_by c.next.result c.next.new.self c.in-Some.cells c.in-Some.is c.next.ensures.steps in
-    let l = turn.0 in
-    let w = as_wide c.args.self c.args.others c.self.inside.names c.others.inside.names _ _ c.requires.wide c.self.view_is c.others.view_is in
-    let a = c.self.invariant.wide in
-    let b = c.others.invariant.wide in
-    let p = c.loop-cells.invariant.place in
-    let q = c.loop-cells.invariant.long in
-    let o = c.loop-cells.columns.ok.0 in
-    omega (arith, l, w, a, b, p, q, o)
-
-pub overflow_add-place : goal.overflow_add-place
-overflow_add-place c =
-    let others = c.others.inside.columns in
-    let from = c.into_iter-cells-iterator.ensures.into_iter_gives in
-    let turn = YieldsList-turn (YieldsList-from_vec others.items from.0 (from.1 ∙ others.ok.0)) c.loop-cells.yielded c.loop-cells.cells-iterator c.loop-cells.yielded_by c.next.result c.next.new.self c.in-Some.cells c.in-Some.is c.next.ensures.steps in
-    let l = turn.0 in
-    let b = c.others.invariant.wide in
-    let n = c.others.invariant.narrow in
-    let p = c.loop-cells.invariant.place in
-    omega (arith, l, b, n, p)
-
-pub loop-cells-preserved : goal.loop-cells-preserved
-loop-cells-preserved c =
-    let others = c.others.inside.columns in
-    let from = c.into_iter-cells-iterator.ensures.into_iter_gives in
-    let turn = YieldsList-turn (YieldsList-from_vec others.items from.0 (from.1 ∙ others.ok.0)) c.loop-cells.yielded c.loop-cells.cells-iterator c.loop-cells.yielded_by c.next.result c.next.new.self c.in-Some.cells c.in-Some.is c.next.ensures.steps in
-    let l = turn.0 in
-    let w = as_wide c.args.self c.args.others c.self.inside.names c.others.inside.names _ _ c.requires.wide c.self.view_is c.others.view_is in
-    let a = c.self.invariant.wide in
-    let b = c.others.invariant.wide in
-    let p = c.loop-cells.invariant.place in
-    let h = c.loop-cells.invariant in
-    let q = h.long in
-    record {
-      place = omega (arith, p, length-append c.loop-cells.yielded (c.in-Some.cells ∷ []));
-      long = length-set c.loop-cells.columns.items c.loop-cells.place c.append.new.self ∙ h.long;
-      behind = λ j m. one_more c.loop-cells.columns.items c.self.inside.columns.items others.items c.loop-cells.place c.in-Some.cells c.append.new.self h.long (omega (arith, l, w, a, b, p)) h.behind h.before
-          (taken c.loop-cells.place others.items c.loop-cells.yielded c.in-Some.cells p l turn.1)
-          (c.in_ok-append.ensures.appended ∙ ap (λ (xs : List Cell). xs ++ c.in-Some.cells) (c.index_mut.ensures.value
-          ∙ get_or_default c.loop-cells.columns.items c.loop-cells.place c.index_mut.result.now [] (omega (arith, l, w, a, b, p, q))))
-          j m (cases_lt j c.loop-cells.place);
-      before = λ j m. get_or-set_other c.loop-cells.columns.items c.loop-cells.place j c.append.new.self [] (omega arith) ∙ h.before j (omega arith);
-    }
+  behind : rows_across all (n + m) ≡ own.rows ++ others.rows
+  behind =
+      across-both names more columns later all n m h g same joined.long joined.each
+      ∙ ap₂ (λ (xs ys : List Row). xs ++ ys) (ap (λ (r : Content). r.rows) is) (ap (λ (r : Content). r.rows) was)
 
 pub invariant_of-result : goal.invariant_of-result
-invariant_of-result c =
-    let own = c.self.inside in
-    let others = c.others.inside in
-    let from = c.into_iter-cells-iterator.ensures.into_iter_gives in
-    let end = YieldsList-end (YieldsList-from_vec others.columns.items from.0 (from.1 ∙ others.columns.ok.0)) c.loop-cells.yielded c.loop-cells.cells-iterator c.loop-cells.yielded_by c.next.result c.next.new.self c.in-None.is c.next.ensures.steps in
-    let w = as_wide c.args.self c.args.others own.names others.names _ _ c.requires.wide c.self.view_is c.others.view_is in
-    let a = c.self.invariant.wide in
-    let b = c.others.invariant.wide in
-    let p = c.loop-cells.invariant.place in
-    let n = end.1 in
-    let room = c.requires.room in
-    let r = ap (λ (r : Content). length r.rows) c.self.view_is in
-    let s = ap (λ (r : Content). length r.rows) c.others.view_is in
-    let x = length-across own.columns.items own.count in
-    let y = length-across others.columns.items others.count in
-    AreColumns-both own.names others.names own.columns.items others.columns.items c.loop-cells.columns.items own.count others.count c.self.invariant c.others.invariant w c.loop-cells.invariant.long
-    (λ j l. c.loop-cells.invariant.behind j (omega (arith, l, w, a, b, p, n)))
-    (omega (arith, room, r, s, x, y))
+invariant_of-result g c =
+    kept c.args.self c.args.others c.self.inside.names c.others.inside.names c.self.inside.columns.items c.others.inside.columns.items c.in_ok-columns.columns.items c.self.inside.count c.others.inside.count
+    c.self.invariant c.others.invariant c.self.view_is c.others.view_is c.requires.wide c.in_ok-columns.ensures c.requires.room
 
 pub returns-clause-rows : goal.returns-clause-rows
-returns-clause-rows c =
-    let own = c.self.inside in
-    let others = c.others.inside in
-    let from = c.into_iter-cells-iterator.ensures.into_iter_gives in
-    let end = YieldsList-end (YieldsList-from_vec others.columns.items from.0 (from.1 ∙ others.columns.ok.0)) c.loop-cells.yielded c.loop-cells.cells-iterator c.loop-cells.yielded_by c.next.result c.next.new.self c.in-None.is c.next.ensures.steps in
-    let w = as_wide c.args.self c.args.others own.names others.names _ _ c.requires.wide c.self.view_is c.others.view_is in
-    let a = c.self.invariant.wide in
-    let b = c.others.invariant.wide in
-    let p = c.loop-cells.invariant.place in
-    let n = end.1 in
-    across-both own.names others.names own.columns.items others.columns.items c.loop-cells.columns.items own.count others.count c.self.invariant c.others.invariant w c.loop-cells.invariant.long
-    (λ j l. c.loop-cells.invariant.behind j (omega (arith, l, w, a, b, p, n)))
-    ∙ ap₂ (λ (xs ys : List Row). xs ++ ys) (ap (λ (r : Content). r.rows) c.self.view_is) (ap (λ (r : Content). r.rows) c.others.view_is)
+returns-clause-rows g c =
+    behind c.args.self c.args.others c.self.inside.names c.others.inside.names c.self.inside.columns.items c.others.inside.columns.items c.in_ok-columns.columns.items c.self.inside.count c.others.inside.count
+    c.self.invariant c.others.invariant c.self.view_is c.others.view_is c.requires.wide c.in_ok-columns.ensures
