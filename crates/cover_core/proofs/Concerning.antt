@@ -1,23 +1,20 @@
 -- Which targets an agree set concerns, and what that tells of the candidates.
 use Rattle.std.proofs.Common.{◌≡◌, ℕ, ◌<◌, ◌^◌, Bool, true, false, not, ◌&&◌, refl, sym, ap, ◌∙◌, subst, arith, List, [], ◌∷◌, ◌++◌, length}
-use Rattle.std.proofs.lemmas.Bool.{true≢false, and_parts, and_from, not-true, false_from_ne_true, lt-ltb}
+use Rattle.std.proofs.lemmas.Bool.{true≢false, lt-ltb}
 use Rattle.std.proofs.lemmas.Nat.{pow_pos}
 use Rattle.col_set.specs.declared.target.Target.{Target}
 use Rattle.col_set.specs.declared.target.Target.TheVariants.{Col, RowId}
-use Rattle.col_set.specs.ColSet.{all, subset}
+use Rattle.col_set.specs.ColSet.{all}
 use Rattle.col_set.specs.Members.{has-all}
 use Rattle.col_set.specs.Target.{IsColumnTarget, has_target}
-use Rattle.col_set.specs.Subsets.{IsSubset, subset_below, IsSubset-trans, subset-true, true-subset}
-use Rattle.col_set.specs.Evidence.{refuted, refutes, least}
-use Rattle.col_set.specs.Lists.{Listed, Listed-map, list_any_at, list_any_which}
-use Rattle.col_set.proofs.Least.{IsLeast-listed}
+use Rattle.col_set.specs.Subsets.{subset_below}
+use Rattle.col_set.specs.Evidence.{refuted, least}
 use Rattle.rel_base.specs.RowState.{RowState, width, row}
 use Rattle.rel_base.specs.Validity.{agree_of}
 use Rattle.rel_base.proofs.Agree.{agree-parts}
 use Rattle.negative_cover.specs.Witnesses.{sets_of}
-use Rattle.candidate_cover.specs.declared.cand.Cand.{Cand}
 use Rattle.candidate_cover.specs.Lists.{CandLists}
-use Rattle.candidate_cover.specs.Cands.{cands_of, lefts}
+use Rattle.candidate_cover.specs.Cands.{cands_of}
 use Rattle.std.proofs.lemmas.List.FromFn.{length-map-range_with_len}
 use Rattle.rel_base.specs.CodeTable.{CodeTable}
 use Rattle.candidate_cover.specs.Drafts.{AreLeast}
@@ -29,7 +26,7 @@ use Rattle.cover_core.specs.Kept.{IsBook}
 use Rattle.cover_steps.specs.Sound.{Sound}
 use Rattle.cover_steps.proofs.Decided.{decide}
 use Rattle.negative_cover.specs.declared.concerned.Concerned.{Concerned}
-use Rattle.negative_cover.specs.Concerning.{concerns, is_open, AreConcerned, ConcernsNone}
+use Rattle.negative_cover.specs.Concerning.{concerns, AreConcerned, ConcernsNone}
 
 -- ---- agree sets are of the columns that there are
 all_below : (n : ℕ) → all n < 2 ^ n

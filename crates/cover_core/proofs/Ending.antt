@@ -1,16 +1,13 @@
 -- Which rows are live after a batch, and what the witnesses that are left leave.
-use Rattle.std.proofs.Common.{inl, inr, ◌≡◌, ◌⊎◌, ℕ, ◌+◌, ◌<◌, eqb, Bool, true, false, cond, not, ◌&&◌, ◌||◌, refl, sym, ap, ap₂, ◌∙◌, subst, arith, List, [], ◌∷◌, ◌++◌, Result, Ok, Err}
+use Rattle.std.proofs.Common.{inl, inr, ◌≡◌, ℕ, ◌+◌, ◌<◌, eqb, Bool, true, false, cond, not, ◌&&◌, ◌||◌, refl, sym, ap, ap₂, ◌∙◌, subst, arith, List, [], ◌∷◌, ◌++◌, Result, Ok, Err}
 use Rattle.std.specs.List.{All, filter, list_any}
 use Rattle.std.specs.Prelude.{IsPermutation}
 use Rattle.std.proofs.lemmas.List.Sorted.{list_any-IsPermutation}
-use Rattle.std.proofs.lemmas.Bool.{true≢false, eq-eqb, ne_eqb, and_parts, cases_eq, false_from_ne_true}
+use Rattle.std.proofs.lemmas.Bool.{eq-eqb, ne_eqb, cases_eq}
 use Rattle.std.proofs.lemmas.List.{length-append}
 use Rattle.col_set.specs.declared.target.Target.{Target}
-use Rattle.col_set.specs.ColSet.{subset}
-use Rattle.col_set.specs.Target.{has_target}
-use Rattle.col_set.specs.Evidence.{refuted, least}
-use Rattle.col_set.specs.Lists.{Listed, Listed-append_left, Listed-append_right, Listed-append_cases, Listed-filter, Listed-filter_parts, Listed-map, Listed-map_which, filter_same, list_any_at, list_any_which}
-use Rattle.col_set.proofs.Least.{IsLeast-listed}
+use Rattle.col_set.specs.Evidence.{least}
+use Rattle.col_set.specs.Lists.{Listed, Listed-append_left, Listed-append_right, Listed-append_cases, Listed-filter, Listed-filter_parts, Listed-map, Listed-map_which, filter_same, list_any_at}
 use Rattle.col_set.proofs.More.{least_of_same}
 use Rattle.col_set.proofs.Places.{Listed-contained}
 use Rattle.rel_base.specs.declared.batch.Op.{Op}
@@ -26,7 +23,6 @@ use Rattle.negative_cover.specs.declared.negative_cover.Witness.{Witness}
 use Rattle.cover_steps.specs.Core.{standing}
 use Rattle.negative_cover.specs.Witnesses.{sets_of, has_dead, live_of}
 use Rattle.cover_steps.specs.Sound.{IsWitness}
-use Rattle.cover_steps.proofs.Exact.{least-same}
 use Rattle.negative_cover.specs.EndedRows.{ended}
 
 -- whether a row is one of these

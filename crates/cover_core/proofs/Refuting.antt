@@ -1,5 +1,5 @@
 -- Whether an agree set refutes a candidate, target by target.
-use Rattle.std.proofs.Common.{◌≡◌, ℕ, ◌<◌, Bool, true, false, not, ◌&&◌, ◌||◌, ◌≤◌, cond, refl, sym, ap, ◌∙◌, arith, List, [], ◌∷◌, map, Some}
+use Rattle.std.proofs.Common.{◌≡◌, ℕ, ◌<◌, Bool, true, false, not, ◌&&◌, ◌||◌, cond, refl, sym, ap, ◌∙◌, List, [], ◌∷◌, map, Some}
 use Rattle.std.specs.Prelude.{is_some}
 use Rattle.std.specs.List.{find, list_any}
 use Rattle.std.proofs.lemmas.Bool.{true≢false, false_from_ne_true}
@@ -7,7 +7,7 @@ use Rattle.col_set.specs.declared.target.Target.{Target}
 use Rattle.col_set.specs.declared.target.Target.TheVariants.{Col, RowId}
 use Rattle.col_set.specs.ColSet.{subset}
 use Rattle.col_set.specs.Target.{IsColumnTarget, has_target}
-use Rattle.col_set.specs.Lists.{Listed, Listed-map, Listed-map_which, Listed-flat_map, Listed-flat_map_which, list_any_at, list_any_which}
+use Rattle.col_set.specs.Lists.{Listed-map, Listed-map_which, Listed-flat_map, Listed-flat_map_which, list_any_at, list_any_which}
 use Rattle.candidate_cover.specs.declared.cand.Cand.{Cand}
 use Rattle.candidate_cover.specs.Lists.{CandLists}
 use Rattle.candidate_cover.specs.Cands.{cands_of}

@@ -11,6 +11,7 @@ ghost use Rattle.cover_steps.specs.NewLists.{IsLeftBy};
 ghost use Rattle.validator.specs.Stores.{AreOf};
 ghost use denote.Param.Send.{IsSync};
 
+use crate::queue::{Queue, Share};
 use crate::sought::{Wanted, collected, collected_by};
 use crate::waiting::{Waiting, count};
 use candidate_cover::{CandidateCover, Draft};
@@ -26,22 +27,16 @@ use std::alloc::{AllocError, Global};
 use std::marker::Brand;
 use std::slice;
 use std::sync::Arc;
-use std::sync::atomic::{AtomicUsize, Ordering};
+use std::sync::atomic::AtomicUsize;
 use std::sync::ledger::Blank;
 use std::thread::{Threads, join_mut};
-use validator::{Order, Store, Stores, first_places, violations};
+use validator::{Order, Store, Stores, violations};
 
 // How many pairs of rows a pass asks for where a dependency does not hold.
 const MOST_VIOLATIONS: usize = 64;
 
 // So many candidates are validated between two passes of the gate, at most.
 const PART: usize = 1 << 16;
-
-// So many candidates at most are taken by a thread at once. They stand side by side, so they share groups of rows.
-const MOST_TAKEN: usize = 512;
-
-// So many times each thread takes candidates of a part, so that none waits long for the last one.
-const TURNS: usize = 8;
 
 // What a new agree set leaves takes a look at each candidate, and at so many at least.
 const LOOKS_AN_AGREE_SET: usize = 1 << 13;
@@ -72,58 +67,6 @@ impl Verdicts {
             seen: Seen::none(alloc),
         }
     }
-}
-
-// Candidates that threads take from, each some that stand side by side, until none is left.
-#[derive(Drop)]
-struct Queue<'a> {
-    list: &'a [Waiting],
-    taken: AtomicUsize,
-    size: usize,
-}
-
-impl<'a> Queue<'a> {
-    // Those of a list, for so many threads.
-    fn of(list: &'a [Waiting], threads: usize) -> Queue<'a>
-        ensures { result.list.now ≡ list.now }
-    {
-        let turns = threads.saturating_mul(TURNS).max(1);
-        Queue {
-            list,
-            taken: AtomicUsize::new(0),
-            size: (list.len() / turns).clamp(1, MOST_TAKEN),
-        }
-    }
-
-    // Some that no other thread has taken, or none where all are.
-    fn take(&self) -> &'a [Waiting]
-        ensures { (r : RowState) (table : CodeTable) → All (IsAsked r table) self.now.list.now → All (IsAsked r table) result.now }
-    {
-        let turn = self.taken.fetch_add(1, Ordering::SeqCst);
-        let low = turn.saturating_mul(self.size).min(self.list.len());
-        let high = low.saturating_add(self.size);
-        let (first, end) = (
-            cut(self.list, low, self.size),
-            cut(self.list, high, self.size),
-        );
-        let (_, rest) = self.list.split_at(first);
-        let (some, _) = rest.split_at(end.saturating_sub(first).min(rest.len()));
-        some
-    }
-}
-
-// Where to cut candidates behind this many: before the next one of which the first columns are others, unless that is so many further on.
-// Candidates with the same first columns share large groups of rows, which each thread would have to make.
-fn cut(list: &[Waiting], place: usize, most: usize) -> usize
-    ensures { result ≤ length list.now }
-{
-    let start = place.min(list.len());
-    for k in start..place.saturating_add(most).min(list.len()) {
-        if k == 0 || first_places(list[k].places) != first_places(list[k - 1].places) {
-            return k;
-        }
-    }
-    start
 }
 
 // Who makes the verdicts of a pass.
@@ -252,7 +195,7 @@ impl<'a, R: Threads + Sync> Judges for Beside<'a, R> {
         if stores.others.is_empty() {
             return judged(alloc, rows, snapshot, list, &mut stores.own);
         }
-        let queue = Queue::of(list, stores.others.len().saturating_add(1));
+        let queue = Queue::of(alloc, list, stores.others.len().saturating_add(1))?;
         let own = slice::from_mut(&mut stores.own);
         let others = stores.others.as_mut_slice();
         let verdicts = both_halves(self.rt, alloc, rows, snapshot, &queue, own, others)?;
@@ -360,14 +303,13 @@ fn judge_all(
     ensures store { store.new ≡ store.old }
 {
     for waiting in list {
-        if !all.recent.tells(waiting.target, waiting.cand.left) {
-            judge(alloc, rows, snapshot, *waiting, store, all)?;
-        }
+        judge_unless_told(alloc, rows, snapshot, waiting, store, all)?;
     }
     Ok(())
 }
 
-// Validates candidates that it takes from a queue, until none is left.
+// Validates candidates that it takes from a queue, until none is left: those of shares that it begins, and then, so that none waits long for
+// the last one, those of shares that others are at.
 fn judged_in_turn(
     alloc: Global,
     rows: &RowLog,
@@ -381,14 +323,62 @@ fn judged_in_turn(
     ensures store { store.new ≡ store.old }
 {
     let mut all = Verdicts::none(alloc);
-    for _ in 0..queue.list.len() {
-        let some = queue.take();
-        if some.is_empty() {
+    for _ in 0..queue.shares.len() {
+        let Some(share) = queue.begin() else {
             break;
-        }
-        judge_all(alloc, rows, snapshot, some, store, &mut all)?;
+        };
+        judge_share(alloc, rows, snapshot, queue, share, store, &mut all)?;
+    }
+    for share in queue.shares.iter().rev() {
+        judge_share(alloc, rows, snapshot, queue, share, store, &mut all)?;
     }
     Ok(all)
+}
+
+// Validates candidates of a share, until none is left that another thread has not taken.
+fn judge_share(
+    alloc: Global,
+    rows: &RowLog,
+    snapshot: &Arc<Snapshot>,
+    queue: &Queue<'_>,
+    share: &Share,
+    store: &mut Store,
+    all: &mut Verdicts,
+) -> Result<(), AllocError>
+    requires same { store.old ≡ snapshot.now.value }
+    requires asked { All (IsAsked rows.now snapshot.now.value) queue.now.list.now }
+    requires verdicts { AreVerdicts rows.now snapshot.now.value all.old }
+    ensures verdicts { OnOk result (AreVerdicts rows.now snapshot.now.value all.new) }
+    ensures store { store.new ≡ store.old }
+{
+    for _ in share.start..share.end {
+        let Some(waiting) = queue.take(share) else {
+            break;
+        };
+        judge_unless_told(alloc, rows, snapshot, &waiting, store, all)?;
+    }
+    Ok(())
+}
+
+// Validates a candidate, but for one that evidence just found refutes.
+fn judge_unless_told(
+    alloc: Global,
+    rows: &RowLog,
+    snapshot: &Arc<Snapshot>,
+    waiting: &Waiting,
+    store: &mut Store,
+    all: &mut Verdicts,
+) -> Result<(), AllocError>
+    requires same { store.old ≡ snapshot.now.value }
+    requires asked { IsAsked rows.now snapshot.now.value waiting.now }
+    requires verdicts { AreVerdicts rows.now snapshot.now.value all.old }
+    ensures verdicts { OnOk result (AreVerdicts rows.now snapshot.now.value all.new) }
+    ensures store { store.new ≡ store.old }
+{
+    if !all.recent.tells(waiting.target, waiting.cand.left) {
+        judge(alloc, rows, snapshot, *waiting, store, all)?;
+    }
+    Ok(())
 }
 
 // Validates a candidate: it is one more that holds, or there is more evidence.

@@ -9,6 +9,7 @@ mod judging;
 mod known;
 mod known_lefts;
 mod outdated;
+mod queue;
 mod renewal;
 mod searcher;
 mod searching;
