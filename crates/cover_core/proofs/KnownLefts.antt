@@ -49,11 +49,11 @@ pub known_target : (s now : Core) (table : CodeTable) (from : ℕ) → IsBook s 
 known_target s now table from book view known hold = subst (λ (n : ℕ). IsColumnTarget n known.target) (sym book.sound.columns) (subst (λ (m : Core). AreTrueLefts m.rows from known) (sym view) hold).target
 
 -- a candidate of which it was found that it is known
-pub known_found : (c : CandLists) (from next : ℕ) (known : KnownLefts) (cand : Cand) (places size near : ℕ) → IsColumnTarget (width_of c) known.target → Listed cand (cands_of c known.target)
-    → (nat_lt cand.upto next && (nat_le from cand.upto || list_any (λ y. subset y cand.left) known.lefts.items)) ≡ true → IsKnownBy c from known (record { places = places; target = known.target; size = size; near = near; cand = cand })
-known_found c from next known cand places size near target listed e = record {
+pub known_found : (c : CandLists) (from next : ℕ) (known : KnownLefts) (cand : Cand) (places near : ℕ) → IsColumnTarget (width_of c) known.target → Listed cand (cands_of c known.target)
+    → (nat_lt cand.upto next && (nat_le from cand.upto || list_any (λ y. subset y cand.left) known.lefts.items)) ≡ true → IsKnownBy c from known (record { places = places; target = known.target; near = near; cand = cand })
+known_found c from next known cand places near target listed e = record {
   waits = record { target = target; listed = listed };
-  below = elim (or_cases (nat_le from cand.upto) _ (and_parts (nat_lt cand.upto next) _ e).1) as (λ _. (from ≤ cand.upto) ⊎ IsInside (record { places = places; target = known.target; size = size; near = near; cand = cand }) known) [
+  below = elim (or_cases (nat_le from cand.upto) _ (and_parts (nat_lt cand.upto next) _ e).1) as (λ _. (from ≤ cand.upto) ⊎ IsInside (record { places = places; target = known.target; near = near; cand = cand }) known) [
     | inl f ↦ inl (leb-true from cand.upto f)
     | inr f ↦ inr (let w = list_any_which (λ y. subset y cand.left) known.lefts.items f in record { target = refl; left = w.0; listed = w.1; inside = subset-true w.2 })
   ];

@@ -121,7 +121,7 @@ impl Book {
         let rows = RowLog::open_with(alloc, relation, limits, nulls)?;
         let snapshot = rows.snapshot(alloc)?;
         let mut stores = Stores::of(alloc, &snapshot)?;
-        let order = Order::of(&stores.own.weights(alloc)?);
+        let order = Order::of(&stores.own.weights(alloc)?, rows.live_len());
         Book::of_rows(alloc, rows, snapshot, Searcher { stores, order })
     }
 
@@ -140,7 +140,7 @@ impl Book {
         let rows = RowLog::open_by(rt, alloc, relation, limits, nulls, workers)?;
         let snapshot = rows.snapshot(alloc)?;
         let mut stores = Stores::of(alloc, &snapshot)?;
-        let order = Order::of(&stores.own.weights_by(rt, alloc, workers)?);
+        let order = Order::of(&stores.own.weights_by(rt, alloc, workers)?, rows.live_len());
         Book::of_rows(alloc, rows, snapshot, Searcher { stores, order })
     }
 
@@ -368,10 +368,10 @@ impl Book {
     /// witnesses of few rows compares all pairs of them, and then each candidate that is left holds. One of more rows begins with pairs
     /// of rows that stand near each other, whose agree sets refute most of what does not hold. One with witnesses and many candidates that
     /// are known to hold but in few rows that came since compares these rows with all: what their agree sets leave of the candidates holds.
-    /// Then the candidates of all targets are validated, those with fewer columns first, and left sides that begin with the same columns one
-    /// after another, so that their verdicts share the groups of rows. Of those that fail, pairs of rows from many groups are booked
-    /// at once after each size; without witnesses the first sizes are booked together, and 64 bytes are kept until then for each left side
-    /// that holds. So its time is mostly that of the verdicts: one for each minimal dependency, and some for those that fail.
+    /// Then the candidates of all targets are validated, those with fewer columns first while many fail, and left sides that begin with the
+    /// same columns one after another, so that their verdicts share the groups of rows. Of those that fail, pairs of rows from many groups
+    /// are booked at once after each pass; without witnesses the first sizes are booked together, and 64 bytes are kept until then for each
+    /// left side that holds. So its time is mostly that of the verdicts: one for each minimal dependency, and some for those that fail.
     ///
     /// After want of memory the rows are the same, and the book is sound, with all witnesses that were booked so far.
     pub fn finish(&mut self) -> Result<Covers, AllocError>

@@ -103,7 +103,6 @@ pub(crate) fn known_by(
             found.push(Waiting {
                 places: order.places_of(cand.left),
                 target: known.target,
-                size: cand.left.len(),
                 near: place,
                 cand: *cand,
             })?;

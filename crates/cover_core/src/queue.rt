@@ -10,7 +10,7 @@ use std::alloc::{AllocError, Global};
 use std::sync::atomic::{AtomicUsize, Ordering};
 use validator::first_places;
 
-// So many candidates at most are a share.
+// So many candidates at most are a share, and at most as many more that have the same first columns as the last of them.
 const MOST_TAKEN: usize = 512;
 
 // So many times each thread begins a share of a part.
@@ -82,28 +82,30 @@ impl Share {
 fn shares_of(alloc: Global, list: &[Waiting], turns: usize) -> Result<Vec<Share>, AllocError> {
     let size = (list.len() / turns.max(1)).min(MOST_TAKEN - 1) + 1;
     let mut shares = Vec::new(alloc);
-    let mut start = 0;
-    for turn in 1..list.len().div_ceil(size) {
-        let end = cut(list, turn.saturating_mul(size), size);
-        if start < end {
-            shares.push(Share::of(start, end))?;
-            start = end;
+    let mut start: usize = 0;
+    for _ in 1..list.len().div_ceil(size) {
+        let end = cut(list, start.saturating_add(size));
+        if end == list.len() {
+            break;
         }
+        shares.push(Share::of(start, end))?;
+        start = end;
     }
     shares.push(Share::of(start, list.len()))?;
     Ok(shares)
 }
 
-// Where to cut candidates behind this many: before the next one of which the first columns are others, unless that is so many further on.
-// Candidates with the same first columns share large groups of rows, which each thread would have to make.
-fn cut(list: &[Waiting], place: usize, most: usize) -> usize
+// Where to cut candidates from a place on: before the next one of which the first columns are others, unless that is far. Candidates with
+// the same first columns share large groups of rows, which each thread that begins some of them has to make.
+fn cut(list: &[Waiting], place: usize) -> usize
     ensures { result ≤ length list.now }
 {
     let start = place.min(list.len());
-    for k in start..place.saturating_add(most).min(list.len()) {
+    let end = start.saturating_add(MOST_TAKEN).min(list.len());
+    for k in start..end {
         if k == 0 || first_places(list[k].places) != first_places(list[k - 1].places) {
             return k;
         }
     }
-    start
+    end
 }

@@ -117,7 +117,6 @@ fn push_sought(
         list.push(Waiting {
             places: order.places_of(*left),
             target,
-            size: size as u32,
             near: NOWHERE,
             cand: Cand {
                 left: *left,
@@ -159,17 +158,17 @@ pub(crate) fn collected(
     ensures { IfOk result (λ list. All (IsWanted wanted.now) list.items) }
 {
     let mut list = taken_in_turn(alloc, wanted, order, taken)?;
-    list.sort_unstable_by_key(|waiting| (waiting.size, !waiting.places));
+    list.sort_unstable_by_key(|waiting| order.rank(waiting.places));
     Ok(list)
 }
 
 // What two threads collected, in the order of verdicts: two runs, which this sort puts together in time by their length.
-fn merged(one: Vec<Waiting>, other: Vec<Waiting>) -> Result<Vec<Waiting>, AllocError>
+fn merged(one: Vec<Waiting>, other: Vec<Waiting>, order: &Order) -> Result<Vec<Waiting>, AllocError>
     ensures { IfOk result (λ list. IsPermutation (one.items ++ other.items) list.items) }
 {
     let (mut list, mut more) = (one, other);
     list.append(&mut more)?;
-    list.sort_by_key(|waiting| (waiting.size, !waiting.places))?;
+    list.sort_by_key(|waiting| order.rank(waiting.places))?;
     Ok(list)
 }
 
@@ -201,7 +200,7 @@ fn sought_by<R: Threads + Sync>(
             ensures { IfOk result (λ list. All (IsSought draft.entry.now.width) list.items) }
         { sought_by(rt, alloc, draft, order, size, taken, others) },
     );
-    let list = merged(one?, other?)?;
+    let list = merged(one?, other?, order)?;
     Ok(list)
 }
 
@@ -239,7 +238,7 @@ fn listed_by<R: Threads + Sync>(
             ensures { IfOk result (λ list. All (IsWaiting candidates.entry.now) list.items) }
         { listed_by(rt, alloc, candidates, order, sizes, next, taken, others) },
     );
-    let list = merged(one?, other?)?;
+    let list = merged(one?, other?, order)?;
     Ok(list)
 }
 

@@ -10,13 +10,12 @@ use rel_base::{RowNo, Target};
 use std::alloc::{AllocError, Global};
 use validator::Order;
 
-// A candidate that waits for its verdict, the places of its columns in the order of verdicts and how many they are, and about where it
-// stands in its target's list.
+// A candidate that waits for its verdict, the places of its columns in the order of verdicts, and about where it stands in its target's
+// list.
 #[derive(Clone, Copy)]
 pub(crate) struct Waiting {
     pub(crate) places: u128,
     pub(crate) target: Target,
-    pub(crate) size: u32,
     pub(crate) near: usize,
     pub(crate) cand: Cand,
 }
@@ -61,7 +60,6 @@ pub(crate) fn push_waiting(
             list.push(Waiting {
                 places,
                 target,
-                size: cand.left.len(),
                 near: first.saturating_add(place),
                 cand: *cand,
             })?;

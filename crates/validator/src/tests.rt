@@ -338,13 +338,32 @@ fn light_columns_have_the_first_places(rt: HostRuntime) -> Result<(), Fail> {
     let mut weights = [9; COLUMN_PLACES];
     weights[3] = 1;
     weights[1] = 4;
-    let order = Order::of(&weights);
+    let order = Order::of(&weights, 2);
     let both = ColSet::empty().with(1).with(3);
     assert!(rt; order.places_of(both) == 3 << 126);
     assert!(rt; order.places_of(ColSet::empty().with(3)) == 1 << 127);
     assert!(rt; order.places_of(ColSet::empty().with(0)) == 1 << 125);
     assert!(rt; first_places(order.places_of(both.with(0))) == 3 << 126);
     assert!(rt; first_places(1 << 127) == 1 << 127 && first_places(0) == 0);
+    Ok(())
+}
+
+// Whether the first of these left sides is validated before the second.
+fn is_before(order: &Order, first: ColSet, second: ColSet) -> bool {
+    order.rank(order.places_of(first)) < order.rank(order.places_of(second))
+}
+
+#[test]
+fn left_sides_of_few_rows_go_by_size_first(rt: HostRuntime) -> Result<(), Fail> {
+    let mut weights = [9; COLUMN_PLACES];
+    weights[2] = 1;
+    let two = ColSet::empty().with(0).with(2);
+    let (three, other) = (two.with(1), two.without(2).with(1));
+    let few = Order::of(&weights, 1000);
+    assert!(rt; is_before(&few, two, three) && is_before(&few, other, three));
+    assert!(rt; is_before(&few, two, other) && !is_before(&few, two, two));
+    let many = Order::of(&weights, 1_000_000);
+    assert!(rt; is_before(&many, three, two) && is_before(&many, two, other));
     Ok(())
 }
 

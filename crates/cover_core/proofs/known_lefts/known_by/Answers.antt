@@ -15,8 +15,8 @@ pub loop-place-preserved : goal.loop-place-preserved
 loop-place-preserved c = elim c.if-is_known.branch [
   | then-is_known+in_ok-push w ↦
       subst (λ (ws : List Waiting). All (IsKnownBy c.args.candidates.now c.args.from c.args.known.now) ws) (sym (ap (λ v. v.items) w.found-is ∙ w.in_ok-push.ensures.items))
-      (All-push (IsKnownBy c.args.candidates.now c.args.from c.args.known.now) c.loop-place.found.items (record { places = w.places_of.result; target = c.args.known.now.target; size = w.len.result; near = c.loop-place.place; cand = c.cand-item.result }) c.loop-place.invariant
-      (known_found c.args.candidates.now c.args.from c.args.next c.args.known.now c.cand-item.result w.places_of.result w.len.result c.loop-place.place c.requires
+      (All-push (IsKnownBy c.args.candidates.now c.args.from c.args.known.now) c.loop-place.found.items (record { places = w.places_of.result; target = c.args.known.now.target; near = c.loop-place.place; cand = c.cand-item.result }) c.loop-place.invariant
+      (known_found c.args.candidates.now c.args.from c.args.next c.args.known.now c.cand-item.result w.places_of.result c.loop-place.place c.requires
       (subst (λ (cs : List Cand). Listed c.cand-item.result cs) (c.deref-cand-items.ensures.value ∙ c.in_ok-own.ensures.list)
       (subst (λ (d : Cand). Listed d c.deref-cand-items.result.now) (sym c.cand-item.is) (Listed-get_or c.deref-cand-items.result.now c.loop-place.place c.cand-item.result c.loop-place-test.true)))
       (subst (λ (xs : List ℕ). (nat_lt c.cand-item.result.upto c.args.next && (nat_le c.args.from c.cand-item.result.upto || list_any (λ y. subset y c.cand-item.result.left) xs)) ≡ true) c.as_slice.ensures.value (sym c.is_known.ensures ∙ w.if-is_known.true))))

@@ -15,7 +15,7 @@ pub loop-place-preserved : goal.loop-place-preserved
 loop-place-preserved c = elim c.if-lt.branch [
   | then-lt+in_ok-push w ↦
       subst (λ (ws : List Waiting). All (IsWaiting c.args.candidates.now) ws) (sym (ap (λ v. v.items) w.list-is ∙ w.in_ok-push.ensures.items))
-      (All-push (IsWaiting c.args.candidates.now) c.loop-place.list.items (record { places = w.places_of-places.result; target = c.args.target; size = w.len.result; near = w.saturating_add.result; cand = c.cand-item.result }) c.loop-place.invariant
+      (All-push (IsWaiting c.args.candidates.now) c.loop-place.list.items (record { places = w.places_of-places.result; target = c.args.target; near = w.saturating_add.result; cand = c.cand-item.result }) c.loop-place.invariant
       (record {
         target = c.requires.target;
         listed = (Listed-filter_parts (is_between c.args.sizes.least c.args.sizes.most) c.cand-item.result (cands_of c.args.candidates.now c.args.target) (subst (λ (cs : List Cand). Listed c.cand-item.result cs) (c.deref-cand-items.ensures.value ∙ c.in_ok-own.ensures)
