@@ -6,7 +6,7 @@ refers to what.
   depprof profile customers.csv items.csv | schema_dot.py | dot -Tsvg > files.svg
 
 The columns of a table's first key are underlined. An arrow goes from the columns that refer to the key that they refer to: between the
-tables of a normalisation each such place, between relations each inclusion in a key of one column of another relation.
+tables of a split each such place, between relations each inclusion in a key, of several columns too, and in one of the same relation.
 """
 import argparse
 import sys
@@ -17,7 +17,7 @@ import report as reports
 
 def shown(text):
     """A text of a label, on one line."""
-    return escape(" ".join(text.split())) or " "
+    return escape(reports.shown(" ".join(text.split()), 200)) or " "
 
 
 def node(number, table):
@@ -35,9 +35,10 @@ def graph(report, prefix):
     text = "digraph schema {\n    rankdir=LR;\n    node [shape=plain, fontname=\"sans-serif\"];\n"
     text += "".join(node(number, table) for number, table in enumerate(tables))
     for (i, columns), (j, key) in reports.references_of(report):
+        side = ":e" if i == j else ""  # an arrow to its own table goes around it, and not through others
         for k, (c, other) in enumerate(zip(columns, key)):
             # Of a reference by several columns the first arrow is solid.
-            text += f"    t{i}:c{c} -> t{j}:c{other}{' [style=dashed]' if k else ''};\n"
+            text += f"    t{i}:c{c}{side} -> t{j}:c{other}{side}{' [style=dashed]' if k else ''};\n"
     return text + "}\n"
 
 

@@ -4,6 +4,7 @@
   test_profile_table.py PROGRAM [TESTS..]
 """
 import contextlib
+import importlib.util
 import io
 import os
 import random
@@ -16,8 +17,11 @@ from unittest import mock
 
 TOOLS = os.path.dirname(os.path.abspath(__file__))
 sys.path.insert(0, TOOLS)
+import engines_for_tests  # noqa: E402
 import profile_table  # noqa: E402
-import table_engine  # noqa: E402
+import table_cells  # noqa: E402
+import table_scan  # noqa: E402
+import table_search  # noqa: E402
 
 PROGRAM = os.path.abspath(sys.argv.pop(1)) if len(sys.argv) > 1 else ""
 
@@ -62,8 +66,8 @@ class Case(unittest.TestCase):
     def wanted(self, names, rows, inclusions=True):
         """What `depprof profile` writes for these rows."""
         with open(os.path.join(self.folder, "t"), "wb") as file:
-            file.write(table_engine.encoded(table_engine.header(names)))
-            file.writelines(table_engine.encoded(table_engine.record([cell(v) for v in row])) for row in rows)
+            file.write(table_cells.encoded(table_cells.header(names)))
+            file.writelines(table_cells.encoded(table_cells.record([cell(v) for v in row])) for row in rows)
         done = subprocess.run([PROGRAM, "profile", "t"], cwd=self.folder, capture_output=True, check=True)
         return b"".join(line for line in done.stdout.splitlines(True) if inclusions or not line.startswith(b"ind,"))
 
@@ -90,28 +94,26 @@ class Case(unittest.TestCase):
 class Reports(Case):
     def test_small_relations_by_chance(self):
         """Small samples and small rooms, so that each way through the search is taken."""
-        few, groups = table_engine.Table.few_rows, table_engine.Table.groups
-        evidence, small, kept = profile_table.EVIDENCE, profile_table.SMALL_GROUP, profile_table.KEPT_ROWS
-        try:
-            for seed in range(25):
-                rng = random.Random(seed)
-                table_engine.Table.few_rows = rng.choice([1, 8, 40, 200_000])
-                table_engine.Table.groups = rng.choice([1, 2, 64])
-                profile_table.EVIDENCE, profile_table.SMALL_GROUP = rng.choice([1, 32]), rng.choice([1, 2, 8])
-                profile_table.KEPT_ROWS = rng.choice([0, 20, 1_000_000])
-                width, height = rng.randint(1, 6), rng.randint(1, 60)
-                values = [rng.choice([[1, 2, 3], ["a", "b", "", None], ["x,y", 'q"q', "l\nf", "c\rr", " "], list(range(40)), [None, 5]])
-                          for _ in range(width)]
-                rows = [tuple(rng.choice(v) for v in values) for _ in range(height)]
-                has_row_in = rng.choice([True, False])
-                with self.subTest(seed=seed):
-                    with contextlib.suppress(FileNotFoundError):
-                        os.remove(self.database)
-                    with mock.patch.object(table_engine.Table, "has_row_in", property(lambda _: has_row_in, lambda _, __: None), create=True):
-                        self.check([f"c{k}" for k in range(width)], rows, "--sample", str(rng.choice([1, 2, 5, 10])))
-        finally:
-            table_engine.Table.few_rows, table_engine.Table.groups = few, groups
-            profile_table.EVIDENCE, profile_table.SMALL_GROUP, profile_table.KEPT_ROWS = evidence, small, kept
+        for seed in range(40):
+            rng = random.Random(seed)
+            rooms = [mock.patch.object(table_search.Search, "few_rows", rng.choice([1, 8, 40, 150_000])),
+                     mock.patch.object(table_scan.Table, "groups", rng.choice([1, 2, 64])),
+                     mock.patch.object(table_search, "EVIDENCE", rng.choice([1, 32])),
+                     mock.patch.object(table_search, "SMALL_GROUP", rng.choice([1, 2, 8])),
+                     mock.patch.object(table_search, "MOST_PARTS", rng.choice([1, 3, 16])),
+                     mock.patch.object(table_scan, "MOST_SETS", rng.choice([1, 2, 8]))]
+            width, height = rng.randint(1, 6), rng.randint(1, 60)
+            values = [rng.choice([[1, 2, 3], ["a", "b", "", None], ["x,y", 'q"q', "l\nf", "c\rr", " "], list(range(40)), [None, 5]])
+                      for _ in range(width)]
+            rows = [tuple(rng.choice(v) for v in values) for _ in range(height)]
+            has_row_in = rng.choice([True, False])
+            with self.subTest(seed=seed), contextlib.ExitStack() as stack:
+                for room in rooms:
+                    stack.enter_context(room)
+                with contextlib.suppress(FileNotFoundError):
+                    os.remove(self.database)
+                stack.enter_context(mock.patch.object(table_scan.Table, "has_row_in", property(lambda _: has_row_in, lambda _, __: None), create=True))
+                self.check([f"c{k}" for k in range(width)], rows, "--sample", str(rng.choice([1, 2, 5, 10])))
 
     def test_a_table_of_order_lines(self):
         csv, made = os.path.join(self.folder, "t"), os.path.join(TOOLS, "..", "bench", "order_lines.py")
@@ -121,6 +123,9 @@ class Reports(Case):
         done = subprocess.run([PROGRAM, "profile", "t"], cwd=self.folder, capture_output=True, check=True)
         self.assertEqual(report, done.stdout)
         self.assertRegex(told, r"round 2: ")
+
+    def test_no_rows(self):
+        self.check(["a", "b"], [])
 
     def test_two_equal_rows_leave_no_key(self):
         rows = [(k, k % 7) for k in range(400)] + [(77, 0)]
@@ -159,6 +164,68 @@ class Reports(Case):
         self.assertEqual(status, 0, told)
         self.assertEqual(report, self.wanted(["c", "b"], [(k % 3, k % 5) for k in range(60)], inclusions=False))
 
+    def test_postgres_through_its_driver(self):
+        """Columns of many types, with names that need quotes, in a server of the tests' own."""
+        if not importlib.util.find_spec("psycopg2"):
+            self.skipTest("no psycopg2")
+        engine, why = engines_for_tests.Postgres.start()
+        if not engine:
+            self.skipTest(why)
+        self.addCleanup(engine.end)
+        kinds = {"select": "integer", 'a "b" c': "text", "it's": "numeric(6, 2)", "A": "date", "a": "timestamptz", "100%": "boolean", "u": "uuid",
+                 "j": "json"}
+        columns = ", ".join('"' + name.replace('"', '""') + '" ' + kind for name, kind in kinds.items())
+        values = ("SELECT k, CASE WHEN k % 5 = 0 THEN NULL ELSE 'x' || k % 7 END, k % 9 / 4.0, date '2024-02-28' + k % 3, "
+                  "timestamptz '2024-02-28 10:00+00' + k % 4 * interval '1 hour', k % 2 = 0, "
+                  "md5((k % 6)::text)::uuid, json_build_object('k', k % 3) FROM generate_series(1, 200) k")
+        script = f'CREATE TABLE "Mixed Case" ({columns}); INSERT INTO "Mixed Case" {values};'
+        script += "CREATE TABLE lists (a integer[]); INSERT INTO lists VALUES ('{1}'), ('{2}');"
+        self.assertEqual(engine.load(script.encode()), (0, ""))
+        place = ["--module", "psycopg2", "--connect", f"host={engine.data} user=tests dbname=postgres"]
+        names = list(kinds)
+        rows = self.rows_through_the_driver(place)
+        status, report, told = self.run_tool(*place, "--sample", "20", "--text", "u,j", "--name", "t", "Mixed Case")
+        self.assertEqual((status, report), (0, self.wanted(names, rows, inclusions=False)), told)
+        status, report, told = self.run_tool(*place, "lists")
+        self.assertEqual((status, report, "holds a list" in told), (1, b"", True), told)
+
+    def rows_through_the_driver(self, place):
+        import psycopg2
+        with contextlib.closing(psycopg2.connect(place[-1])) as connection, connection.cursor() as cursor:
+            cursor.execute('SELECT "select", "a ""b"" c", "it\'s", "A", "a", "100%", u::text, j::text FROM "Mixed Case"')
+            return [[table_cells.text_of(value, "") for value in row] for row in cursor.fetchall()]
+
+    def test_names_with_a_dot(self):
+        rows = [(k, k % 3) for k in range(9)]
+        self.make(["a", "b"], rows)
+        with contextlib.closing(sqlite3.connect(self.database)) as connection:
+            connection.execute('CREATE TABLE "we""ird. name" AS SELECT * FROM t')
+        for name in ("main.t", 'we"ird. name'):
+            status, report, told = self.run_tool("--sqlite", self.database, "--name", "t", name)
+            self.assertEqual((status, report), (0, self.wanted(["a", "b"], rows, inclusions=False)), told)
+        self.assertEqual(self.run_tool("--sqlite", self.database, "nowhere.t")[0], 1)
+
+    def test_a_schema_becomes_a_script(self):
+        """By files that are left, the report goes through schema_sql.py."""
+        with contextlib.closing(sqlite3.connect(self.database)) as connection:
+            connection.execute("CREATE TABLE customers (customer_id, name)")
+            connection.execute("CREATE TABLE sales (sale_id, customer_id, day)")
+            connection.executemany("INSERT INTO customers VALUES (?, ?)", [(100 + k, f"name {k}") for k in range(40)])
+            connection.executemany("INSERT INTO sales VALUES (?, ?, ?)", [(5000 + k, 100 + k * 7 % 40, f"2024-02-{k % 20 + 1:02d}") for k in range(300)])
+            connection.commit()
+        files = os.path.join(self.folder, "files")
+        os.mkdir(files)
+        status, report, told = self.run_tool("--sqlite", self.database, "--schema", "main", "--files", files)
+        self.assertEqual((status, sorted(os.listdir(files))), (0, ["customers.csv", "sales.csv"]), told)
+        done = subprocess.run([PROGRAM, "profile", os.path.join(files, "customers.csv"), os.path.join(files, "sales.csv")], capture_output=True)
+        self.assertEqual(report, done.stdout)
+        done = subprocess.run([sys.executable, os.path.join(TOOLS, "schema_sql.py")], input=report, capture_output=True)
+        self.assertEqual((done.returncode, done.stderr), (0, b""))
+        with contextlib.closing(sqlite3.connect(":memory:")) as connection:
+            connection.executescript(done.stdout.decode())
+            self.assertEqual(connection.execute("SELECT COUNT(*) FROM sales JOIN customers USING (customer_id)").fetchall(), [(300,)])
+        self.assertIn(b'FOREIGN KEY ("customer_id") REFERENCES "customers" ("customer_id")', done.stdout)
+
     def test_other_modules(self):
         rows = [(k, f"{k % 40}%", None if k % 7 else "", k // 5) for k in range(500)]
         self.make(["a", "100%", "c", "d"], rows)
@@ -194,10 +261,6 @@ class Refusals(Case):
             file.write("a,b\n" * 1000)
         self.assertIn("not a database", self.refused("--sqlite", self.database, "t"))
 
-    def test_no_rows(self):
-        self.make(["a"], [])
-        self.assertIn("no rows", self.refused("--sqlite", self.database, "t"))
-
     def test_too_many_columns(self):
         self.make([f"c{k}" for k in range(129)], [range(129)])
         self.assertIn("129 columns", self.refused("--sqlite", self.database, "t"))
@@ -212,7 +275,8 @@ class Refusals(Case):
         self.assertIn("column b holds bytes", self.refused("--sqlite", self.database, "t"))
 
     def test_values_that_are_equal_with_other_texts(self):
-        self.make(["a", "b", "c", "d"], [(k // 2, k % 2, f"x{k % 5}", f"y{k}") for k in range(50)], ["", "", "TEXT COLLATE NOCASE", "TEXT COLLATE RTRIM"])
+        self.make(["a", "b", "c", "d"], [(k // 2, k % 2, f"x{k % 5}", f"y{k}") for k in range(50)],
+                  ["", "", "TEXT COLLATE NOCASE", "TEXT COLLATE RTRIM"])
         query = "SELECT a, CASE WHEN b THEN 1.0 ELSE 1 END AS b FROM t"
         sys.path.insert(0, self.folder)
         try:
@@ -229,14 +293,15 @@ class Refusals(Case):
 
     def test_a_cell_that_is_too_long(self):
         self.make(["a"], [("x" * 65537,)])
-        self.assertIn("session ended with status 3: refused sample.csv 2 4", self.refused("--sqlite", self.database, "t"))
+        self.assertIn("column a has a cell above 65,536 bytes", self.refused("--sqlite", self.database, "t"))
 
     def test_a_program_that_is_not_built(self):
         self.make(["a"], [(1,)])
         self.assertIn("the program is not built", self.refused("--program", "/nowhere", "--sqlite", self.database, "t"))
 
     def test_words(self):
-        for words in (["t"], ["--sqlite", "x"], ["--sqlite", "x", "--query", "q", "t"], ["--module", "m", "t"], ["--sqlite", "x", "--sample", "0", "t"]):
+        for words in (["t"], ["--sqlite", "x"], ["--sqlite", "x", "--query", "q", "t"], ["--module", "m", "t"],
+                      ["--sqlite", "x", "--sample", "0", "t"]):
             with self.assertRaises(SystemExit) as left:
                 self.run_tool(*words)
             self.assertEqual(left.exception.code, 2)

@@ -14,7 +14,7 @@ use Rattle.rel_base.specs.declared.dependency.Table.{Table}
 use Rattle.rel_base.specs.RowState.{RowState, IsRowState, width}
 use Rattle.rel_base.specs.Covers.{CoverLists, covers}
 use Rattle.rel_base.proofs.States.{live_climbs}
-use Rattle.fd_closure.specs.Closure.{closure_of, IsInOrder}
+use Rattle.fd_closure.specs.Closure.{closure_of}
 use Rattle.fd_closure.specs.Keys.{shrunk, table_key}
 use Rattle.fd_closure.proofs.Telling.{shrunk-table_key}
 use Rattle.bcnf_split.specs.declared.parted.Parting.{Parting}
@@ -23,7 +23,6 @@ use Rattle.bcnf_split.specs.Split.{splits, tables_of}
 use Rattle.bcnf_split.specs.Search.{IsViolation, IsFoundBy}
 use Rattle.bcnf_split.proofs.Violating.{first-cases, IsBcnf-none, none-IsBcnf}
 use Rattle.bcnf_split.proofs.Splitting.{splits-whole, splits-parted}
-use Rattle.bcnf_split.proofs.Testing.{lists-in_order}
 use Rattle.bcnf_split.proofs.Searching.{found_first}
 
 pub on_ok : {T E P Q : Type 0} (o : Result T E) → (P → Q) → OnOk o P → OnOk o Q
@@ -51,9 +50,9 @@ none-normal lists r s o t e = (λ h. IsBcnf-none r s t.below (live_climbs r t.st
 
 module _ (lists : CoverLists) (r : RowState) (s : Columns) (table : IsTableOf lists r s) where
   -- ---- of a table without a violation
-  pub tables_whole : (key : ℕ) → (IsInOrder lists.fds → key ≡ shrunk (λ x. subset s (closure_of lists.fds x)) 128 s) → ((x : ℕ) → first_violation r s ≡ Some x → IsFoundBy x None) → record { columns = s; key = key } ∷ [] ≡ tables_of r s
+  pub tables_whole : (key : ℕ) → key ≡ shrunk (λ x. subset s (closure_of lists.fds x)) 128 s → ((x : ℕ) → first_violation r s ≡ Some x → IsFoundBy x None) → record { columns = s; key = key } ∷ [] ≡ tables_of r s
   tables_whole key k none =
-      ap (λ (z : ℕ). record { columns = s; key = z } ∷ []) (k (lists-in_order lists r s table) ∙ ap (λ (l : CoverLists). shrunk (λ x. subset s (closure_of l.fds x)) 128 s) table.own ∙ shrunk-table_key r s table.state.narrow table.below)
+      ap (λ (z : ℕ). record { columns = s; key = z } ∷ []) (k ∙ ap (λ (l : CoverLists). shrunk (λ x. subset s (closure_of l.fds x)) 128 s) table.own ∙ shrunk-table_key r s table.state.narrow table.below)
       ∙ ap (map (λ (t : ℕ). record { columns = t; key = table_key r t })) (sym (splits-whole r s (by (first-cases r s))))
     where
       by : (first_violation r s ≡ None) ⊎ ((x : ℕ) × (first_violation r s ≡ Some x)) → first_violation r s ≡ None

@@ -17,10 +17,9 @@ use Rattle.rel_base.specs.Minimality.{min_key}
 use Rattle.rel_base.specs.Covers.{CoverLists, covers}
 use Rattle.rel_base.proofs.Valid.{holds-key}
 use Rattle.fd_closure.specs.Determined.{determined_columns, determines_all}
-use Rattle.fd_closure.specs.Closure.{closure_of, IsInOrder}
+use Rattle.fd_closure.specs.Closure.{closure_of}
 use Rattle.fd_closure.proofs.Determined.{determined-holds, holds-determined, holds-all}
 use Rattle.fd_closure.proofs.Closing.{closure-determined, closure-determines}
-use Rattle.fd_closure.proofs.Order.{covers-in_order}
 use Rattle.bcnf_split.specs.Bcnf.{IsTableOf, violates}
 use Rattle.bcnf_split.specs.Split.{dependents}
 use Rattle.bcnf_split.specs.Search.{IsParting, IsViolation}
@@ -78,9 +77,6 @@ module _ (s x reached d : Columns) (inside : IsSubset x s) (own : IsSubset x rea
 
 -- ---- by the covers of a row state
 module _ (lists : CoverLists) (r : RowState) (s : Columns) (table : IsTableOf lists r s) where
-  pub lists-in_order : IsInOrder lists.fds
-  lists-in_order = subst (λ (l : CoverLists). IsInOrder l.fds) (sym table.own) (covers-in_order r table.state)
-
   module _ (x : Columns) (inside : IsSubset x s) where
     below : x < 2 ^ width r
     below = subset_below (width r) inside table.below
@@ -88,8 +84,8 @@ module _ (lists : CoverLists) (r : RowState) (s : Columns) (table : IsTableOf li
     pub closed : closure_of lists.fds x ≡ determined_columns r x
     closed = ap (λ (l : CoverLists). closure_of l.fds x) table.own ∙ closure-determined r x (subset_below (width r) inside table.below)
 
-    pub answered : (answer : Bool) → (IsInOrder lists.fds → answer ≡ subset s (closure_of lists.fds x)) → answer ≡ determines_all r x s
-    answered answer h = h lists-in_order ∙ ap (λ (l : CoverLists). subset s (closure_of l.fds x)) table.own ∙ closure-determines r x s (subset_below (width r) inside table.below) table.below
+    pub answered : (answer : Bool) → answer ≡ subset s (closure_of lists.fds x) → answer ≡ determines_all r x s
+    answered answer h = h ∙ ap (λ (l : CoverLists). subset s (closure_of l.fds x)) table.own ∙ closure-determines r x s (subset_below (width r) inside table.below) table.below
 
     -- all of s is determined
     pub all-not_violating : determines_all r x s ≡ true → violates r s x ≡ false

@@ -1,7 +1,7 @@
 // Whether a column set violates the normal form of a table.
 ghost use Rattle.std.specs.Prelude.{◌≡◌, false, IfSome, MatchOption};
 ghost use Rattle.col_set.specs.ColSet.{IsSubset, subset};
-ghost use Rattle.fd_closure.specs.Closure.{IsInOrder, Tells, closure_of};
+ghost use Rattle.fd_closure.specs.Closure.{Tells, closure_of};
 ghost use Rattle.rel_base.specs.RowState.{RowState};
 ghost use Rattle.bcnf_split.specs.Bcnf.{IsTableOf, violates};
 ghost use Rattle.bcnf_split.specs.Search.{IsParting, IsViolation};
@@ -18,7 +18,7 @@ pub(crate) fn parting_by(
     s: ColSet,
 ) -> Option<Parting>
     requires inside { IsSubset left s }
-    requires index { IfSome index (λ sides. IsInOrder covers.now.fds → Tells covers.now.fds sides.now) }
+    requires index { IfSome index (λ sides. Tells covers.now.fds sides.now) }
     ensures left { IfSome result (λ parting. parting.left ≡ left) }
     ensures smaller { IfSome result (IsParting s) }
     ensures told { (r : RowState) → IsTableOf covers.now r s → MatchOption result (violates r s left ≡ false) (IsViolation r s) }
@@ -39,9 +39,9 @@ pub(crate) fn parting_by(
 
 // What x determines, by the index where there is one.
 fn closure_by(covers: &Covers, index: Option<&LeftSides>, x: ColSet) -> ColSet
-    requires { IfSome index (λ sides. IsInOrder covers.now.fds → Tells covers.now.fds sides.now) }
+    requires { IfSome index (λ sides. Tells covers.now.fds sides.now) }
     ensures own { IsSubset x result }
-    ensures every { IsInOrder covers.now.fds → result ≡ closure_of covers.now.fds x }
+    ensures value { result ≡ closure_of covers.now.fds x }
 {
     match index {
         Some(sides) => sides.closure(x),
@@ -51,8 +51,8 @@ fn closure_by(covers: &Covers, index: Option<&LeftSides>, x: ColSet) -> ColSet
 
 // Whether x determines every column of s, by the index where there is one.
 fn determines_by(covers: &Covers, index: Option<&LeftSides>, x: ColSet, s: ColSet) -> bool
-    requires { IfSome index (λ sides. IsInOrder covers.now.fds → Tells covers.now.fds sides.now) }
-    ensures { IsInOrder covers.now.fds → result ≡ subset s (closure_of covers.now.fds x) }
+    requires { IfSome index (λ sides. Tells covers.now.fds sides.now) }
+    ensures { result ≡ subset s (closure_of covers.now.fds x) }
 {
     match index {
         Some(sides) => sides.determines(x, s),

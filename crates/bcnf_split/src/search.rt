@@ -3,7 +3,7 @@ ghost use Rattle.std.specs.Prelude.{◌≡◌, ◌<◌, ◌↔◌, ◌&&◌, tru
 ghost use Rattle.std.specs.List.{Contains};
 ghost use Rattle.col_set.specs.ColSet.{Columns, IsSubset, has, subset, report_cmp};
 ghost use Rattle.std.specs.declared.cmp.Ordering.TheVariants.{Less};
-ghost use Rattle.fd_closure.specs.Closure.{IsInOrder, Tells};
+ghost use Rattle.fd_closure.specs.Closure.{Tells};
 ghost use Rattle.rel_base.specs.RowState.{RowState};
 ghost use Rattle.bcnf_split.specs.Bcnf.{IsBcnf, IsTableOf, violates, first_violation};
 ghost use Rattle.bcnf_split.specs.Search.{IsParting, IsViolation, IsFoundBy};
@@ -32,7 +32,7 @@ pub(crate) fn first_parting(
     index: Option<&LeftSides>,
     s: ColSet,
 ) -> Option<Parting>
-    requires { IfSome index (λ sides. IsInOrder covers.now.fds → Tells covers.now.fds sides.now) }
+    requires { IfSome index (λ sides. Tells covers.now.fds sides.now) }
     ensures smaller { IfSome result (IsParting s) }
     ensures told { (r : RowState) → IsTableOf covers.now r s → IfSome result (IsViolation r s) }
     ensures first { (r : RowState) → IsTableOf covers.now r s → (x : Columns) → first_violation r s ≡ Some x → IsFoundBy x result }

@@ -1,7 +1,7 @@
 // The split into tables.
 ghost use Rattle.std.specs.Prelude.{◌≡◌, ◌≤◌, ◌++◌, OnOk, IfOk};
 ghost use Rattle.col_set.specs.ColSet.{all};
-ghost use Rattle.fd_closure.specs.Closure.{IsInOrder, Tells};
+ghost use Rattle.fd_closure.specs.Closure.{Tells};
 ghost use Rattle.rel_base.specs.RowState.{RowState, IsRowState, width};
 ghost use Rattle.rel_base.specs.Covers as cover_words;
 ghost use Rattle.bcnf_split.specs.Bcnf.{IsTableOf};
@@ -35,7 +35,7 @@ fn push_tables(
     index: &LeftSides,
     s: ColSet,
 ) -> Result<(), AllocError>
-    requires { IsInOrder covers.now.fds → Tells covers.now.fds index.now }
+    requires { Tells covers.now.fds index.now }
     ensures { OnOk result ((r : RowState) → IsTableOf covers.now r s → tables.new.items ≡ tables.old.items ++ tables_of r s) }
 {
     match first_parting(covers, Some(index), s) {

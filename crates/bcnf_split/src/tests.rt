@@ -7,33 +7,44 @@ use crate::tests::relations::{agree_sets_of, covers_of, made_rows};
 use crate::{split, violation};
 use rel_base::{ColSet, Covers, Fd, MOST_COLUMNS, Table};
 use std::alloc::{AllocError, Global};
+use std::process::Abort;
 use std::test::Fail;
 
 // The tables of the relation with these rows.
-fn tables_of(alloc: Global, n: u8, rows: &[u32]) -> Result<Vec<Table>, AllocError>
+fn tables_of(rt: &impl Abort, alloc: Global, n: u8, rows: &[u32]) -> Result<Vec<Table>, AllocError>
     requires { n ≤ 8 }
 {
     let sets = agree_sets_of(alloc, n, rows)?;
-    let covers = covers_of(alloc, n, sets.as_slice())?;
+    let covers = covers_of(rt, alloc, n, sets.as_slice())?;
     split(alloc, &covers, n)
 }
 
 // Whether its tables are those of the plain definition.
-fn is_split_as_defined(alloc: Global, n: u8, rows: &[u32]) -> Result<bool, AllocError>
+fn is_split_as_defined(
+    rt: &impl Abort,
+    alloc: Global,
+    n: u8,
+    rows: &[u32],
+) -> Result<bool, AllocError>
     requires { n ≤ 8 }
 {
     let sets = agree_sets_of(alloc, n, rows)?;
-    let tables = tables_of(alloc, n, rows)?;
+    let tables = tables_of(rt, alloc, n, rows)?;
     let plainly = plain::split(alloc, sets.as_slice(), n)?;
     Ok(tables.as_slice() == plainly.as_slice())
 }
 
 // Whether the first violation of each column set is that of the plain definition.
-fn is_violated_as_defined(alloc: Global, n: u8, rows: &[u32]) -> Result<bool, AllocError>
+fn is_violated_as_defined(
+    rt: &impl Abort,
+    alloc: Global,
+    n: u8,
+    rows: &[u32],
+) -> Result<bool, AllocError>
     requires { n ≤ 8 }
 {
     let sets = agree_sets_of(alloc, n, rows)?;
-    let covers = covers_of(alloc, n, sets.as_slice())?;
+    let covers = covers_of(rt, alloc, n, sets.as_slice())?;
     for bits in 0..1u32 << n {
         let s = ColSet::of_bits(u128::from(bits));
         if violation(&covers, s) != plain::first_violation(sets.as_slice(), n, s) {
@@ -58,7 +69,7 @@ fn set(columns: &[u8]) -> ColSet {
 
 #[test]
 fn a_city_and_its_code_become_a_table(rt: HostRuntime) -> Result<(), Fail> {
-    let tables = tables_of(rt.alloc(), 3, &[111, 112, 223])?;
+    let tables = tables_of(&rt, rt.alloc(), 3, &[111, 112, 223])?;
     let want = [table(&[0, 1], &[0]), table(&[1, 2], &[1])];
     assert!(rt; tables.as_slice() == want.as_slice());
     Ok(())
@@ -66,7 +77,7 @@ fn a_city_and_its_code_become_a_table(rt: HostRuntime) -> Result<(), Fail> {
 
 #[test]
 fn a_table_whose_columns_in_pairs_are_keys_stays_whole(rt: HostRuntime) -> Result<(), Fail> {
-    let tables = tables_of(rt.alloc(), 3, &[0, 110, 101, 11])?;
+    let tables = tables_of(&rt, rt.alloc(), 3, &[0, 110, 101, 11])?;
     let want = [table(&[0, 1, 2], &[0, 1])];
     assert!(rt; tables.as_slice() == want.as_slice());
     Ok(())
@@ -74,7 +85,7 @@ fn a_table_whose_columns_in_pairs_are_keys_stays_whole(rt: HostRuntime) -> Resul
 
 #[test]
 fn a_constant_column_becomes_a_table_without_a_key(rt: HostRuntime) -> Result<(), Fail> {
-    let tables = tables_of(rt.alloc(), 2, &[1, 2])?;
+    let tables = tables_of(&rt, rt.alloc(), 2, &[1, 2])?;
     let want = [table(&[0], &[0]), table(&[1], &[])];
     assert!(rt; tables.as_slice() == want.as_slice());
     Ok(())
@@ -82,8 +93,10 @@ fn a_constant_column_becomes_a_table_without_a_key(rt: HostRuntime) -> Result<()
 
 #[test]
 fn one_column_is_one_table(rt: HostRuntime) -> Result<(), Fail> {
-    assert!(rt; tables_of(rt.alloc(), 1, &[])?.as_slice() == [table(&[0], &[])].as_slice());
-    assert!(rt; tables_of(rt.alloc(), 1, &[1, 2])?.as_slice() == [table(&[0], &[0])].as_slice());
+    assert!(rt; tables_of(&rt, rt.alloc(), 1, &[])?.as_slice() == [table(&[0], &[])].as_slice());
+    assert!(rt;
+        tables_of(&rt, rt.alloc(), 1, &[1, 2])?.as_slice() == [table(&[0], &[0])].as_slice()
+    );
     Ok(())
 }
 
@@ -96,7 +109,8 @@ fn most_columns_of_one_row_are_one_table(rt: HostRuntime) -> Result<(), Fail> {
         let left = ColSet::empty();
         fds.push(Fd { left, right })?;
     }
-    let tables = split(rt.alloc(), &Covers::of(keys, fds), MOST_COLUMNS)?;
+    let covers = Covers::checked(keys, fds).expect(&rt, "right columns ascend");
+    let tables = split(rt.alloc(), &covers, MOST_COLUMNS)?;
     let want = [Table {
         columns: ColSet::all(MOST_COLUMNS),
         key: ColSet::empty(),
@@ -107,7 +121,7 @@ fn most_columns_of_one_row_are_one_table(rt: HostRuntime) -> Result<(), Fail> {
 
 #[test]
 fn equal_rows_are_no_hindrance(rt: HostRuntime) -> Result<(), Fail> {
-    let tables = tables_of(rt.alloc(), 3, &[111, 112, 223, 223])?;
+    let tables = tables_of(&rt, rt.alloc(), 3, &[111, 112, 223, 223])?;
     let want = [table(&[0, 1], &[0]), table(&[1, 2], &[1])];
     assert!(rt; tables.as_slice() == want.as_slice());
     Ok(())
@@ -119,7 +133,7 @@ fn small_relations_are_split_as_defined(rt: HostRuntime) -> Result<(), Fail> {
         let n = (seed % 5 + 1) as u8;
         let rows = made_rows(rt.alloc(), n, seed / 5 % 8, 2 + seed % 2, seed)?;
         assert!(rt;
-            is_split_as_defined(rt.alloc(), n, rows.as_slice())?,
+            is_split_as_defined(&rt, rt.alloc(), n, rows.as_slice())?,
             "seed {seed}"
         );
     }
@@ -131,7 +145,7 @@ fn first_violations_are_those_of_the_definition(rt: HostRuntime) -> Result<(), F
     for seed in 0..80u32 {
         let rows = made_rows(rt.alloc(), 4, seed % 8, 2 + seed % 2, seed)?;
         assert!(rt;
-            is_violated_as_defined(rt.alloc(), 4, rows.as_slice())?,
+            is_violated_as_defined(&rt, rt.alloc(), 4, rows.as_slice())?,
             "seed {seed}"
         );
     }

@@ -7,25 +7,18 @@ use Rattle.std.proofs.lemmas.Bool.{eqb-true}
 use Rattle.std.proofs.lemmas.Option.{same_Some, none-some}
 use Rattle.std.proofs.lemmas.List.{map-append, length-map}
 use Rattle.std.proofs.lemmas.List.FromFn.{length-map-range_with_len, get_or-map-range_with_len}
-use Rattle.col_set.specs.declared.target.Target.{Target}
 use Rattle.col_set.specs.declared.target.Target.TheVariants.{Col, RowId}
-use Rattle.col_set.specs.ColSet.{upto, report_cmp}
-use Rattle.col_set.specs.Columns.{report_total}
-use Rattle.col_set.specs.Evidence.{least}
-use Rattle.col_set.specs.Lists.{Rises}
-use Rattle.col_set.proofs.Places.{same_rising}
-use Rattle.col_set.proofs.More.{Rises-least}
-use Rattle.col_set.proofs.Least.{Listed-least, IsLeast-listed}
+use Rattle.col_set.specs.ColSet.{upto}
 use Rattle.candidate_cover.specs.Pairs.{value_at}
 use Rattle.candidate_cover.specs.declared.cand.Cand.{Cand}
 use Rattle.candidate_cover.specs.declared.cand.Mark.{Mark}
 use Rattle.candidate_cover.specs.Lists.{CandLists}
-use Rattle.candidate_cover.specs.Cands.{cands_of, lefts, fresh, kept_or_fresh}
-use Rattle.candidate_cover.specs.Growth.{choices, ListsLeast}
-use Rattle.candidate_cover.specs.Drafts.{AreLeast, AreDrafted, lists_behind}
-use Rattle.candidate_cover.specs.Marks.{cand, cands, fresh_mark, HasMembers}
-use Rattle.candidate_cover.proofs.Evidence.{among_from, least_from, lists_least}
-use Rattle.candidate_cover.proofs.Growing.{upto_more}
+use Rattle.candidate_cover.specs.Cands.{cands_of, lefts, fresh, kept_or_fresh, AreLeast}
+use Rattle.least_sets.specs.Growth.{choices, ListsLeast}
+use Rattle.least_sets.specs.Drafts.{AreDrafted, lists_behind}
+use Rattle.candidate_cover.specs.Marks.{cand, cands, fresh_mark}
+use Rattle.least_sets.proofs.Evidence.{lists_least}
+use Rattle.least_sets.proofs.Growing.{upto_more}
 use Rattle.candidate_cover.proofs.Parts.{found_fresh}
 use Rattle.candidate_cover.proofs.Remarked.{no_key_of_none}
 
@@ -52,15 +45,6 @@ kept_value (p ∷ ps) x v e = by (eqb p.0 x) refl e (kept_value ps x v)
 
 pub kept_none : (ps : List (ℕ × Mark)) (x : ℕ) (m : Mark) → m ≡ fresh_mark → None ≡ value_at ps x → cand (x, m) ≡ kept_or_fresh (cands ps) x
 kept_none ps x m f e = ap (λ (m : Mark). cand (x, m)) f ∙ sym (ap (λ r. unwrap_or r (fresh x)) (found_fresh ps x (no_key_of_none ps x e)))
-
--- ---- left sides
-pub lists_members : (u : ℕ) (ws : List ℕ) (t : Target) (xs ys : List ℕ) → HasMembers xs ys → ListsLeast u ws t xs → ListsLeast u ws t ys
-lists_members u ws t xs ys m l = record { each = λ x h. l.each x (m.each x h); every = λ x i. m.every x (l.every x i) }
-
-pub sorted_least : (n : ℕ) (ws : List ℕ) (t : Target) (xs : List ℕ) → Rises report_cmp xs → ListsLeast (choices n t) ws t xs → xs ≡ least n ws t
-sorted_least n ws t xs r l = same_rising report_total xs (least n ws t) r (Rises-least n ws t)
-    (λ x h. Listed-least n ws t x (least_from n ws t x (l.each x h)))
-    (λ x h. l.every x (among_from n ws t x (IsLeast-listed n ws t x h)))
 
 -- ---- the lists of a cover
 abbrev pub column_lefts : CandLists → ℕ → List ℕ

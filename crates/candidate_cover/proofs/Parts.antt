@@ -19,10 +19,10 @@ use Rattle.candidate_cover.proofs.Toggling.{keys-listed, listed-keys, Rises-keys
 use Rattle.candidate_cover.specs.declared.cand.Cand.{Cand}
 use Rattle.candidate_cover.specs.declared.cand.Mark.{Mark}
 use Rattle.candidate_cover.specs.Cands.{lefts, fresh, kept_or_fresh}
-use Rattle.candidate_cover.specs.Growth.{choices, IsLeastAmong, ListsLeast, inside, outside, near, grown, IsExplored}
+use Rattle.least_sets.specs.Growth.{choices, IsLeastAmong, ListsLeast, inside, outside, near, grown, IsExplored}
 use Rattle.candidate_cover.specs.Marks.{cand, cands, fresh_mark, IsGrown, IsGeneralised}
-use Rattle.candidate_cover.proofs.Evidence.{among_from, least_from, lists_least, choice_parts, stands_left, stands_right, stands_both, HasLeast, least_under}
-use Rattle.candidate_cover.proofs.Growing.{lists_after, Grows, grown_parts}
+use Rattle.least_sets.proofs.Evidence.{among_from, least_from, lists_least, choice_parts, stands_left, stands_right, stands_both, HasLeast, least_under}
+use Rattle.least_sets.proofs.Growing.{lists_after, Grows, grown_parts}
 
 pub lefts-cands : (ps : List (ℕ × Mark)) → lefts (cands ps) ≡ keys ps
 lefts-cands [] = refl

@@ -1,11 +1,13 @@
 -- Candidates: left sides with their marks, in a list for each target.
-use Rattle.std.specs.Prelude.{if◌then◌else◌, ℕ, ◌==◌, ◌&&◌, Bool, false, not, List, [], map, max, length, slice_index_or, slice_set, Option}
+use Rattle.std.specs.Prelude.{if◌then◌else◌, ◌≡◌, ℕ, ◌==◌, ◌&&◌, Bool, false, not, List, [], map, max, length, slice_index_or, slice_set, Option}
 use Rattle.std.specs.List.{filter, find, list_any}
 use Rattle.std.specs.Option.{unwrap_or, option_map}
 use Rattle.std.specs.Ordering.{is_lt}
 use Rattle.col_set.specs.declared.target.Target.{Target}
 use Rattle.col_set.specs.declared.target.Target.TheVariants.{Col, RowId}
 use Rattle.col_set.specs.ColSet.{Columns, report_cmp}
+use Rattle.col_set.specs.Target.{IsColumnTarget}
+use Rattle.col_set.specs.Evidence.{least}
 use Rattle.col_set.specs.Lists.{Rises}
 use Rattle.candidate_cover.specs.declared.cand.Cand.{Cand}
 use Rattle.candidate_cover.specs.Lists.{CandLists}
@@ -19,13 +21,17 @@ abbrev pub cands_of : CandLists → Target → List Cand
 cands_of c (Col a) = slice_index_or c.columns a []
 cands_of c RowId = c.row_id
 
+abbrev pub lefts : List Cand → List Columns
+lefts cands = map (λ c. c.left) cands
+
+-- for each target of n columns the candidates are what these agree sets leave
+pub record AreLeast (n : ℕ) (ws : List Columns) (c : CandLists) : Type 0 where
+  pub each : (t : Target) → IsColumnTarget n t → lefts (cands_of c t) ≡ least n ws t
+
 -- the lists, with these candidates for the target
 abbrev pub with_list : CandLists → Target → List Cand → CandLists
 with_list c (Col a) cands = record { row_id = c.row_id; columns = slice_set c.columns a cands }
 with_list c RowId cands = record { row_id = cands; columns = c.columns }
-
-abbrev pub lefts : List Cand → List Columns
-lefts cands = map (λ c. c.left) cands
 
 -- each left side stands before each later one in report order
 abbrev pub IsInOrder : List Cand → Type 0

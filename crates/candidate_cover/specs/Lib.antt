@@ -1,9 +1,5 @@
 pub mod AllMarked
-pub mod Branches
-pub mod BySize
 pub mod Cands
-pub mod Drafts
-pub mod Growth
 pub mod Lists
 pub mod Marks
 pub mod Pairs

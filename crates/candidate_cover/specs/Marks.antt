@@ -1,12 +1,13 @@
--- Candidates as the pairs that a tree keeps, and how a target's list is made anew.
+-- Candidates as pairs of a left side and its marks, and how a target's list is made anew.
 use Rattle.std.specs.Prelude.{◌≡◌, ℕ, false, List, ◌++◌, map}
 use Rattle.std.specs.List.{filter, list_any}
 use Rattle.col_set.specs.declared.target.Target.{Target}
 use Rattle.col_set.specs.ColSet.{Columns, subset, report_cmp}
-use Rattle.col_set.specs.Lists.{Listed, Rises}
+use Rattle.col_set.specs.Lists.{Rises}
+use Rattle.least_sets.specs.Members.{HasMembers}
 use Rattle.candidate_cover.specs.declared.cand.Cand.{Cand}
 use Rattle.candidate_cover.specs.declared.cand.Mark.{Mark}
-use Rattle.candidate_cover.specs.Growth.{choices, inside, outside, near, grown}
+use Rattle.least_sets.specs.Growth.{choices, inside, outside, near, grown}
 use Rattle.candidate_cover.specs.Pairs.{keys, IsInOrder, toggled}
 
 -- the candidate of a left side and its marks
@@ -18,11 +19,6 @@ cands ps = map cand ps
 
 abbrev pub fresh_mark : Mark
 fresh_mark = record { upto = 1; held = false }
-
--- the lists have the same members
-pub record HasMembers (xs ys : List Columns) : Type 0 where
-  pub each : (x : Columns) → Listed x ys → Listed x xs
-  pub every : (x : Columns) → Listed x xs → Listed x ys
 
 -- The new list is the old one where the left sides inside z have gone and the sets that grow out of them have come, with fresh marks.
 pub record IsGrown (n : ℕ) (t : Target) (z : ℕ) (old new : List (Columns × Mark)) : Type 0 where

@@ -6,23 +6,18 @@ ghost use Rattle.col_set.specs.Target.{IsColumnTarget, has_target};
 ghost use Rattle.col_set.specs.Evidence.{least};
 ghost use Rattle.col_set.specs.Lists.{Listed};
 ghost use Rattle.candidate_cover.specs.Cands as words;
-ghost use Rattle.candidate_cover.specs.Cands.{width, cands_of, with_list, lefts, is_listed, kept_or_fresh, marked, holding, upto_of, all_free, freed, from, IsInOrder};
+ghost use Rattle.candidate_cover.specs.Cands.{width, cands_of, with_list, lefts, is_listed, kept_or_fresh, marked, holding, upto_of, all_free, freed, from, IsInOrder, AreLeast};
 ghost use Rattle.candidate_cover.specs.AllMarked.{marked_throughout, refreshed_throughout};
 ghost use Rattle.candidate_cover.specs.Sizes.{is_between};
-ghost use Rattle.candidate_cover.specs.Drafts.{AreLeast};
 ghost use Rattle.candidate_cover.specs.Marks.{cand, cands};
 ghost use Rattle.candidate_cover.specs.declared.cand.Cand.{Cand};
 ghost use Rattle.candidate_cover.specs.declared.cand.Marking.TheVariants.{Marked, Dropped};
 
 use crate::cand::{Cand, Marking};
 use crate::cand_list::CandList;
-use crate::draft::Draft;
-use crate::explore::explored;
-use crate::filing::Filing;
-use crate::growth::choices;
 use crate::new_list::{NewList, generalised, specialised};
 use crate::old_list::OldList;
-use crate::order::in_order;
+use least_sets::{Draft, least_sets_inside};
 use rel_base::{ColSet, MOST_COLUMNS, RowNo, Steps, Target};
 use std::alloc::{AllocError, Global};
 use std::marker::Model;
@@ -106,8 +101,9 @@ impl CandidateCover {
     ///
     /// What comes back lies inside a withdrawn set that lacks the target and inside no such set of the rest; candidates that
     /// contain one of these are dropped. Nothing changes here; `put` makes the new list the target's. It copies the target's list,
-    /// compares it with each set that comes back, and takes for each withdrawn set that lies inside no other a pass over the rest,
-    /// where a step is one test against an agree set; what comes back is found by branches, in a microsecond or so each.
+    /// compares it with each set that comes back, and takes for each withdrawn set that lies inside no other a pass over the rest;
+    /// what comes back is found by branches, in a microsecond or so each. A step is one test of a column set against an agree set,
+    /// in the branches too. Where each withdrawn set has the target nothing can change, and no step is taken.
     pub fn generalise<L: Ledger>(
         &self,
         alloc: Global,
@@ -123,8 +119,7 @@ impl CandidateCover {
         ensures idle { All (λ w. has_target w target ≡ true) withdrawn.now → steps.new ≡ steps.old }
     {
         let columns = self.columns();
-        let choices = choices(columns, target);
-        let sets = explored(alloc, choices, target, rest, withdrawn, steps)?;
+        let sets = least_sets_inside(alloc, columns, target, rest, withdrawn, steps)?;
         let made = generalised(alloc, sets, self.cand_list(target))?;
         Ok(NewList::of(made))
     }
@@ -141,8 +136,8 @@ impl CandidateCover {
         for column in 0..count {
             columns.push(self.copied_lefts(alloc, Target::Col(column))?)?;
         }
-        let filing = Filing::of(alloc, count, agree_sets.as_slice())?;
-        Ok(Draft::of(row_id, columns, filing))
+        let draft = Draft::of(alloc, row_id, columns, agree_sets.as_slice())?;
+        Ok(draft)
     }
 
     /// The candidates of a target in report order that a draft leaves, or none where these are the ones that there are. Those
@@ -164,12 +159,10 @@ impl CandidateCover {
         ensures marks { IfOk result (λ new_list. IfSome new_list (λ cands. cands ≡ map (kept_or_fresh (cands_of self.now target)) (lefts cands))) }
     {
         let list = self.cand_list(target);
-        let sets = draft.left_sides(alloc, target)?;
-        if sets.as_slice() == list.sets() {
-            return Ok(None);
+        match draft.least_sets_unless(alloc, target, list.sets())? {
+            None => Ok(None),
+            Some(sets) => Ok(Some(NewList::of(list.with_lefts(alloc, sets)?))),
         }
-        let made = list.with_lefts(alloc, in_order(alloc, sets)?)?;
-        Ok(Some(NewList::of(made)))
     }
 
     /// Makes the new list the target's, and hands out the one that stood there, so that its caller chooses when to let go of it.

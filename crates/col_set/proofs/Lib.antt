@@ -7,3 +7,4 @@ pub mod Places
 pub mod More
 pub mod EachColumn
 pub mod Fewer
+pub mod Whole

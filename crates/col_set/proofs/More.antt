@@ -41,7 +41,7 @@ least-empty n t = same_rising report_total (least n [] t) (0 ∷ []) (Rises-leas
     by x (inr g) = absurd g
 
 -- what is refuted depends on the members of the list alone
-refuted_more : (vs ws : List ℕ) (t : Target) (x : ℕ) → ((w : ℕ) → Listed w vs → Listed w ws) → refuted vs t x ≡ true → refuted ws t x ≡ true
+pub refuted_more : (vs ws : List ℕ) (t : Target) (x : ℕ) → ((w : ℕ) → Listed w vs → Listed w ws) → refuted vs t x ≡ true → refuted ws t x ≡ true
 unfolding refuted
 refuted_more vs ws t x f e = let w = list_any_which (λ w. subset x w && not (has_target w t)) vs e in list_any_at (λ w. subset x w && not (has_target w t)) w.0 ws (f w.0 w.1) w.2
 

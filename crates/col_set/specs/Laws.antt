@@ -1,11 +1,11 @@
 -- The laws of the definitions, which functions with an empty body ensure.
-use Rattle.std.specs.Prelude.{◌≡◌, ◌<◌, ◌^◌, ℕ, ◌⊎◌, false, List, [], ◌∷◌, ◌++◌, ◌↔◌}
+use Rattle.std.specs.Prelude.{◌≡◌, ◌<◌, ◌^◌, ℕ, ◌⊎◌, true, false, List, [], ◌∷◌, ◌++◌, ◌↔◌}
 use Rattle.std.specs.List.{Contains, AllPairs}
 use Rattle.std.specs.declared.cmp.Ordering.TheVariants.{Less}
 use Rattle.col_set.specs.declared.target.Target.{Target}
-use Rattle.col_set.specs.ColSet.{IsSubset, empty, report_cmp, all_sets}
+use Rattle.col_set.specs.ColSet.{Columns, IsSubset, empty, report_cmp, all_sets}
 use Rattle.col_set.specs.Target.{has_target}
-use Rattle.col_set.specs.Evidence.{IsLeast, least, replaced, minimal_of}
+use Rattle.col_set.specs.Evidence.{IsLeast, refuted, least, replaced, minimal_of}
 
 -- The list of all column sets of n columns has each of them once, in report order.
 pub record ListsAllSets (n : ℕ) : Type 0 where
@@ -47,3 +47,13 @@ LeastAfterFewer = (n : ℕ) (rest gone : List ℕ) (t : Target) (x : ℕ) → Co
 -- With no agree set the empty set is the one candidate.
 abbrev pub LeastOfNone : Type 0
 LeastOfNone = (n : ℕ) (t : Target) → least n [] t ≡ empty ∷ []
+
+-- no set that ws leaves is refuted by vs
+abbrev pub NoneIsRefuted : ℕ → List Columns → List Columns → Target → Type 0
+NoneIsRefuted n ws vs t = (x : Columns) → Contains (least n ws t) x → refuted vs t x ≡ false
+
+-- Evidence whose least sets more evidence refutes none of has the least sets of all: where each set that ws refutes is refuted by
+-- vs, as where each of ws is among vs, and no set that ws leaves is refuted by vs, both leave the same.
+pub record EvidenceThatHoldsIsWhole (n : ℕ) (ws vs : List Columns) (t : Target) : Type 0 where
+  pub stronger : ((x : Columns) → x < 2 ^ n → refuted ws t x ≡ true → refuted vs t x ≡ true) → NoneIsRefuted n ws vs t → least n ws t ≡ least n vs t
+  pub among : ((w : Columns) → Contains ws w → Contains vs w) → NoneIsRefuted n ws vs t → least n ws t ≡ least n vs t

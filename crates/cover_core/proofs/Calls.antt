@@ -25,7 +25,7 @@ use Rattle.candidate_cover.specs.declared.cand.Cand.{Cand}
 use Rattle.candidate_cover.specs.declared.cand.Marking.{Marking}
 use Rattle.candidate_cover.specs.declared.cand.Marking.TheVariants.{Marked, Dropped}
 use Rattle.candidate_cover.specs.Lists.{CandLists}
-use Rattle.candidate_cover.specs.Cands.{cands_of, with_list, lefts, is_listed, marked, holding}
+use Rattle.candidate_cover.specs.Cands.{cands_of, with_list, lefts, is_listed, marked, holding, AreLeast}
 use Rattle.cover_steps.specs.Core.{Core, opened_core, one_each, cands, entries_in, is_unfinished, is_drawable, first_unfinished, first_drawable, refutes_some, witness_of, booked, renewed, standing, with_rows, listed_covers}
 use Rattle.cover_steps.specs.Steps as steps
 use Rattle.cover_steps.specs.Sound.{Sound, Fits}
@@ -35,7 +35,6 @@ use Rattle.cover_steps.proofs.Found.{drawable-entry}
 use Rattle.cover_steps.proofs.Exact.{listed_covers-exact}
 use Rattle.negative_cover.specs.EndedRows.{ended}
 use Rattle.cover_core.specs.Kept.{IsBook}
-use Rattle.candidate_cover.specs.Drafts.{AreLeast}
 use Rattle.cover_core.specs.Replies.{reply_of_mark, reply_of_release}
 use Rattle.cover_core.specs.declared.answers.Release.{Release}
 use Rattle.cover_core.specs.declared.answers.Release.TheVariants as releases

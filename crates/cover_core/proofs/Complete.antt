@@ -23,7 +23,7 @@ use Rattle.candidate_cover.specs.declared.cand.Cand.{Cand}
 use Rattle.candidate_cover.specs.Lists.{CandLists}
 use Rattle.candidate_cover.specs.Cands.{cands_of, lefts}
 use Rattle.candidate_cover.specs.AllMarked.{all_marked, marked_throughout}
-use Rattle.candidate_cover.specs.Drafts.{is_news}
+use Rattle.least_sets.specs.Drafts.{is_news}
 use Rattle.cover_steps.specs.Core.{Core, cands}
 use Rattle.cover_steps.specs.Sound.{IsMarked, Sound}
 use Rattle.cover_steps.proofs.Keeping.{cand-least, cand-marked}

@@ -14,10 +14,9 @@ use Rattle.rel_base.specs.Validity.{agree_of}
 use Rattle.rel_base.proofs.Agree.{agree-parts}
 use Rattle.negative_cover.specs.Witnesses.{sets_of}
 use Rattle.candidate_cover.specs.Lists.{CandLists}
-use Rattle.candidate_cover.specs.Cands.{cands_of}
+use Rattle.candidate_cover.specs.Cands.{cands_of, AreLeast}
 use Rattle.std.proofs.lemmas.List.FromFn.{length-map-range_with_len}
 use Rattle.rel_base.specs.CodeTable.{CodeTable}
-use Rattle.candidate_cover.specs.Drafts.{AreLeast}
 use Rattle.cover_steps.specs.Core.{Core, refutes_some, renewed, renewed_list}
 use Rattle.cover_steps.proofs.Kept.{cands_of-renewed}
 use Rattle.cover_steps.proofs.Leaving.{told_one, unconcerned}

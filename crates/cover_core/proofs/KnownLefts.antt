@@ -15,7 +15,7 @@ use Rattle.rel_base.proofs.Valid.{holds-true}
 use Rattle.rel_base.proofs.States.{All-listed, All-from, live_climbs}
 use Rattle.negative_cover.specs.declared.negative_cover.Witness.{Witness}
 use Rattle.negative_cover.specs.Witnesses.{sets_of}
-use Rattle.candidate_cover.specs.Drafts.{is_news}
+use Rattle.least_sets.specs.Drafts.{is_news}
 use Rattle.candidate_cover.specs.declared.cand.Cand.{Cand}
 use Rattle.candidate_cover.specs.Lists.{CandLists}
 use Rattle.candidate_cover.specs.Cands.{cands_of, width as width_of}

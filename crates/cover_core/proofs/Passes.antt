@@ -12,7 +12,7 @@ use Rattle.rel_base.proofs.States.{All-listed, All-from}
 use Rattle.negative_cover.specs.declared.negative_cover.Witness.{Witness}
 use Rattle.negative_cover.specs.Witnesses.{sets_of}
 use Rattle.candidate_cover.specs.Lists.{CandLists}
-use Rattle.candidate_cover.specs.Drafts.{Drafted, is_news}
+use Rattle.least_sets.specs.Drafts.{Drafted, is_news}
 use Rattle.cover_steps.specs.Core.{Core, renewed}
 use Rattle.cover_steps.specs.Sound.{IsWitness, Sound}
 use Rattle.cover_steps.proofs.Fitting.{Fits-shown}

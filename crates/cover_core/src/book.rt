@@ -15,7 +15,8 @@ ghost use Rattle.cover_steps.specs.Steps as steps;
 ghost use Rattle.cover_steps.specs.Sound.{Sound, Fits};
 ghost use Rattle.negative_cover.specs.Witnesses.{sets_of};
 ghost use Rattle.candidate_cover.specs.AllMarked.{refreshed_throughout};
-ghost use Rattle.candidate_cover.specs.Drafts.{is_news};
+ghost use Rattle.candidate_cover.specs.Cands.{freed};
+ghost use Rattle.least_sets.specs.Drafts.{is_news};
 ghost use Rattle.cover_steps.specs.Evidences.{IsEvidence, IsAllTold, IsNews};
 ghost use Rattle.cover_core.specs.Judged.{IsSeen};
 ghost use Rattle.cover_core.specs.Past.{IsFirst};
@@ -36,10 +37,11 @@ use crate::searcher::Searcher;
 use crate::searching::{first_drawable, first_unfinished, move_both_back};
 use crate::sought::{Wanted, is_calm, rank_of};
 use crate::waiting::{Sizes, Waiting, count, mark_each, worth_comparing};
-use candidate_cover::{CandidateCover, Draft, Marking};
+use candidate_cover::{CandidateCover, Marking};
 use cover_steps::evidence::{Evidence, News, news_of};
 use cover_steps::listed::listed;
 use cover_steps::new_lists::{put_all, specialised};
+use least_sets::Draft;
 use negative_cover::{Concerned, NegativeCover, Witness, all_pairs};
 use ports::{Gate, OpenGate};
 use rel_base::{Batch, Covers, Job, Limits, Nulls, Relation, RowNo, Snapshot, Target};
@@ -484,9 +486,10 @@ impl Book {
         })
     }
 
-    /// Lets go of all candidates, so that none is held; jobs that are out may still come back. It lets go of what is outdated too, takes a
-    /// step a candidate, and no memory.
+    /// Lets go of all candidates, so that none is held, and what is known of each stays; jobs that are out may still come back. It lets go
+    /// of what is outdated too, takes a step a candidate, and no memory.
     pub fn free(&mut self)
+        ensures freed { self.new.candidates ≡ freed self.old.candidates }
         ensures free { All (λ e. e.1.held ≡ false) (entries self.new) }
         ensures settled { first_unfinished_of self.old ≡ None → first_unfinished_of self.new ≡ None }
         ensures rows { self.new.rows ≡ self.old.rows }

@@ -2,10 +2,9 @@
 ghost use Rattle.std.specs.Prelude.{◌≡◌, ◌<◌, IfOk, IsPermutation};
 ghost use Rattle.rel_base.specs.CodeTable.{IsCodeTable};
 ghost use Rattle.rel_base.specs.Shows.{Shows};
-ghost use Rattle.candidate_cover.specs.Cands.{width};
+ghost use Rattle.candidate_cover.specs.Cands.{width, AreLeast};
 ghost use Rattle.negative_cover.specs.Witnesses.{sets_of, live_of};
 ghost use Rattle.negative_cover.specs.EndedRows as rows_of;
-ghost use Rattle.candidate_cover.specs.Drafts.{AreLeast};
 ghost use Rattle.cover_steps.specs.NewLists.{IsLeftBy};
 
 use candidate_cover::CandidateCover;

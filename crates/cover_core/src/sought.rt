@@ -6,7 +6,8 @@ ghost use Rattle.cover_core.specs.Waiting.{IsSought, IsWaiting, IsWanted, width_
 ghost use denote.Param.Send.{IsSync};
 
 use crate::waiting::{Sizes, Waiting, count, push_waiting};
-use candidate_cover::{Cand, CandidateCover, Draft};
+use candidate_cover::{Cand, CandidateCover};
+use least_sets::Draft;
 use rel_base::{MOST_COLUMNS, RowNo, Target};
 use std::alloc::{AllocError, Global};
 use std::sync::atomic::{AtomicUsize, Ordering};

@@ -11,7 +11,7 @@ use Rattle.col_set.specs.Target.{IsColumnTarget}
 use Rattle.col_set.specs.declared.target.Target.{Target}
 use Rattle.col_set.specs.declared.target.Target.TheVariants.{Col, RowId}
 use Rattle.rel_base.proofs.States.{All-from}
-use Rattle.candidate_cover.proofs.Growing.{upto_more}
+use Rattle.least_sets.proofs.Growing.{upto_more}
 use Rattle.candidate_cover.specs.declared.cand.Cand.{Cand}
 use Rattle.candidate_cover.specs.Lists.{CandLists}
 use Rattle.cover_steps.specs.Core.{targets}

@@ -18,7 +18,7 @@ use Rattle.rel_base.specs.RowState.{RowState}
 use Rattle.rel_base.proofs.States.{All-listed, All-from}
 use Rattle.negative_cover.specs.declared.negative_cover.Witness.{Witness}
 use Rattle.negative_cover.specs.Witnesses.{sets_of}
-use Rattle.candidate_cover.specs.Drafts.{Drafted, is_news}
+use Rattle.least_sets.specs.Drafts.{Drafted, is_news}
 use Rattle.cover_steps.specs.Sound.{IsWitness}
 use Rattle.cover_steps.proofs.Lists.{AllPairs-Pairwise, Pairwise-AllPairs, Pairwise-append_one}
 use Rattle.cover_steps.specs.Evidences.{IsNews}

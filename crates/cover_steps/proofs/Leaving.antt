@@ -13,7 +13,7 @@ use Rattle.col_set.proofs.Least.{IsLeast-listed}
 use Rattle.candidate_cover.specs.declared.cand.Cand.{Cand}
 use Rattle.candidate_cover.specs.Lists.{CandLists}
 use Rattle.candidate_cover.specs.Cands.{cands_of, lefts}
-use Rattle.cover_steps.proofs.Exact.{least-same}
+use Rattle.col_set.proofs.Whole.{least-same}
 use Rattle.negative_cover.specs.Concerning.{is_open}
 
 -- ---- targets
@@ -53,7 +53,7 @@ none_lacks zs t e z h = by (has_target z t) (list_any-none (λ z. not (has_targe
 pub least-idle : (n : ℕ) (rest gone : List ℕ) (t : Target) → ((z : ℕ) → Listed z gone → has_target z t ≡ true) → least n (rest ++ gone) t ≡ least n rest t
 unfolding refuted
 least-idle n rest gone t f = sym (least-same n rest (rest ++ gone) t
-    (λ x e. let w = list_any_which (λ w. subset x w && not (has_target w t)) rest e in list_any_at (λ w. subset x w && not (has_target w t)) w.0 (rest ++ gone) (Listed-append_left w.0 rest gone w.1) w.2)
+    (λ x b e. let w = list_any_which (λ w. subset x w && not (has_target w t)) rest e in list_any_at (λ w. subset x w && not (has_target w t)) w.0 (rest ++ gone) (Listed-append_left w.0 rest gone w.1) w.2)
     (λ x h. false_from_ne_true _ (λ e. let w = list_any_which (λ w. subset x w && not (has_target w t)) (rest ++ gone) e in by x h w.0 w.2 (Listed-append_cases w.0 rest gone w.1))))
   where
     by : (x : ℕ) → Listed x (least n rest t) → (w : ℕ) → (subset x w && not (has_target w t)) ≡ true → Listed w rest ⊎ Listed w gone → ⊥

@@ -19,7 +19,7 @@ use Rattle.candidate_cover.specs.Lists.{CandLists}
 use Rattle.candidate_cover.specs.Cands.{cands_of, lefts, fresh, kept_or_fresh}
 use Rattle.cover_steps.specs.Core.{renewed_list}
 use Rattle.cover_steps.proofs.Lists.{map_map, map_same_listed}
-use Rattle.cover_steps.proofs.Exact.{least-same}
+use Rattle.col_set.proofs.Whole.{least-same}
 
 -- ---- a list of its own left sides
 -- of candidates with different left sides, each is found by its own
@@ -54,7 +54,7 @@ renewed_list-same n ws c t e = ap (map (kept_or_fresh (cands_of c t))) (sym e) �
 least-unconcerned : (n : ℕ) (ws : List ℕ) (t : Target) (z : ℕ) → ((x : ℕ) → Listed x (least n ws t) → (subset x z && not (has_target z t)) ≡ false) → least n ws t ≡ least n (ws ++ z ∷ []) t
 unfolding refuted
 least-unconcerned n ws t z f = least-same n ws (ws ++ z ∷ []) t
-    (λ x e. let w = list_any_which (λ w. subset x w && not (has_target w t)) ws e in list_any_at (λ w. subset x w && not (has_target w t)) w.0 (ws ++ z ∷ []) (Listed-append_left w.0 ws (z ∷ []) w.1) w.2)
+    (λ x b e. let w = list_any_which (λ w. subset x w && not (has_target w t)) ws e in list_any_at (λ w. subset x w && not (has_target w t)) w.0 (ws ++ z ∷ []) (Listed-append_left w.0 ws (z ∷ []) w.1) w.2)
     (λ x h. false_from_ne_true _ (λ e. let w = list_any_which (λ w. subset x w && not (has_target w t)) (ws ++ z ∷ []) e in by x h w.0 w.2 (Listed-append_cases w.0 ws (z ∷ []) w.1)))
   where
     by : (x : ℕ) → Listed x (least n ws t) → (w : ℕ) → (subset x w && not (has_target w t)) ≡ true → Listed w ws ⊎ Listed w (z ∷ []) → ⊥

@@ -5,7 +5,7 @@ use Rattle.rel_base.specs.RowState.{RowState, width}
 use Rattle.rel_base.specs.Validity.{agree_of}
 use Rattle.negative_cover.specs.declared.negative_cover.Witness.{Witness}
 use Rattle.negative_cover.specs.Witnesses.{sets_of}
-use Rattle.candidate_cover.specs.Drafts.{Drafted, is_news}
+use Rattle.least_sets.specs.Drafts.{Drafted, is_news}
 use Rattle.cover_steps.specs.Core.{Core}
 use Rattle.cover_steps.specs.Sound.{IsWitness}
 use Rattle.negative_cover.specs.declared.negative_cover.Witness.{Witness as Evidence}

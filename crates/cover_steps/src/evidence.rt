@@ -3,13 +3,14 @@
 ghost use Rattle.std.specs.Prelude.{◌≡◌, ◌<◌, ℕ, List, false, OnOk, IfOk, IfSome};
 ghost use Rattle.std.specs.List.{All};
 ghost use Rattle.rel_base.specs.RowState.{RowState};
-ghost use Rattle.candidate_cover.specs.Cands.{width};
-ghost use Rattle.candidate_cover.specs.Drafts.{AreLeast, is_news};
+ghost use Rattle.candidate_cover.specs.Cands.{width, AreLeast};
+ghost use Rattle.least_sets.specs.Drafts.{is_news};
 ghost use Rattle.negative_cover.specs.Witnesses.{sets_of};
 ghost use Rattle.negative_cover.specs.declared.negative_cover.Witness.{Witness};
 ghost use Rattle.cover_steps.specs.Evidences.{IsEvidence, IsNews};
 
-use candidate_cover::{CandidateCover, Draft};
+use candidate_cover::CandidateCover;
+use least_sets::Draft;
 use negative_cover::{NegativeCover, Witness};
 use std::alloc::{AllocError, Global};
 

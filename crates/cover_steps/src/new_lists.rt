@@ -5,15 +5,15 @@ ghost use Rattle.std.specs.List.{All, AllZip, list_any};
 ghost use Rattle.col_set.specs.ColSet.{Columns};
 ghost use Rattle.col_set.specs.Target.{IsColumnTarget, has_target};
 ghost use Rattle.col_set.specs.Evidence.{least};
-ghost use Rattle.candidate_cover.specs.Cands.{cands_of, lefts, width};
+ghost use Rattle.candidate_cover.specs.Cands.{cands_of, lefts, width, AreLeast};
 ghost use Rattle.cover_steps.specs.Core.{renewed, targets};
-ghost use Rattle.candidate_cover.specs.Drafts.{AreLeast};
 ghost use Rattle.negative_cover.specs.Concerning.{concerns, is_open, AreConcerned};
 ghost use Rattle.cover_steps.specs.NewLists.{IsNewList, AreNewLists, IsLeftBy, IsPlaced};
 ghost use Rattle.candidate_cover.specs.Lists.{CandLists};
 ghost use denote.Param.Send.{IsSync};
 
-use candidate_cover::{CandidateCover, Draft, NewList, OldList};
+use candidate_cover::{CandidateCover, NewList, OldList};
+use least_sets::Draft;
 use negative_cover::Concerned;
 use rel_base::{ColSet, MOST_COLUMNS, Steps, Target};
 use std::alloc::{AllocError, Global};

@@ -2,10 +2,12 @@
 ghost use Rattle.std.specs.Prelude.{◌≡◌};
 ghost use Rattle.depprof.specs.Faults.{StandsAt};
 
-use crate::streams::write_some;
+use crate::causes::{Call, Cause};
+use crate::streams::{read_some, write_some};
+use end_notes::{Hint, Sample};
 use ports::{Closing, Creating, Opening, Reading, Shelf, Writing};
 use rel_base::Name;
-use std::io::Read;
+use std::alloc::Global;
 use std::rt::Files;
 use std::{fs, mem};
 
@@ -28,9 +30,13 @@ pub struct FileShelf<'r, R: Files> {
     read_last: Option<Name>,
     write_faults: u64,
     write_last: Option<Name>,
+    // For people alone: why a call failed, and what the files look like.
+    cause: Option<Cause>,
+    sample: Sample,
+    hints: Vec<(Name, Hint)>,
 }
 
-impl<'r, R: Files> FileShelf<'r, R> {
+impl<'r, R: Files + Alloc<A = Global>> FileShelf<'r, R> {
     ghost use Rattle.ports.specs.Files.{Nothing};
     ghost use Rattle.depprof.specs.Held.{access_of};
 
@@ -46,11 +52,52 @@ impl<'r, R: Files> FileShelf<'r, R> {
             read_last: None,
             write_faults: 0,
             write_last: None,
+            cause: None,
+            sample: Sample::new(),
+            hints: Vec::new(rt.alloc()),
+        }
+    }
+
+    /// Why the last call that failed did.
+    pub fn cause(&self) -> Option<&Cause> {
+        self.cause.as_ref()
+    }
+
+    /// The last file on which a call that writes failed.
+    pub fn written(&self) -> &str {
+        match &self.write_last {
+            Some(name) => name.as_str(),
+            None => "a file",
+        }
+    }
+
+    /// What the files that were read to their ends look like, where they may be meant otherwise.
+    pub fn hints(&self) -> &[(Name, Hint)] {
+        self.hints.as_slice()
+    }
+
+    // Keeps what the file looks like that was read to its end. Where memory is lacking, that is left out.
+    fn note_hint(&mut self)
+        ensures held { self.new.held ≡ self.old.held }
+        ensures opens { self.new.opens ≡ self.old.opens }
+        ensures read_faults { self.new.read_faults ≡ self.old.read_faults }
+        ensures read_last { self.new.read_last ≡ self.old.read_last }
+        ensures write_faults { self.new.write_faults ≡ self.old.write_faults }
+        ensures write_last { self.new.write_last ≡ self.old.write_last }
+    {
+        let Held::ForReading { name, .. } = &self.held else {
+            return;
+        };
+        let Some(hint) = self.sample.hint() else {
+            return;
+        };
+        if let Ok(name) = String::from_str(self.rt.alloc(), name.as_str()) {
+            let _kept = self.hints.push((Name::of(name), hint));
         }
     }
 }
 
-impl<R: Files> Shelf for FileShelf<'_, R> {
+impl<R: Files + Alloc<A = Global>> Shelf for FileShelf<'_, R> {
     ghost use Rattle.std.specs.Prelude.{None};
     ghost use Rattle.depprof.specs.Held.{access_of, read_last_of, write_last_of};
 
@@ -59,6 +106,8 @@ impl<R: Files> Shelf for FileShelf<'_, R> {
     ghost opened = { λ s. access_of s.held };
 
     ghost opens = { λ s. s.opens };
+
+    ghost taken = { λ _. 0 };
 
     ghost read_faults = { λ s. s.read_faults };
 
@@ -70,6 +119,7 @@ impl<R: Files> Shelf for FileShelf<'_, R> {
 
     fn open(&mut self, name: Name) -> Opening {
         self.opens = self.opens.saturating_add(1);
+        self.sample = Sample::new();
         match fs::open(self.rt, name.as_str()) {
             Ok(file) => {
                 self.held = Held::ForReading {
@@ -79,7 +129,11 @@ impl<R: Files> Shelf for FileShelf<'_, R> {
                 };
                 Opening::Opened
             }
-            Err(_) => {
+            Err(error) => {
+                self.cause = Some(Cause {
+                    call: Call::Open,
+                    error,
+                });
                 self.read_faults = self.read_faults.saturating_add(1);
                 self.read_last = Some(name);
                 Opening::Failed
@@ -91,15 +145,16 @@ impl<R: Files> Shelf for FileShelf<'_, R> {
         let Held::ForReading { file, failed, .. } = &mut self.held else {
             unreachable!()
         };
-        match file.read(buffer) {
-            Ok(0) => Reading::End,
-            Ok(count) => Reading::Got(count),
-            Err(_) => {
+        let answer = read_some(file, buffer, &mut self.cause);
+        match answer {
+            Reading::Got(count) => self.sample.note(buffer.get(..count).unwrap_or(&[])),
+            Reading::End => self.note_hint(),
+            Reading::Failed => {
                 *failed = true;
                 self.read_faults = self.read_faults.saturating_add(1);
-                Reading::Failed
             }
         }
+        answer
     }
 
     fn create(&mut self, name: Name) -> Creating {
@@ -112,7 +167,11 @@ impl<R: Files> Shelf for FileShelf<'_, R> {
                 };
                 Creating::Created
             }
-            Err(_) => {
+            Err(error) => {
+                self.cause = Some(Cause {
+                    call: Call::Create,
+                    error,
+                });
                 self.write_faults = self.write_faults.saturating_add(1);
                 self.write_last = Some(name);
                 Creating::Failed
@@ -125,8 +184,12 @@ impl<R: Files> Shelf for FileShelf<'_, R> {
             unreachable!()
         };
         match write_some(file, piece) {
-            Some(count) => Writing::Took(count),
-            None => {
+            Ok(count) => Writing::Took(count),
+            Err(error) => {
+                self.cause = Some(Cause {
+                    call: Call::Write,
+                    error,
+                });
                 *failed = true;
                 self.write_faults = self.write_faults.saturating_add(1);
                 Writing::Failed

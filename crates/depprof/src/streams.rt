@@ -1,6 +1,8 @@
 // The standard streams. They tell no content.
-ghost use Rattle.std.specs.Prelude.{◌<◌, ◌≤◌, None, length, IfSome};
+ghost use Rattle.std.specs.Prelude.{◌<◌, ◌≤◌, None, length, IfOk};
+ghost use Rattle.ports.specs.Answers.{ReadMoves};
 
+use crate::causes::{Call, Cause};
 use ports::{Reading, Sink, Source, Writing};
 use std::io;
 use std::io::{Read, Write};
@@ -10,6 +12,7 @@ use std::io::{Read, Write};
 pub struct StandardIn<I: Input> {
     reader: I::Reader,
     faults: u64,
+    cause: Option<Cause>,
 }
 
 impl<I: Input> StandardIn<I> {
@@ -18,6 +21,33 @@ impl<I: Input> StandardIn<I> {
         StandardIn {
             reader: rt.reader(),
             faults: 0,
+            cause: None,
+        }
+    }
+
+    /// Why the last call that failed did.
+    pub fn cause(&self) -> Option<&Cause> {
+        self.cause.as_ref()
+    }
+}
+
+// Reads some first bytes of those that are left: how many came, that there are none, or that the call failed, and then why.
+pub(crate) fn read_some<R: Read>(
+    reader: &mut R,
+    buffer: &mut [u8],
+    cause: &mut Option<Cause>,
+) -> Reading
+    ensures { ReadMoves result buffer.new None None }
+{
+    match reader.read(buffer) {
+        Ok(0) => Reading::End,
+        Ok(count) => Reading::Got(count),
+        Err(error) => {
+            *cause = Some(Cause {
+                call: Call::Read,
+                error,
+            });
+            Reading::Failed
         }
     }
 }
@@ -28,14 +58,11 @@ impl<I: Input> Source for StandardIn<I> {
     ghost faults = { λ s. s.faults };
 
     fn read(&mut self, buffer: &mut [u8]) -> Reading {
-        match self.reader.read(buffer) {
-            Ok(0) => Reading::End,
-            Ok(count) => Reading::Got(count),
-            Err(_) => {
-                self.faults = self.faults.saturating_add(1);
-                Reading::Failed
-            }
+        let answer = read_some(&mut self.reader, buffer, &mut self.cause);
+        if answer == Reading::Failed {
+            self.faults = self.faults.saturating_add(1);
         }
+        answer
     }
 }
 
@@ -44,23 +71,37 @@ impl<I: Input> Source for StandardIn<I> {
 pub struct StandardOut<'r, P> {
     rt: &'r P,
     faults: u64,
+    cause: Option<Cause>,
 }
 
 impl<'r, P: Print> StandardOut<'r, P> {
     /// Standard output, with no fault counted.
     pub fn new(rt: &'r P) -> StandardOut<'r, P> {
-        StandardOut { rt, faults: 0 }
+        StandardOut {
+            rt,
+            faults: 0,
+            cause: None,
+        }
+    }
+
+    /// Why the last call that failed did.
+    pub fn cause(&self) -> Option<&Cause> {
+        self.cause.as_ref()
     }
 }
 
-// Writes some first bytes and flushes them in the same call, so that a failure to hand them on is told here: how many went, or `None` where either
+// Writes some first bytes and flushes them in the same call, so that a failure to hand them on is told here: how many went, or why either
 // failed or none were taken.
-pub(crate) fn write_some<W: Write>(writer: &mut W, piece: &[u8]) -> Option<usize>
-    ensures { IfSome result (λ count. (0 < count) × (count ≤ length piece.now)) }
+pub(crate) fn write_some<W: Write>(writer: &mut W, piece: &[u8]) -> io::Result<usize>
+    ensures { IfOk result (λ count. (0 < count) × (count ≤ length piece.now)) }
 {
-    let count = writer.write(piece).ok()?;
-    writer.flush().ok()?;
-    if count == 0 { None } else { Some(count) }
+    let count = writer.write(piece)?;
+    writer.flush()?;
+    if count == 0 {
+        Err(io::Error::from(io::ErrorKind::WriteZero))
+    } else {
+        Ok(count)
+    }
 }
 
 impl<P: Print> Sink for StandardOut<'_, P> {
@@ -72,9 +113,13 @@ impl<P: Print> Sink for StandardOut<'_, P> {
 
     fn write(&mut self, piece: &[u8]) -> Writing {
         match write_some(&mut io::writer(self.rt), piece) {
-            Some(count) => Writing::Took(count),
-            None => {
+            Ok(count) => Writing::Took(count),
+            Err(error) => {
                 self.faults = self.faults.saturating_add(1);
+                self.cause = Some(Cause {
+                    call: Call::Write,
+                    error,
+                });
                 Writing::Failed
             }
         }

@@ -1,15 +1,19 @@
 use crate::file_shelf::FileShelf;
+use crate::help::{Help, help_asked};
+use crate::program::ended;
 use crate::progress::Progress;
-use crate::streams::{StandardIn, StandardOut, write_some};
+use crate::streams::{StandardIn, StandardOut, read_some, write_some};
 use crate::words::{WordsFault, end_without};
+use cli_words::usage_line;
 use ports::{
     Closing, Creating, Gate, Loading, OpenGate, Point, Reading, Shelf, Sink, Source, Storing,
     SureSink, Writing, load_file, store_file,
 };
-use profile_cli::{Outcome, run, usage_line};
-use rel_base::{Limits, Name};
+use profile_cli::Outcome;
+use rel_base::Name;
+use std::alloc::{AllocError, Global};
 use std::fmt::Display;
-use std::io::Write;
+use std::io::{Read, Write};
 use std::rt::Clock;
 use std::sync::atomic::{AtomicU64, Ordering};
 use std::test::Fail;
@@ -59,18 +63,45 @@ fn an_absent_file_is_a_read_fault(rt: HostRuntime) -> Result<(), Fail> {
     let mut shelf = FileShelf::new(&rt);
     let mut input = StandardIn::new(&rt);
     let mut out = SureSink::with_room(alloc, 100)?;
-    let outcome = run(
+    let outcome = ended(
         &rt,
         alloc,
-        words,
+        Ok(words),
         &mut shelf,
         &mut input,
         &mut out,
         &OpenGate,
-        Limits::standard(),
     );
     assert!(rt; outcome.status() == 4);
     assert!(rt; out.bytes() == b"fault,read,no-such-folder/absent.csv\n".as_slice());
+    Ok(())
+}
+
+// What two words ask for besides a run.
+fn asked_by(alloc: Global, first: &str, second: &str) -> Result<Option<Help>, AllocError> {
+    let mut words = Vec::new(alloc);
+    words.push(String::from_str(alloc, "depprof")?)?;
+    words.push(String::from_str(alloc, first)?)?;
+    words.push(String::from_str(alloc, second)?)?;
+    Ok(help_asked(words.as_slice()))
+}
+
+// Whether they ask for a page that begins so.
+fn asks_for(alloc: Global, first: &str, second: &str, start: &str) -> Result<bool, AllocError> {
+    Ok(match asked_by(alloc, first, second)? {
+        Some(Help::Page(page)) => page.starts_with(start),
+        _ => false,
+    })
+}
+
+#[test]
+fn words_that_ask_for_help(rt: HostRuntime) -> Result<(), Fail> {
+    let alloc = rt.alloc();
+    assert!(rt; asks_for(alloc, "profile", "--help", "depprof profile ")?);
+    assert!(rt; asks_for(alloc, "help", "approx", "depprof approx ")?);
+    assert!(rt; asks_for(alloc, "-h", "x", "depprof finds ")?);
+    assert!(rt; asked_by(alloc, "--version", "")? == Some(Help::Version));
+    assert!(rt; asked_by(alloc, "profile", "r.csv")? == None);
     Ok(())
 }
 
@@ -123,9 +154,34 @@ impl Write for Unflushed {
     }
 }
 
+// A reader and a writer of which each call fails.
+#[derive(Drop)]
+struct Broken;
+
+impl Read for Broken {
+    fn read(&mut self, _buffer: &mut [u8]) -> io::Result<usize> {
+        Err(io::Error::from(io::ErrorKind::Other))
+    }
+}
+
+impl Write for Broken {
+    fn write(&mut self, _bytes: &[u8]) -> io::Result<usize> {
+        Err(io::Error::from(io::ErrorKind::Other))
+    }
+
+    fn flush(&mut self) -> io::Result<()> {
+        Ok(())
+    }
+}
+
 #[test]
-fn a_failed_flush_is_a_failed_write(rt: HostRuntime) {
-    assert!(rt; write_some(&mut Unflushed, b"a line").is_none());
+fn a_failed_call_is_told(rt: HostRuntime) {
+    let mut buffer = [0u8; 4];
+    let mut cause = None;
+    assert!(rt; read_some(&mut Broken, &mut buffer, &mut cause) == Reading::Failed);
+    assert!(rt; cause.is_some());
+    assert!(rt; write_some(&mut Broken, b"a line").is_err());
+    assert!(rt; write_some(&mut Unflushed, b"a line").is_err());
 }
 
 // A clock whose every reading is a second after the one before it, or that fails, and a standard error that counts lines, or fails.

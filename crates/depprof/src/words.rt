@@ -3,10 +3,11 @@ ghost use Rattle.std.specs.Prelude.{◌≡◌};
 ghost use Rattle.depprof.specs.Words.{end_of};
 ghost use Rattle.profile_cli.specs.Ends.{IsPut};
 ghost use Rattle.profile_cli.specs.Outcomes.{OnNoMemory, OnUsage};
-ghost use Rattle.profile_cli.specs.Usage.{usage_text};
+ghost use Rattle.cli_words.specs.Usage.{usage_text};
 
+use cli_words::usage_line;
 use ports::{Sink, put_all};
-use profile_cli::{Outcome, usage_line};
+use profile_cli::Outcome;
 use std::alloc::{AllocError, Global};
 use std::rt::Env;
 use std::{env, io};

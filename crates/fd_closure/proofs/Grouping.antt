@@ -11,8 +11,8 @@ use Rattle.col_set.specs.Subsets.{IsSubset-refl, subset-true, true-subset}
 use Rattle.col_set.proofs.Places.{Contains-listed, Listed-get_or}
 use Rattle.std.specs.FinSet.{nat_cmp-IsAntisymmetric}
 use Rattle.rel_base.specs.declared.dependency.Fd.{Fd}
-use Rattle.rel_base.specs.Laws.{fd_cmp}
-use Rattle.fd_closure.specs.Closure.{has_left_inside, IsInOrder, is_before, is_short}
+use Rattle.rel_base.specs.Covers.{fd_cmp, IsInOrder}
+use Rattle.fd_closure.specs.Closure.{has_left_inside, is_before, is_short}
 use Rattle.fd_closure.proofs.Sizes.{size-le, size-in_order, nat_cmp-gt}
 
 -- ---- two in order

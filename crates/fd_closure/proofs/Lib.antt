@@ -1,6 +1,5 @@
 pub mod Determined
 pub mod Closing
-pub mod Order
 pub mod Shrinking
 pub mod Telling
 pub mod Sizes
@@ -8,3 +7,4 @@ pub mod Grouping
 pub mod Reaching
 pub mod Siding
 pub mod Filing
+pub mod Walking

@@ -11,8 +11,8 @@ use Rattle.col_set.proofs.EachColumn.{Listed-columns, first-Some, first-None}
 use Rattle.col_set.proofs.Places.{Listed-get_or}
 use Rattle.rel_base.specs.declared.dependency.Fd.{Fd}
 use Rattle.rel_base.proofs.States.{All-listed}
-use Rattle.rel_base.specs.Laws.{fd_cmp}
-use Rattle.fd_closure.specs.Closure.{closure_of, has_left_inside, IsInOrder}
+use Rattle.rel_base.specs.Covers.{fd_cmp, IsInOrder}
+use Rattle.fd_closure.specs.Closure.{closure_of, has_left_inside}
 use Rattle.fd_closure.proofs.Closing.{has-closure_of}
 use Rattle.fd_closure.proofs.Grouping.{inside-some, fd_equal}
 
@@ -63,13 +63,13 @@ module _ (fds : List Fd) (x : Columns) where
   pub record Reaching (reached rest : Columns) : Type 0 where
     pub own : IsSubset x reached
     pub only : IsSubset reached (closure_of fds x)
-    pub every : IsInOrder fds → (k : ℕ) → has (closure_of fds x) k ≡ true → (has reached k ≡ true) ⊎ (has rest k ≡ true)
+    pub every : (k : ℕ) → has (closure_of fds x) k ≡ true → (has reached k ≡ true) ⊎ (has rest k ≡ true)
 
-  pub reaching-none : (rest : ℕ) → rest ≡ minus (all 128) x → Reaching x rest
-  reaching-none rest e = record {
+  pub reaching-none : (rest : ℕ) → IsInOrder fds → rest ≡ minus (all 128) x → Reaching x rest
+  reaching-none rest order e = record {
     own = IsSubset-refl x;
     only = record { each = closure_has-own };
-    every = λ order k h. elim (cases_Bool (has x k)) as (λ _. (has x k ≡ true) ⊎ (has rest k ≡ true)) [
+    every = λ k h. elim (cases_Bool (has x k)) as (λ _. (has x k ≡ true) ⊎ (has rest k ≡ true)) [
       | inl g ↦ inl g
       | inr g ↦ elim (closure-cases k h) as (λ _. (has x k ≡ true) ⊎ (has rest k ≡ true)) [
         | inl own ↦ inl own
@@ -82,7 +82,7 @@ module _ (fds : List Fd) (x : Columns) where
   reaching-more reached rest more less c p e i h = record {
     own = record { each = λ k g. kept k (p.own.each k g) };
     only = subst (λ (z : ℕ). IsSubset z (closure_of fds x)) (sym e) (with_subset c p.only (closure_has-left c h));
-    every = λ order k g. next k (p.every order k g);
+    every = λ k g. next k (p.every k g);
   }
     where
       kept : (k : ℕ) → has reached k ≡ true → has more k ≡ true
@@ -95,25 +95,25 @@ module _ (fds : List Fd) (x : Columns) where
       next k (inl g) = inl (kept k g)
       next k (inr g) = elim (rest_cases rest less c k i g) as (λ _. (has more k ≡ true) ⊎ (has less k ≡ true)) [ inl same ↦ inl (taken k same) | inr other ↦ inr other ]
 
-  pub reaching-not : (reached rest less c : ℕ) → Reaching reached rest → less ≡ without rest c → (IsInOrder fds → has_left_inside fds x c ≡ false) → Reaching reached less
+  pub reaching-not : (reached rest less c : ℕ) → Reaching reached rest → less ≡ without rest c → has_left_inside fds x c ≡ false → Reaching reached less
   reaching-not reached rest less c p i h = record {
     own = p.own;
     only = p.only;
-    every = λ order k g. next order k g (p.every order k g);
+    every = λ k g. next k g (p.every k g);
   }
     where
-      next : IsInOrder fds → (k : ℕ) → has (closure_of fds x) k ≡ true → (has reached k ≡ true) ⊎ (has rest k ≡ true) → (has reached k ≡ true) ⊎ (has less k ≡ true)
-      next order k g (inl e) = inl e
-      next order k g (inr e) = elim (rest_cases rest less c k i e) as (λ _. (has reached k ≡ true) ⊎ (has less k ≡ true)) [
+      next : (k : ℕ) → has (closure_of fds x) k ≡ true → (has reached k ≡ true) ⊎ (has rest k ≡ true) → (has reached k ≡ true) ⊎ (has less k ≡ true)
+      next k g (inl e) = inl e
+      next k g (inr e) = elim (rest_cases rest less c k i e) as (λ _. (has reached k ≡ true) ⊎ (has less k ≡ true)) [
         | inl same ↦ elim (closure-cases k g) as (λ _. (has reached k ≡ true) ⊎ (has less k ≡ true)) [
           | inl own ↦ inl (p.own.each k own)
-          | inr left ↦ absurd (true≢false (sym left ∙ ap (has_left_inside fds x) same ∙ h order))
+          | inr left ↦ absurd (true≢false (sym left ∙ ap (has_left_inside fds x) same ∙ h))
         ]
         | inr other ↦ inr other
       ]
 
-  pub reaching-end : (reached rest : ℕ) → Reaching reached rest → None ≡ first rest → IsInOrder fds → reached ≡ closure_of fds x
-  reaching-end reached rest p e order = IsSubset-antisymm p.only (record { each = λ k h. last k (p.every order k h) })
+  pub reaching-end : (reached rest : ℕ) → Reaching reached rest → None ≡ first rest → reached ≡ closure_of fds x
+  reaching-end reached rest p e = IsSubset-antisymm p.only (record { each = λ k h. last k (p.every k h) })
     where
       last : (k : ℕ) → (has reached k ≡ true) ⊎ (has rest k ≡ true) → has reached k ≡ true
       last k (inl h) = h
@@ -163,9 +163,5 @@ module _ (fds : List Fd) (x : Columns) where
       missed i (inr g) = true≢false (sym g ∙ h)
 
 -- ---- what the call for one column tells of equal lists
-module _ (fds gs : List Fd) (same : gs ≡ fds) (x column : ℕ) (answer : Bool) where
-  pub told-inside : (answer ≡ true → has_left_inside gs x column ≡ true) → answer ≡ true → has_left_inside fds x column ≡ true
-  told-inside h t = ap (λ (f : List Fd). has_left_inside f x column) (sym same) ∙ h t
-
-  pub told-none : (IsInOrder gs → answer ≡ has_left_inside gs x column) → answer ≡ false → IsInOrder fds → has_left_inside fds x column ≡ false
-  told-none h t order = ap (λ (f : List Fd). has_left_inside f x column) (sym same) ∙ sym (h (subst IsInOrder (sym same) order)) ∙ t
+pub told : (fds gs : List Fd) (x column : ℕ) (answer b : Bool) → gs ≡ fds → answer ≡ has_left_inside gs x column → answer ≡ b → has_left_inside fds x column ≡ b
+told fds gs x column answer b same h t = ap (λ (f : List Fd). has_left_inside f x column) (sym same) ∙ sym h ∙ t

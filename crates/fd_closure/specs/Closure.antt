@@ -1,11 +1,8 @@
 -- The closure of a column set under listed dependencies, in one pass.
-use Rattle.std.specs.Prelude.{◌≡◌, ◌<◌, ℕ, ◌==◌, nat_lt, nat_le, Bool, ◌&&◌, ◌||◌, List, map}
-use Rattle.std.specs.List.{filter, list_any, All, AllPairs}
-use Rattle.std.specs.declared.cmp.Ordering.TheVariants.{Less}
+use Rattle.std.specs.Prelude.{◌≡◌, ℕ, ◌==◌, nat_lt, nat_le, Bool, ◌&&◌, ◌||◌, List, map}
+use Rattle.std.specs.List.{filter, list_any}
 use Rattle.col_set.specs.ColSet.{Columns, has, subset, size, union, set_of}
-use Rattle.col_set.specs.declared.col_set.TheConstants.{MOST_COLUMNS}
 use Rattle.rel_base.specs.declared.dependency.Fd.{Fd}
-use Rattle.rel_base.specs.Laws.{fd_cmp}
 
 -- X, and each column that has a listed left side inside X
 unfoldable pub closure_of : List Fd → Columns → Columns
@@ -14,11 +11,6 @@ closure_of fds x = union x (set_of (map (λ fd. fd.right) (filter (λ fd. subset
 -- whether a column has a listed left side inside X
 unfoldable pub has_left_inside : List Fd → Columns → ℕ → Bool
 has_left_inside fds x a = list_any (λ fd. (fd.right == a) && subset fd.left x) fds
-
--- dependencies on columns, by right column, then by left side in report order, each once
-pub record IsInOrder (fds : List Fd) : Type 0 where
-  pub rising : AllPairs (λ one other. fd_cmp one other ≡ Less) fds
-  pub narrow : All (λ fd. fd.right < MOST_COLUMNS) fds
 
 -- whether a dependency stands before those of a column
 abbrev pub is_before : ℕ → Fd → Bool

@@ -1,5 +1,6 @@
 pub mod Determined
 pub mod Closure
+pub mod Under
 pub mod Blocks
 pub mod Keys
 pub mod Laws

@@ -3,58 +3,53 @@ ghost use Rattle.std.specs.Prelude.{◌≡◌, ◌<◌, ◌≤◌, ◌==◌, ◌
 ghost use Rattle.std.specs.List.Sorted.{IsPartitionPoint};
 ghost use Rattle.col_set.specs.ColSet.{subset};
 ghost use Rattle.fd_closure.specs.Closure as words;
-ghost use Rattle.rel_base.specs.Laws.{fd_cmp};
-ghost use Rattle.fd_closure.specs.Closure.{IsInOrder, is_before, is_short};
+ghost use Rattle.rel_base.specs.Covers.{IsInOrder};
+ghost use Rattle.fd_closure.specs.Closure.{is_before, is_short};
 
 use rel_base::{ColSet, Fd};
-use std::cmp::Ordering;
 
 // Whether a left side of the column is listed inside x.
 pub(crate) fn has_left_inside(fds: &[Fd], x: ColSet, column: u8) -> bool
-    ensures only { IsTrue result → words.has_left_inside fds.now x column ≡ true }
-    ensures every { IsInOrder fds.now → result ≡ words.has_left_inside fds.now x column }
+    requires { IsInOrder fds.now }
+    ensures { result ≡ words.has_left_inside fds.now x column }
 {
     // Most sets that determine a column are themselves a left side of it.
     is_left_side(fds, x, column) || has_short_left_inside(fds, x, column)
-}
-
-// How a dependency stands to that of x on the column.
-fn order_of(fd: &Fd, x: ColSet, column: u8) -> Ordering
-    ensures { result ≡ fd_cmp fd.now (record { left = x; right = column }) }
-{
-    match fd.right.cmp(&column) {
-        Ordering::Equal => fd.left.cmp_report(x),
-        other => other,
-    }
 }
 
 // Whether x itself is a left side of the column.
 fn is_left_side(fds: &[Fd], x: ColSet, column: u8) -> bool
     ensures { IsTrue result → words.has_left_inside fds.now x column ≡ true }
 {
-    fds.binary_search_by(|fd| order_of(fd, x, column)).is_ok()
+    let wanted = Fd {
+        left: x,
+        right: column,
+    };
+    fds.binary_search_by(|fd| fd.cmp_report(wanted)).is_ok()
 }
 
 // Where the dependencies of the column begin.
 fn start_of(fds: &[Fd], column: u8) -> usize
+    requires { IsInOrder fds.now }
     ensures bound { result ≤ length fds.now }
-    ensures place { IsInOrder fds.now → IsPartitionPoint (λ fd. is_before column fd ≡ true) (λ fd. is_before column fd ≡ false) fds.now result }
+    ensures place { IsPartitionPoint (λ fd. is_before column fd ≡ true) (λ fd. is_before column fd ≡ false) fds.now result }
 {
     fds.partition_point(|fd| fd.right < column)
 }
 
 // Where those of the column end that have at most so many columns on the left.
 fn end_of(fds: &[Fd], column: u8, size: u32) -> usize
+    requires { IsInOrder fds.now }
     ensures bound { result ≤ length fds.now }
-    ensures place { IsInOrder fds.now → IsPartitionPoint (λ fd. is_short column size fd ≡ true) (λ fd. is_short column size fd ≡ false) fds.now result }
+    ensures place { IsPartitionPoint (λ fd. is_short column size fd ≡ true) (λ fd. is_short column size fd ≡ false) fds.now result }
 {
     fds.partition_point(|fd| fd.right < column || fd.right == column && fd.left.len() <= size)
 }
 
 // Whether a left side of the column lies inside x, by a walk over those of at most as many columns as x has.
 fn has_short_left_inside(fds: &[Fd], x: ColSet, column: u8) -> bool
-    ensures only { IsTrue result → words.has_left_inside fds.now x column ≡ true }
-    ensures every { IsInOrder fds.now → result ≡ words.has_left_inside fds.now x column }
+    requires { IsInOrder fds.now }
+    ensures { result ≡ words.has_left_inside fds.now x column }
 {
     let start = start_of(fds, column);
     let end = end_of(fds, column, x.len());

@@ -3,7 +3,7 @@ ghost use Rattle.std.specs.Prelude.{◌≡◌, ◌-◌, ℕ, IfOk};
 ghost use Rattle.col_set.specs.ColSet.{IsSubset, subset};
 ghost use Rattle.rel_base.specs.declared.dependency.Fd as dependencies;
 ghost use Rattle.std.specs.Prelude.{List};
-ghost use Rattle.fd_closure.specs.Closure.{closure_of, IsInOrder, Tells};
+ghost use Rattle.fd_closure.specs.Closure.{closure_of, Tells};
 ghost use Rattle.fd_closure.specs.Blocks.{with_sides};
 ghost use Rattle.fd_closure.specs.Keys.{shrunk};
 
@@ -43,7 +43,7 @@ impl Model for LeftSides {
 impl LeftSides {
     /// The left sides of the covers. It sorts the dependencies, and takes two lists of them and the blocks.
     pub fn of(alloc: Global, covers: &Covers) -> Result<LeftSides, AllocError>
-        ensures { IfOk result (λ sides. IsInOrder covers.now.fds → Tells covers.now.fds sides) }
+        ensures { IfOk result (λ sides. Tells covers.now.fds sides) }
     {
         let sides = sides_of(alloc, covers)?;
         let blocks = blocks_of(alloc, sides.as_slice())?;

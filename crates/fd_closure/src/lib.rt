@@ -10,6 +10,8 @@ mod reach;
 mod sides;
 #[cfg(test)]
 mod tests;
+mod under;
 
 pub use left_sides::LeftSides;
 pub use reach::{closure, determines, shrink_key};
+pub use under::closure_under;

@@ -1,7 +1,7 @@
 // Closures of column sets.
-ghost use Rattle.std.specs.Prelude.{◌≡◌, ℕ, IsTrue};
+ghost use Rattle.std.specs.Prelude.{◌≡◌};
 ghost use Rattle.col_set.specs.ColSet.{IsSubset, subset};
-ghost use Rattle.fd_closure.specs.Closure.{closure_of, has_left_inside, IsInOrder};
+ghost use Rattle.fd_closure.specs.Closure.{closure_of};
 ghost use Rattle.fd_closure.specs.Keys.{shrunk};
 
 use crate::group::has_left_inside;
@@ -11,17 +11,17 @@ use rel_base::{ColSet, Covers, MOST_COLUMNS};
 ///
 /// This is one pass, since every dependency that holds has a minimal left side inside its own (the closure of Normalize,
 /// Papenbrock and Naumann, 2017). It takes no memory, and finds the dependencies of a column by halves: for each column outside x
-/// it looks at left sides of at most as many columns as x has, up to the first that lies inside x. Dependencies that don't stand in
-/// order, as those of a relation do, may be overlooked.
+/// it looks at left sides of at most as many columns as x has, up to the first that lies inside x. Of other lists of dependencies
+/// `closure_under` is the closure.
 pub fn closure(covers: &Covers, x: ColSet) -> ColSet
     ensures own { IsSubset x result }
-    ensures only { IsSubset result (closure_of covers.now.fds x) }
-    ensures every { IsInOrder covers.now.fds → result ≡ closure_of covers.now.fds x }
+    ensures value { result ≡ closure_of covers.now.fds x }
 {
+    let fds = covers.fds();
     let mut reached = x;
     let mut rest = ColSet::all(MOST_COLUMNS).minus(x);
     while let Some(column) = rest.first() {
-        if has_left_inside(covers.fds(), x, column) {
+        if has_left_inside(fds, x, column) {
             reached = reached.with(column);
         }
         rest = rest.without(column);
@@ -33,12 +33,12 @@ pub fn closure(covers: &Covers, x: ColSet) -> ColSet
 ///
 /// It stops at the first column that x does not determine, and else looks at what `closure` looks at for the columns of s.
 pub fn determines(covers: &Covers, x: ColSet, s: ColSet) -> bool
-    ensures only { IsTrue result → IsSubset s (closure_of covers.now.fds x) }
-    ensures every { IsInOrder covers.now.fds → result ≡ subset s (closure_of covers.now.fds x) }
+    ensures { result ≡ subset s (closure_of covers.now.fds x) }
 {
+    let fds = covers.fds();
     let mut rest = s.minus(x);
     while let Some(column) = rest.first() {
-        if !has_left_inside(covers.fds(), x, column) {
+        if !has_left_inside(fds, x, column) {
             return false;
         }
         rest = rest.without(column);
@@ -51,7 +51,7 @@ pub fn determines(covers: &Covers, x: ColSet, s: ColSet) -> bool
 /// It takes a call of `determines` for each column of s.
 pub fn shrink_key(covers: &Covers, s: ColSet) -> ColSet
     ensures inside { IsSubset result s }
-    ensures every { IsInOrder covers.now.fds → result ≡ shrunk (λ x. subset s (closure_of covers.now.fds x)) MOST_COLUMNS s }
+    ensures value { result ≡ shrunk (λ x. subset s (closure_of covers.now.fds x)) MOST_COLUMNS s }
 {
     let mut key = s;
     for column in (0..MOST_COLUMNS).rev() {

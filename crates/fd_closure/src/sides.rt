@@ -1,7 +1,7 @@
 // Left sides with the columns beside them, in the order of their paths.
 ghost use Rattle.std.specs.Prelude.{◌≡◌, ◌++◌, ◌∷◌, [], ℕ, IfOk, OnOk};
 ghost use Rattle.col_set.specs.ColSet.{Columns};
-ghost use Rattle.fd_closure.specs.Closure.{has_right_inside, IsInOrder, Tells};
+ghost use Rattle.fd_closure.specs.Closure.{has_right_inside, Tells};
 
 use rel_base::{ColSet, Covers, MOST_COLUMNS};
 use std::alloc::{AllocError, Global};
@@ -9,7 +9,7 @@ use std::cmp::Ordering;
 
 // The left sides of the covers, each once with all columns that it determines, in the order of their paths.
 pub(crate) fn sides_of(alloc: Global, covers: &Covers) -> Result<Vec<(ColSet, ColSet)>, AllocError>
-    ensures { IfOk result (λ sides. IsInOrder covers.now.fds → Tells covers.now.fds sides.items) }
+    ensures { IfOk result (λ sides. Tells covers.now.fds sides.items) }
 {
     let mut single = single_sides(alloc, covers)?;
     single.sort_unstable_by(|one, other| cmp_path(one.0, other.0));
@@ -18,7 +18,7 @@ pub(crate) fn sides_of(alloc: Global, covers: &Covers) -> Result<Vec<(ColSet, Co
 
 // A left side for each dependency.
 fn single_sides(alloc: Global, covers: &Covers) -> Result<Vec<(ColSet, ColSet)>, AllocError>
-    ensures { IfOk result (λ sides. IsInOrder covers.now.fds → Tells covers.now.fds sides.items) }
+    ensures { IfOk result (λ sides. Tells covers.now.fds sides.items) }
 {
     let mut sides = Vec::with_capacity(alloc, covers.fds().len())?;
     for fd in covers.fds() {

@@ -22,10 +22,11 @@ use Rattle.rel_base.specs.Validity.{determined}
 use Rattle.rel_base.proofs.Shown.{Listed-code_sets}
 use Rattle.rel_base.proofs.States.{All-listed, All-from}
 use Rattle.rel_base.proofs.Valid.{determined-from}
+use Rattle.stripped_partition.specs.AnyOrder.{AreGroupsBy}
 use Rattle.stripped_partition.specs.Stripped.{stripped, agree_on}
 use Rattle.stripped_partition.specs.SplitBy.{least, differ, is_split, split_pair, split_by}
 use Rattle.stripped_partition.proofs.Agreeing.{code_agree-parts, agree_on-subset}
-use Rattle.stripped_partition.proofs.Dependencies.{stripped-parts, together, held-split}
+use Rattle.stripped_partition.proofs.Dependencies.{stripped-parts, together, split_by-none, none-split_by, held-split}
 use Rattle.stripped_partition.proofs.Live.{live_within}
 use Rattle.key_finder.specs.Keys.{told_apart, keys_within}
 use Rattle.key_finder.specs.Rounds.{IsDisproof, IsNews, IsUnique, AreUnique, standing}
@@ -85,15 +86,19 @@ module _ (s : CodeTable) (x a : ℕ) where
         differ = λ i. true≢false (sym q.1 ∙ ap not (eq-eqb _ _ i));
       })
 
-  pub Split-split_by : (p : ℕ × ℕ) → split_by s a (stripped s x) ≡ Some p → Split p
+  pub Split-split_by : (groups : List (List ℕ)) (p : ℕ × ℕ) → AreGroupsBy s x groups → split_by s a groups ≡ Some p → Split p
   unfolding split_by
-  Split-split_by p e = by (find (is_split s a) (stripped s x)) refl e
+  Split-split_by groups p are e = by (find (is_split s a) groups) refl e
     where
-      by : (o : Option (List ℕ)) → find (is_split s a) (stripped s x) ≡ o → option_map (split_pair s a) o ≡ Some p → Split p
+      by : (o : Option (List ℕ)) → find (is_split s a) groups ≡ o → option_map (split_pair s a) o ≡ Some p → Split p
       by None i f = absurd (none-some p f)
       by (Some g) i f =
-          let q = find_passes (is_split s a) (stripped s x) g i in
-          subst Split (same_Some (split_pair s a g) p f) (Split-group g q.0 q.1)
+          let q = find_passes (is_split s a) groups g i in
+          subst Split (same_Some (split_pair s a g) p f) (Split-group g (are.only g q.0) q.1)
+
+  pub unsplit-holds : (groups : List (List ℕ)) → AreGroupsBy s x groups → a < length s.codes → split_by s a groups ≡ None → holds_in s x (Col a) ≡ true
+  unsplit-holds groups are l e =
+      held-split s x a l (none-split_by s x a (stripped s x) (λ g h i m. split_by-none s x a groups e g (are.kept g h) i m))
 
   pub Split-given : (p : ℕ × ℕ) → Split p → (p.0 < s.to) × (p.1 < s.to)
   Split-given p h = ((live_within s p.0 h.first).1, (live_within s p.1 h.second).1)
@@ -141,16 +146,16 @@ module _ (s : CodeTable) (columns x : ℕ) where
       fewer : IsSubset rest columns
       fewer = record { each = λ k h. u.rest.each k (and_parts (has left k) (not (eqb k column)) (sym (has-without left column k) ∙ ap (λ (z : ℕ). has z k) (sym r) ∙ h)).0 }
 
-      pub seeking_none : split_by s column (stripped s x) ≡ None → Seeking s columns x rest found
-      seeking_none none = record { each = u.each; within = u.within; rest = fewer; passed = λ f a h. by a (u.passed f a h) (cases_eq a column) }
+      pub seeking_none : (groups : List (List ℕ)) → AreGroupsBy s x groups → split_by s column groups ≡ None → Seeking s columns x rest found
+      seeking_none groups are none = record { each = u.each; within = u.within; rest = fewer; passed = λ f a h. by a (u.passed f a h) (cases_eq a column) }
         where
           by : (a : ℕ) → (has left a ≡ true) ⊎ (holds_in s x (Col a) ≡ true) → (a ≡ column) ⊎ (a ≢ column) → (has rest a ≡ true) ⊎ (holds_in s x (Col a) ≡ true)
-          by a h (inl i) = inr (subst (λ (b : ℕ). holds_in s x (Col b) ≡ true) (sym i) (held-split s x column (seeking_column column e) none))
+          by a h (inl i) = inr (subst (λ (b : ℕ). holds_in s x (Col b) ≡ true) (sym i) (unsplit-holds s x column groups are (seeking_column column e) none))
           by a (inl h) (inr ne) = inl (ap (λ (z : ℕ). has z a) r ∙ has-without left column a ∙ and_from _ _ h (ap not (ne_eqb a column ne)))
           by a (inr h) (inr ne) = inr h
 
-      pub seeking_some : (p : ℕ × ℕ) (w : ℕ) (more : List ℕ) → split_by s column (stripped s x) ≡ Some p → w ≡ code_agree s p.0 p.1 → more ≡ found ++ w ∷ [] → Seeking s columns x rest more
-      seeking_some p w more some is m = record {
+      pub seeking_some : (groups : List (List ℕ)) (p : ℕ × ℕ) (w : ℕ) (more : List ℕ) → AreGroupsBy s x groups → split_by s column groups ≡ Some p → w ≡ code_agree s p.0 p.1 → more ≡ found ++ w ∷ [] → Seeking s columns x rest more
+      seeking_some groups p w more are some is m = record {
         each = subst (All (IsDisproof s columns x)) (sym m) (All-from (IsDisproof s columns x) (found ++ w ∷ []) (λ v l. at v (Listed-append_cases v found (w ∷ []) l)));
         within = u.within;
         rest = fewer;
@@ -158,7 +163,7 @@ module _ (s : CodeTable) (columns x : ℕ) where
       }
         where
           one : IsDisproof s columns x w
-          one = Split-disproof s x column columns p w (u.rest.each column (first-Some left column e).had) (Split-split_by s x column p some) is
+          one = Split-disproof s x column columns p w (u.rest.each column (first-Some left column e).had) (Split-split_by s x column groups p are some) is
 
           at : (v : ℕ) → Listed v found ⊎ Listed v (w ∷ []) → IsDisproof s columns x v
           at v (inl l) = All-listed (IsDisproof s columns x) v found u.each l

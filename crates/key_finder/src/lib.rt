@@ -1,9 +1,7 @@
 //! The minimal keys of a table: of the distinct parts of rows on some columns.
 #![tactic(auto)]
 
-mod hitting;
 pub mod laws;
-mod levels;
 mod rounds;
 #[cfg(test)]
 mod tests;

@@ -7,13 +7,12 @@ ghost use Rattle.rel_base.specs.RowState.{RowState, IsRowState};
 ghost use Rattle.rel_base.specs.Shows.{Shows, code_agree, code_agree_sets};
 ghost use Rattle.lossless_join.specs.Parts.{projection_keys};
 ghost use Rattle.key_finder.specs.Keys.{told_apart, keys_within};
-ghost use Rattle.key_finder.specs.Levels.{IsLevel};
 ghost use Rattle.key_finder.specs.Rounds.{IsDisproof, IsNews, IsUnique, AreUnique};
 
-use crate::levels::{Level, level_of};
 use crate::witnessed::table_keys_of;
 use rel_base::{ColSet, RowNo, Snapshot};
 use std::alloc::{AllocError, Global};
+use stripped_partition::Path;
 
 // The columns in which two rows have equal codes.
 fn agree(snapshot: &Snapshot, i: RowNo, j: RowNo) -> ColSet
@@ -30,23 +29,24 @@ fn agree(snapshot: &Snapshot, i: RowNo, j: RowNo) -> ColSet
     columns
 }
 
-// Agree sets that contain the level's columns and lack a column of the table, one for each column that splits a group of the
-// level. There is none exactly where the level's columns are unique in the table.
+// Agree sets that contain the path's columns and lack a column of the table, one for each column that splits a group of the
+// path. There is none exactly where the path's columns are unique in the table.
 fn disproofs(
     alloc: Global,
     snapshot: &Snapshot,
-    level: &Level,
+    path: &Path,
     columns: ColSet,
 ) -> Result<Vec<ColSet>, AllocError>
-    requires level { IsLevel snapshot.now level.now }
+    requires path { path.now.table ≡ snapshot.now }
     requires columns { columns < 2 ^ length snapshot.now.codes }
-    ensures each { IfOk result (λ found. All (IsDisproof snapshot.now columns level.now.columns) found.items) }
-    ensures none { IfOk result (λ found. found.items ≡ [] → IsUnique snapshot.now columns level.now.columns) }
+    ensures each { IfOk result (λ found. All (IsDisproof snapshot.now columns path.now.columns) found.items) }
+    ensures none { IfOk result (λ found. found.items ≡ [] → IsUnique snapshot.now columns path.now.columns) }
 {
     let mut found = Vec::new(alloc);
-    let mut left = columns.minus(level.columns);
+    let groups = path.groups();
+    let mut left = columns.minus(path.columns());
     while let Some(column) = left.first() {
-        if let Some(pair) = level.partition.splits_by(snapshot, column) {
+        if let Some(pair) = groups.splits_by(snapshot, column) {
             found.push(agree(snapshot, pair.0, pair.1))?;
         }
         left = left.without(column);
@@ -61,30 +61,28 @@ fn is_held(held: &[ColSet], set: ColSet) -> bool
     held.binary_search(&set).is_ok()
 }
 
-// Disproofs of a candidate, none where it is known to be unique. The candidate's level is added to the path.
+// Disproofs of a candidate, none where it is known to be unique, and else the path is sent there.
 fn disproofs_of(
     alloc: Global,
     snapshot: &Snapshot,
     columns: ColSet,
-    path: &mut Vec<Level>,
+    path: &mut Path,
     held: &[ColSet],
     key: ColSet,
 ) -> Result<Vec<ColSet>, AllocError>
-    requires path { All (IsLevel snapshot.now) path.old.items }
+    requires path { path.old.table ≡ snapshot.now }
     requires held { AreUnique snapshot.now columns held.now }
     requires columns { columns < 2 ^ length snapshot.now.codes }
     requires key { IsSubset key columns }
     ensures each { IfOk result (λ found. All (IsDisproof snapshot.now columns key) found.items) }
     ensures none { IfOk result (λ found. found.items ≡ [] → IsUnique snapshot.now columns key) }
-    ensures path { OnOk result (All (IsLevel snapshot.now) path.new.items) }
+    ensures path { path.new.table ≡ snapshot.now }
 {
     if is_held(held, key) {
         return Ok(Vec::new(alloc));
     }
-    let level = level_of(alloc, snapshot, path, key)?;
-    let found = disproofs(alloc, snapshot, &level, columns)?;
-    path.push(level)?;
-    Ok(found)
+    path.go_to(key)?;
+    disproofs(alloc, snapshot, path, columns)
 }
 
 // The candidates of a round that are unique in the table, and the agree sets that show that the others are not.
@@ -94,26 +92,28 @@ struct Round {
     news: Vec<ColSet>,
 }
 
-// Judges the candidates in their order. Those that share their first columns share partitions.
+// Judges the candidates in their order. Those that share columns on the path's way share partitions.
 fn judged(
     alloc: Global,
     snapshot: &Snapshot,
     columns: ColSet,
+    path: &mut Path,
     keys: &[ColSet],
     held: &[ColSet],
 ) -> Result<Round, AllocError>
+    requires path { path.old.table ≡ snapshot.now }
     requires keys { All (λ key. IsSubset key columns) keys.now }
     requires held { AreUnique snapshot.now columns held.now }
     requires columns { columns < 2 ^ length snapshot.now.codes }
     ensures held { IfOk result (λ round. AreUnique snapshot.now columns round.held.items) }
     ensures news { IfOk result (λ round. All (IsNews snapshot.now columns keys.now) round.news.items) }
     ensures none { IfOk result (λ round. round.news.items ≡ [] → AreUnique snapshot.now columns keys.now) }
+    ensures path { path.new.table ≡ snapshot.now }
 {
-    let mut path = Vec::new(alloc);
     let mut unique = Vec::new(alloc);
     let mut news = Vec::new(alloc);
     for key in keys {
-        let found = disproofs_of(alloc, snapshot, columns, &mut path, held, *key)?;
+        let found = disproofs_of(alloc, snapshot, columns, path, held, *key)?;
         if found.is_empty() {
             unique.push(*key)?;
         } else {
@@ -141,9 +141,18 @@ pub fn table_keys(
 {
     let mut agree_sets = Vec::new(alloc);
     let mut held = Vec::new(alloc);
+    // Keys come in report order, so a path with their columns ascending goes on from what those before made.
+    let mut path = Path::new(alloc, snapshot, &[])?;
     'rounds: loop {
         let keys = table_keys_of(alloc, agree_sets.as_slice(), columns)?;
-        let round = judged(alloc, snapshot, columns, keys.as_slice(), held.as_slice())?;
+        let round = judged(
+            alloc,
+            snapshot,
+            columns,
+            &mut path,
+            keys.as_slice(),
+            held.as_slice(),
+        )?;
         if round.news.is_empty() {
             return Ok(keys);
         }

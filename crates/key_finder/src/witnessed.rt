@@ -1,38 +1,42 @@
 // Keys by agree sets.
-ghost use Rattle.std.specs.Prelude.{◌≡◌, ◌<◌, ◌^◌, ℕ, IfOk};
-ghost use Rattle.std.specs.List.{All};
-ghost use Rattle.col_set.specs.ColSet.{IsSubset, report_cmp};
-ghost use Rattle.col_set.specs.Lists.{Rises};
-ghost use Rattle.key_finder.specs.Hitting.{missed};
-ghost use Rattle.key_finder.specs.Members.{HasMembers};
-ghost use Rattle.key_finder.specs.Keys.{keys_within};
+ghost use Rattle.std.specs.Prelude.{◌≡◌, ◌<◌, ◌≤◌, ◌^◌, ℕ, IfOk};
+ghost use Rattle.key_finder.specs.Keys.{completed, keys_within};
 
-use crate::hitting::minimal_hitting_sets;
-use rel_base::ColSet;
+use least_sets::least_sets;
+use rel_base::{ColSet, MOST_COLUMNS, Target};
 use std::alloc::{AllocError, Global};
 
-// The sets in report order, each once.
-fn sorted(mut sets: Vec<ColSet>) -> Vec<ColSet>
-    ensures order { Rises report_cmp result.items }
-    ensures members { HasMembers sets.items result.items }
+// The number of columns up to the last one of the set.
+fn reach(columns: ColSet) -> u8
+    ensures bound { result ≤ MOST_COLUMNS }
+    ensures within { columns < 2 ^ result }
 {
-    sets.sort_unstable();
-    sets.dedup();
-    sets
+    let mut reach = 0;
+    let mut left = columns;
+    while let Some(column) = left.first() {
+        if reach <= column {
+            reach = column + 1;
+        }
+        left = left.without(column);
+    }
+    reach
 }
 
-// What the columns have outside each agree set that does not contain them.
-fn missed_columns(
+// The agree sets that lack a column of the table, each with the columns outside the table, which tell none of its rows apart.
+fn completed(
     alloc: Global,
     agree_sets: &[ColSet],
     columns: ColSet,
+    reach: u8,
 ) -> Result<Vec<ColSet>, AllocError>
-    ensures { IfOk result (λ sets. sets.items ≡ missed columns agree_sets.now) }
+    requires { reach ≤ MOST_COLUMNS }
+    ensures { IfOk result (λ sets. sets.items ≡ completed reach columns agree_sets.now) }
 {
+    let outside = ColSet::all(reach).minus(columns);
     let mut sets = Vec::new(alloc);
     for agreed in agree_sets {
         if !columns.subset_of(*agreed) {
-            sets.push(columns.minus(*agreed))?;
+            sets.push(agreed.union(outside))?;
         }
     }
     Ok(sets)
@@ -41,8 +45,9 @@ fn missed_columns(
 /// The minimal keys of the table of these columns, in report order, by agree sets that leave the relation's covers, as the
 /// witnesses of a finished search do. The rows are not looked at.
 ///
-/// The agree sets are cut to the columns, and the keys are the minimal hitting sets of what they leave (Demetrovics and Thi, 1987).
-/// The time grows with the number of different agree sets inside the columns and that of the keys.
+/// They are the least sets for which row it is of the agree sets, where the columns outside the table count as agreed on: these are the
+/// minimal hitting sets of what the agree sets leave of the table (Demetrovics and Thi, 1987). The time is that of
+/// `least_sets::least_sets`: a microsecond or so a key, where the agree sets are some thousands.
 pub fn table_keys_of(
     alloc: Global,
     agree_sets: &[ColSet],
@@ -50,7 +55,8 @@ pub fn table_keys_of(
 ) -> Result<Vec<ColSet>, AllocError>
     ensures { IfOk result (λ keys. (n : ℕ) → columns < 2 ^ n → keys.items ≡ keys_within n agree_sets.now columns) }
 {
-    let edges = sorted(missed_columns(alloc, agree_sets, columns)?);
-    let keys = minimal_hitting_sets(alloc, columns, edges.as_slice())?;
-    Ok(sorted(keys))
+    let reach = reach(columns);
+    let completed = completed(alloc, agree_sets, columns, reach)?;
+    let keys = least_sets(alloc, reach, Target::RowId, completed.as_slice())?;
+    Ok(keys)
 }

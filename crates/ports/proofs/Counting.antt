@@ -1,6 +1,16 @@
--- Counts of faults over several calls.
-use Rattle.std.proofs.Common.{◌∙◌, ℕ, arith, List, Option}
+-- Counts over several calls.
+use Rattle.std.proofs.Common.{◌∙◌, ℕ, ◌+◌, ◌≤◌, arith, List, Option}
 use Rattle.ports.specs.Faults.{RoseAt, SameFaults}
+use Rattle.ports.specs.Whole.{most_taken, IsWithin}
+use Rattle.ports.specs.declared.loading.Loading.{Loading}
+use Rattle.ports.specs.declared.loading.Loading.TheVariants.{Loaded, TooLong, Failed, NoMemory}
+
+-- no answer took more than one byte beyond the limit
+pub most_taken-bound : (answer : Loading) (limit : ℕ) → IsWithin answer limit → most_taken answer limit ≤ limit + 1
+most_taken-bound (Loaded bytes) limit h = omega arith
+most_taken-bound TooLong limit h = omega arith
+most_taken-bound Failed limit h = omega arith
+most_taken-bound NoMemory limit h = omega arith
 
 module _ {S : Type 0} (faults : S → ℕ) (last : S → Option (List ℕ)) where
   pub SameFaults-trans : (a b c : S) → SameFaults faults last a b → SameFaults faults last b c → SameFaults faults last a c

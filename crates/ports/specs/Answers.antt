@@ -25,6 +25,12 @@ abbrev pub write_failed : Writing → Bool
 write_failed (Took count) = false
 write_failed WriteFailed = true
 
+-- how many bytes a read moved
+abbrev pub moved_by : Reading → ℕ
+moved_by (Got count) = count
+moved_by End = 0
+moved_by ReadFailed = 0
+
 abbrev pub open_failed : Opening → Bool
 open_failed Opened = false
 open_failed OpenFailed = true

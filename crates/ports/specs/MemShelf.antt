@@ -40,6 +40,7 @@ seen s = record {
   files = told s.files.items s.«open» s.buffer.held;
   opened = opened_of s.files.items s.«open» s.at;
   opens = s.opens;
+  taken = s.taken;
   blanks = vec_len s.blanks;
   room = s.room;
   largest = s.largest;

@@ -11,6 +11,10 @@ use Rattle.ports.specs.Faults.{last_count}
 abbrev pub one_more : ℕ → ℕ
 one_more count = min (count + 1) last_count
 
+-- so many more, up to the last value
+abbrev pub more_of : ℕ → ℕ → ℕ
+more_of count more = min (count + more) last_count
+
 -- bytes that are held, and the number of bytes that there is room for in all
 pub record Room : Type 0 where
   pub held : List ℕ

@@ -6,11 +6,12 @@ use Rattle.ports.specs.Lists.{File, look_up}
 use Rattle.ports.specs.Kinds.{ShelfCourse, after_begin}
 use Rattle.ports.specs.Faults.{CountsAt, SameFaults}
 
--- a shelf that never fails at a read: its files, what is open, how many opens there were, how often a create failed, and the name that the last one worked on
+-- a shelf that never fails at a read: its files, what is open, how many opens there were, how many bytes reads moved, how often a create failed, and the name that the last one worked on
 pub record SureFiles : Type 0 where
   pub files : List File
   pub opened : Access
   pub opens : ℕ
+  pub taken : ℕ
   pub write_faults : ℕ
   pub write_last : Option (List ℕ)
 
@@ -22,12 +23,13 @@ sure_content shelf = Some (look_up shelf.files)
 abbrev pub SureWritesCount : Bool → List ℕ → SureFiles → SureFiles → Type 0
 SureWritesCount failed name old new = CountsAt failed name (λ shelf. shelf.write_faults) (λ shelf. shelf.write_last) old new
 
--- A shelf of which calls may fail: its files, what is open, how many opens there were, how many buffers for files to come it has, how many bytes each has room for,
+-- A shelf of which calls may fail: its files, what is open, how many opens there were, how many bytes reads moved, how many buffers for files to come it has, how many bytes each has room for,
 -- the most bytes that a call moves, the course of its calls, and its counts of faults with the names that the last of them worked on.
 pub record MemFiles : Type 0 where
   pub files : List File
   pub opened : Access
   pub opens : ℕ
+  pub taken : ℕ
   pub blanks : ℕ
   pub room : ℕ
   pub largest : ℕ
@@ -77,6 +79,7 @@ IsNewShelf files blanks room fails largest shelf = shelf ≡ record {
   files = files;
   opened = Nothing;
   opens = 0;
+  taken = 0;
   blanks = blanks;
   room = room;
   largest = largest;

@@ -15,6 +15,7 @@ seen s = record {
   files = s.files.items;
   opened = opened_of s.files.items s.at s.«open»;
   opens = s.opens;
+  taken = s.taken;
   write_faults = s.write_faults;
   write_last = s.write_last;
 }

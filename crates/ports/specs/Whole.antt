@@ -46,6 +46,13 @@ Takes TooLong limit before now = (came : List ℕ) × (length came ≡ limit + 1
 Takes LoadFailed limit before now = (came : List ℕ) × (length came ≤ limit) × Moves before now came
 Takes NoMemory limit before now = (came : List ℕ) × (length came ≤ limit) × Moves before now came
 
+-- The most bytes that were taken for this answer. A file that was too long and whose close failed counts as failed.
+abbrev pub most_taken : Loading → ℕ → ℕ
+most_taken (Loaded bytes) limit = length bytes.items
+most_taken TooLong limit = limit + 1
+most_taken LoadFailed limit = limit + 1
+most_taken NoMemory limit = limit
+
 -- all the bytes were appended, or some first ones of them
 abbrev pub Puts : Putting → List ℕ → Option (List ℕ) → Option (List ℕ) → Type 0
 Puts Put bytes before now = Gains before now bytes

@@ -3,9 +3,9 @@ ghost use Rattle.std.specs.Prelude.{◌≡◌, ◌<◌, ◌≤◌, ◌&&◌, ◌
 ghost use Rattle.std.specs.List.{All};
 ghost use Rattle.ports.specs.Faults.{Rose, Counts};
 ghost use Rattle.ports.specs.Files.{Nothing, ForReading, is_reading, is_writing, is_some_open, name_of, left_of};
-ghost use Rattle.ports.specs.Answers.{open_failed, create_failed, close_failed, read_failed, write_failed, close_failed_reading, close_failed_writing};
+ghost use Rattle.ports.specs.Answers.{open_failed, create_failed, close_failed, read_failed, write_failed, moved_by, close_failed_reading, close_failed_writing};
 ghost use Rattle.ports.specs.Answers.{after_open, after_create, LeavesRest, ReadMoves, CreateEmpties, WriteAppendsTo};
-ghost use Rattle.ports.specs.Memory.{empty_room, read_answer, write_answer};
+ghost use Rattle.ports.specs.Memory.{empty_room, one_more, more_of, read_answer, write_answer};
 ghost use Rattle.ports.specs.Kinds.{is_due};
 ghost use Rattle.ports.specs.Lists.{look_up};
 ghost use Rattle.ports.specs.Shelves.{mem_content, ReadsCount, WritesCount, SameReads, SameWrites, Goes, readable_file, writable_file, IsNewShelf};
@@ -127,6 +127,7 @@ pub struct MemShelf {
     reads: Faults,
     writes: Faults,
     opens: u64,
+    taken: u64,
 }
 
 impl Model for MemShelf {
@@ -171,6 +172,7 @@ impl MemShelf {
             reads: Faults::none(),
             writes: Faults::none(),
             opens: 0,
+            taken: 0,
         })
     }
 
@@ -249,6 +251,8 @@ impl Shelf for MemShelf {
 
     ghost opens = { λ s. s.opens };
 
+    ghost taken = { λ s. s.taken };
+
     ghost read_faults = { λ s. s.read_faults };
 
     ghost read_last = { λ s. s.read_last };
@@ -261,6 +265,8 @@ impl Shelf for MemShelf {
         requires { self.old.opened ≡ Nothing }
         ensures opened { self.new.opened ≡ after_open result name (mem_content self.old) }
         ensures opens { self.new.opens ≤ self.old.opens + 1 }
+        ensures counted { self.new.opens ≡ one_more self.old.opens }
+        ensures taken { self.new.taken ≡ self.old.taken }
         ensures content { mem_content self.new ≡ mem_content self.old }
         ensures reads { ReadsCount (open_failed result) name self.old self.new }
         ensures once { self.new.read_faults ≤ self.old.read_faults + 1 }
@@ -294,6 +300,8 @@ impl Shelf for MemShelf {
         ensures opened { self.new.opened
             ≡ ForReading (name_of self.old.opened) (left_of self.new.opened) }
         ensures opens { self.new.opens ≡ self.old.opens }
+        ensures taken { self.new.taken ≤ self.old.taken + moved_by result }
+        ensures counted { self.new.taken ≡ more_of self.old.taken (moved_by result) }
         ensures content { mem_content self.new ≡ mem_content self.old }
         ensures reads { ReadsCount (read_failed result) (name_of self.old.opened)
             self.old self.new }
@@ -314,6 +322,7 @@ impl Shelf for MemShelf {
         let most = buffer.len().min(self.largest);
         let count = copy_from(self.files[place].1.bytes(), self.at, &mut buffer[..most]);
         self.at += count;
+        self.taken = self.taken.saturating_add(count as u64);
         reading_of(count)
     }
 
@@ -321,6 +330,7 @@ impl Shelf for MemShelf {
         requires { self.old.opened ≡ Nothing }
         ensures opened { self.new.opened ≡ after_create result name }
         ensures opens { self.new.opens ≡ self.old.opens }
+        ensures taken { self.new.taken ≡ self.old.taken }
         ensures content { CreateEmpties result name (mem_content self.old) (mem_content self.new) }
         ensures writes { WritesCount (create_failed result) name self.old self.new }
         ensures once { self.new.write_faults ≤ self.old.write_faults + 1 }
@@ -347,6 +357,7 @@ impl Shelf for MemShelf {
             (mem_content self.old) (mem_content self.new) }
         ensures opened { self.new.opened ≡ self.old.opened }
         ensures opens { self.new.opens ≡ self.old.opens }
+        ensures taken { self.new.taken ≡ self.old.taken }
         ensures writes { WritesCount (write_failed result) (name_of self.old.opened)
             self.old self.new }
         ensures once { self.new.write_faults ≤ self.old.write_faults + 1 }
@@ -376,6 +387,7 @@ impl Shelf for MemShelf {
     fn close(&mut self) -> Closing
         ensures opened { self.new.opened ≡ Nothing }
         ensures opens { self.new.opens ≡ self.old.opens }
+        ensures taken { self.new.taken ≡ self.old.taken }
         ensures content { mem_content self.new ≡ mem_content self.old }
         ensures idle { self.old.opened ≡ Nothing → result ≡ Closing.Closed }
         ensures reads { ReadsCount (close_failed_reading result self.old.opened)

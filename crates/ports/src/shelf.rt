@@ -2,7 +2,7 @@
 ghost use Rattle.std.specs.Prelude.{◌≡◌, ◌<◌, ◌≤◌, ◌+◌, ℕ, List, Option, length, IsTrue, IfSome};
 ghost use Rattle.ports.specs.Faults.{CountsAt, SameFaults};
 ghost use Rattle.ports.specs.Files.{Files, Access, Nothing, ForReading, is_reading, is_writing, name_of, left_of};
-ghost use Rattle.ports.specs.Answers.{open_failed, create_failed, read_failed, write_failed, close_failed_reading, close_failed_writing};
+ghost use Rattle.ports.specs.Answers.{open_failed, create_failed, read_failed, write_failed, moved_by, close_failed_reading, close_failed_writing};
 ghost use Rattle.ports.specs.Answers.{after_open, after_create, LeavesRest, ReadMoves, CreateEmpties, WriteAppendsTo};
 
 use crate::{Reading, Writing};
@@ -44,6 +44,9 @@ pub trait Shelf {
     /// How many opens there were. A count that has come to the last value of its type stands still.
     ghost opens: { Self → ℕ };
 
+    /// How many bytes reads moved in all, as far as the type counts them. This count too stands still at its last value.
+    ghost taken: { Self → ℕ };
+
     /// How often an open, a read, or a close of what was opened failed.
     ghost read_faults: { Self → ℕ };
 
@@ -62,6 +65,7 @@ pub trait Shelf {
         requires { opened self.old ≡ Nothing }
         ensures opened { opened self.new ≡ after_open result name (content self.old) }
         ensures opens { opens self.new ≤ opens self.old + 1 }
+        ensures taken { taken self.new ≡ taken self.old }
         ensures content { content self.new ≡ content self.old }
         ensures reads { CountsAt (open_failed result) name read_faults read_last self.old self.new }
         ensures once { read_faults self.new ≤ read_faults self.old + 1 }
@@ -79,6 +83,7 @@ pub trait Shelf {
         ensures opened { opened self.new
             ≡ ForReading (name_of (opened self.old)) (left_of (opened self.new)) }
         ensures opens { opens self.new ≡ opens self.old }
+        ensures taken { taken self.new ≤ taken self.old + moved_by result }
         ensures content { content self.new ≡ content self.old }
         ensures reads { CountsAt (read_failed result) (name_of (opened self.old))
             read_faults read_last self.old self.new }
@@ -90,6 +95,7 @@ pub trait Shelf {
         requires { opened self.old ≡ Nothing }
         ensures opened { opened self.new ≡ after_create result name }
         ensures opens { opens self.new ≡ opens self.old }
+        ensures taken { taken self.new ≡ taken self.old }
         ensures content { CreateEmpties result name (content self.old) (content self.new) }
         ensures writes { CountsAt (create_failed result) name
             write_faults write_last self.old self.new }
@@ -104,6 +110,7 @@ pub trait Shelf {
             (content self.old) (content self.new) }
         ensures opened { opened self.new ≡ opened self.old }
         ensures opens { opens self.new ≡ opens self.old }
+        ensures taken { taken self.new ≡ taken self.old }
         ensures writes { CountsAt (write_failed result) (name_of (opened self.old))
             write_faults write_last self.old self.new }
         ensures once { write_faults self.new ≤ write_faults self.old + 1 }
@@ -113,6 +120,7 @@ pub trait Shelf {
     fn close(&mut self) -> Closing
         ensures opened { opened self.new ≡ Nothing }
         ensures opens { opens self.new ≡ opens self.old }
+        ensures taken { taken self.new ≡ taken self.old }
         ensures content { content self.new ≡ content self.old }
         ensures idle { opened self.old ≡ Nothing → result ≡ Closing.Closed }
         ensures reads { CountsAt (close_failed_reading result (opened self.old))

@@ -23,6 +23,7 @@ pub struct SureShelf {
     open: Option<Name>,
     at: usize,
     opens: u64,
+    taken: u64,
     write_faults: u64,
     write_last: Option<Name>,
 }
@@ -46,6 +47,7 @@ impl SureShelf {
           files = files.items;
           opened = Nothing;
           opens = 0;
+          taken = 0;
           write_faults = 0;
           write_last = None;
         } }
@@ -54,6 +56,7 @@ impl SureShelf {
             files,
             open: None,
             opens: 0,
+            taken: 0,
             at: 0,
             write_faults: 0,
             write_last: None,
@@ -67,6 +70,8 @@ impl Shelf for SureShelf {
     ghost opened = { λ s. s.opened };
 
     ghost opens = { λ s. s.opens };
+
+    ghost taken = { λ s. s.taken };
 
     ghost read_faults = { λ _. 0 };
 
@@ -89,6 +94,7 @@ impl Shelf for SureShelf {
         };
         let count = copy_from(text_of(&self.files, name), self.at, buffer);
         self.at += count;
+        self.taken = self.taken.saturating_add(count as u64);
         reading_of(count)
     }
 
@@ -96,6 +102,7 @@ impl Shelf for SureShelf {
         requires { self.old.opened ≡ Nothing }
         ensures opened { self.new.opened ≡ after_create result name }
         ensures opens { self.new.opens ≡ self.old.opens }
+        ensures taken { self.new.taken ≡ self.old.taken }
         ensures content { CreateEmpties result name
             (sure_content self.old) (sure_content self.new) }
         ensures writes { SureWritesCount (create_failed result) name self.old self.new }

@@ -2,8 +2,8 @@
 ghost use Rattle.std.specs.Prelude.{◌≡◌, ◌<◌, ◌≤◌, ◌+◌, IfSome, IsTrue, length, take, drop};
 ghost use Rattle.ports.specs.Faults.{CountsAt, SameFaults};
 ghost use Rattle.ports.specs.Files.{Nothing, ForReading, is_reading, is_writing, name_of, left_of, bytes_of, OthersKept};
-ghost use Rattle.ports.specs.Answers.{read_failed, ReadMoves};
-ghost use Rattle.ports.specs.Whole.{load_failed, store_failed, Loads, IsWithin, Stores, AppendsTo};
+ghost use Rattle.ports.specs.Answers.{read_failed, moved_by, ReadMoves};
+ghost use Rattle.ports.specs.Whole.{load_failed, store_failed, Loads, IsWithin, most_taken, Stores, AppendsTo};
 
 use crate::loading::make_room;
 use crate::{Closing, Creating, Loading, Opening, Reading, Shelf, Writing};
@@ -19,8 +19,8 @@ pub enum Storing {
     Failed,
 }
 
-/// Reads a whole file, if it is no more than the limit, which opens it once. The files stay as they were, whatever the
-/// answer.
+/// Reads a whole file, if it is no more than the limit, which opens it once and takes at most one byte more than the limit. The
+/// files stay as they were, whatever the answer.
 pub fn load_file<H: Shelf>(alloc: Global, shelf: &mut H, name: Name, limit: u64) -> Loading
     requires { H.opened shelf.old ≡ Nothing }
     ensures loads { IfSome (H.content shelf.old) (λ files.
@@ -31,6 +31,7 @@ pub fn load_file<H: Shelf>(alloc: Global, shelf: &mut H, name: Name, limit: u64)
     ensures reads { CountsAt (load_failed result) name
         H.read_faults H.read_last shelf.old shelf.new }
     ensures opens { H.opens shelf.new ≤ H.opens shelf.old + 1 }
+    ensures taken { H.taken shelf.new ≤ H.taken shelf.old + most_taken result limit }
     ensures writes { SameFaults H.write_faults H.write_last shelf.old shelf.new }
 {
     match shelf.open(name) {
@@ -53,6 +54,7 @@ fn load_opened<H: Shelf>(alloc: Global, shelf: &mut H, limit: u64) -> Loading
     ensures opened { H.opened shelf.new
         ≡ ForReading (name_of (H.opened shelf.old)) (left_of (H.opened shelf.new)) }
     ensures opens { H.opens shelf.new ≡ H.opens shelf.old }
+    ensures taken { H.taken shelf.new ≤ H.taken shelf.old + most_taken result limit }
     ensures content { H.content shelf.new ≡ H.content shelf.old }
     ensures reads { CountsAt (load_failed result) (name_of (H.opened shelf.old))
         H.read_faults H.read_last shelf.old shelf.new }
@@ -86,6 +88,7 @@ fn read_file_behind<H: Shelf>(shelf: &mut H, buffer: &mut [u8], filled: usize) -
     ensures opened { H.opened shelf.new
         ≡ ForReading (name_of (H.opened shelf.old)) (left_of (H.opened shelf.new)) }
     ensures opens { H.opens shelf.new ≡ H.opens shelf.old }
+    ensures taken { H.taken shelf.new ≤ H.taken shelf.old + moved_by result }
     ensures content { H.content shelf.new ≡ H.content shelf.old }
     ensures reads { CountsAt (read_failed result) (name_of (H.opened shelf.old))
         H.read_faults H.read_last shelf.old shelf.new }
@@ -101,6 +104,7 @@ pub fn store_file<H: Shelf>(shelf: &mut H, name: Name, bytes: &[u8]) -> Storing
     ensures stores { Stores result name bytes.now (H.content shelf.old) (H.content shelf.new) }
     ensures others { OthersKept name (H.content shelf.old) (H.content shelf.new) }
     ensures opens { H.opens shelf.new ≡ H.opens shelf.old }
+    ensures taken { H.taken shelf.new ≡ H.taken shelf.old }
     ensures closed { H.opened shelf.new ≡ Nothing }
     ensures writes { CountsAt (store_failed result) name
         H.write_faults H.write_last shelf.old shelf.new }
@@ -125,6 +129,7 @@ fn write_whole<H: Shelf>(shelf: &mut H, bytes: &[u8]) -> Storing
         (H.content shelf.old) (H.content shelf.new) }
     ensures opened { H.opened shelf.new ≡ H.opened shelf.old }
     ensures opens { H.opens shelf.new ≡ H.opens shelf.old }
+    ensures taken { H.taken shelf.new ≡ H.taken shelf.old }
     ensures writes { CountsAt (store_failed result) (name_of (H.opened shelf.old))
         H.write_faults H.write_last shelf.old shelf.new }
     ensures reads { SameFaults H.read_faults H.read_last shelf.old shelf.new }

@@ -1,6 +1,6 @@
 -- What the ends of a run say.
-use Rattle.std.proofs.Common.{◌≡◌, ◌∙◌, ◌⊎◌, inl, inr, ◌<◌, ◌≤◌, ℕ, Bool, true, false, cond, refl, sym, ap, subst, arith, List, [], length, get_or, Option, Some, None}
-use Rattle.std.specs.Prelude.{IfSome}
+use Rattle.std.proofs.Common.{◌≡◌, ◌∙◌, ◌⊎◌, inl, inr, ◌<◌, ◌≤◌, ℕ, Bool, true, false, cond, refl, sym, ap, subst, arith, List, [], length, get_or, Option, Some, None, Result, Ok, Err}
+use Rattle.std.specs.Prelude.{IfOk, IfSome}
 use Rattle.std.specs.Option.{option_map}
 use Rattle.std.proofs.lemmas.Bool.{le-ltb, lt-ltb}
 use Rattle.rel_base.specs.declared.limits.Limits.{Limits}
@@ -14,14 +14,16 @@ use Rattle.ports.specs.Lists.{file_at}
 use Rattle.report_text.specs.Outcome.{file_line, fault_line}
 use Rattle.profile_cli.specs.declared.outcome.Outcome.{Outcome}
 use Rattle.profile_cli.specs.declared.outcome.Outcome.TheVariants.{Done, Usage, Refused, ReadFault, WriteFault, NoMemory}
-use Rattle.profile_cli.specs.declared.request.Request.{Request}
-use Rattle.profile_cli.specs.Command.{command}
-use Rattle.profile_cli.specs.Contents.{contents_of, first_refusal, or_else}
-use Rattle.profile_cli.specs.Ends.{AreAccepted, EndsWith, IsFileFault, IsInput, IsInputFault, IsPut, IsUnwritten, IsWhole, OnInput, OnMade, OnRead, OnSources, OnTold, Runs, StopsAtFile, StopsAtSink}
+use Rattle.cli_words.specs.declared.request.Request.{Request}
+use Rattle.cli_words.specs.Command.{command}
+use Rattle.profile_cli.specs.Contents.{contents_of, first_refusal, or_else, texts_of}
+use Rattle.profile_cli.specs.Ends.{AreAccepted, EndsWith, Fact, IsFileFault, IsInput, IsInputFault, IsPut, IsUnwritten, IsWhole, OnInput, OnMade, OnRead, OnSources, OnTold, Runs, SomeWritten, Stops, StopsAtFile, StopsAtSink}
 use Rattle.profile_cli.specs.Outcomes.{IfReadFault, IfRefused, IsDoneOrNoMemory, IsRefusedOrNoMemory, IsWritingEnd, OnDone, OnNoMemory, OnUsage, OnWriteFault, UnlessFaulted, UnlessWritten}
-use Rattle.profile_cli.specs.Output.{asked, input_name, input_refusal, judged, output, refusal, with_files, written}
-use Rattle.profile_cli.specs.Task.{Task, task_of}
-use Rattle.profile_cli.specs.Written.{Written}
+use Rattle.profile_cli.specs.Output.{Output, SomeOutput, asked, input_name, input_refusal, judged, output, refusal, with_files, written}
+use Rattle.profile_cli.specs.Task.{task_of}
+use Rattle.task_base.specs.Reading.{no_reading}
+use Rattle.task_base.specs.Task.{Sources, Task}
+use Rattle.task_base.specs.Written.{Written}
 
 pub some_same : {X : Type 0} (x y : X) → Some x ≡ Some y → x ≡ y
 some_same x y e = cc
@@ -108,12 +110,16 @@ IfReadFault-writing (ReadFault file) P w = absurd w
 IfReadFault-writing WriteFault P w = tt
 IfReadFault-writing NoMemory P w = tt
 
--- ---- what is known of the first refusal and of what is written
+-- ---- what is known of the first refusal and of what may be written
 abbrev pub Refusal : Type 0
 Refusal = Option (List ℕ × ℕ × Why)
 
-abbrev pub Fact : Type 1
-Fact = Refusal → Written → Type 0
+-- one fact follows from another, where what may be written by the one may be by the other
+abbrev pub Follows : Fact → Fact → Type 1
+Follows P Q = (r : Refusal) (V W : Written → Type 0) → ((w : Written) → V w → W w) → P r V → Q r W
+
+SomeWritten-map : (V W P Q : Written → Type 0) → ((w : Written) → V w → W w) → ((w : Written) → P w → Q w) → SomeWritten V P → SomeWritten W Q
+SomeWritten-map V W P Q f g k = (k.0, f k.0 k.1, g k.0 k.2)
 
 OnInput-map : (reads : Bool) (input : Option (List ℕ)) (P Q : List ℕ → Type 0) → ((bytes : List ℕ) → P bytes → Q bytes) → OnInput reads input P → OnInput reads input Q
 OnInput-map true None P Q f p = tt
@@ -126,46 +132,62 @@ OnInput-always true (Some bytes) P f = f bytes
 OnInput-always false input P f = f []
 
 -- what the files hold was read
-pub OnTold-read : (task : Task) (limits : Limits) (content : Option Files) (input : Option (List ℕ)) (relations : List Content)
-    → IfSome content (λ held. (first_refusal limits held task.reads ≡ None) × (relations ≡ contents_of held task.reads))
-    → (P Q : Fact) → ((r : Refusal) (w : Written) → P r w → Q r w) → OnRead task limits relations input P → OnTold task limits content input Q
-OnTold-read task limits None input relations k P Q f r = tt
-OnTold-read task limits (Some held) input relations k P Q f r =
-    OnInput-map task.reads_input input (λ bytes. P (input_refusal task.reads_input limits bytes) (task.writes limits relations bytes)) (λ bytes. Q (refusal task limits held bytes) (written task limits held bytes))
+pub OnTold-read : (task : Task) (limits : Limits) (content : Option Files) (input : Option (List ℕ)) (relations : List Content) (texts : List (List ℕ))
+    → IfSome content (λ held. (first_refusal limits held task.reads ≡ None) × (relations ≡ contents_of held task.reads) × (texts ≡ texts_of held task.reads))
+    → (P Q : Fact) → Follows P Q → OnRead task limits relations texts input P → OnTold task limits content input Q
+OnTold-read task limits None input relations texts k P Q f r = tt
+OnTold-read task limits (Some held) input relations texts k P Q f r =
+    OnInput-map task.reads_input input (λ bytes. P (input_refusal task.reads_input limits bytes) (task.writes limits (from relations texts bytes))) (λ bytes. Q (refusal task limits held bytes) (written task limits held bytes))
     (λ bytes p.
     subst (λ (x : Refusal). Q (or_else x (input_refusal task.reads_input limits bytes)) (written task limits held bytes)) (sym k.0)
-    (subst (λ (rs : List Content). Q (input_refusal task.reads_input limits bytes) (task.writes limits rs bytes)) k.1 (f (input_refusal task.reads_input limits bytes) (task.writes limits relations bytes) p))) r
+    (subst (λ (rs : List Content). Q (input_refusal task.reads_input limits bytes) (task.writes limits (from rs (texts_of held task.reads) bytes))) k.1
+    (subst (λ (ts : List (List ℕ)). Q (input_refusal task.reads_input limits bytes) (task.writes limits (from relations ts bytes))) k.2
+    (f (input_refusal task.reads_input limits bytes) (task.writes limits (from relations texts bytes)) (task.writes limits (from relations texts bytes)) (λ w may. may) p)))) r
+  where
+    from : List Content → List (List ℕ) → List ℕ → Sources
+    from relations texts input = record { relations = relations; texts = texts; input = input }
 
 -- a file is refused
 pub OnTold-refused : (task : Task) (limits : Limits) (content : Option Files) (input : Option (List ℕ)) (file : List ℕ) (rec : ℕ) (why : Why)
-    → IfSome content (λ held. first_refusal limits held task.reads ≡ Some (file, rec, why)) → OnTold task limits content input (λ r w. r ≡ Some (file, rec, why))
+    → IfSome content (λ held. first_refusal limits held task.reads ≡ Some (file, rec, why)) → OnTold task limits content input (λ r may. r ≡ Some (file, rec, why))
 OnTold-refused task limits None input file rec why k = tt
 OnTold-refused task limits (Some held) input file rec why k =
     OnInput-always task.reads_input input (λ bytes. refusal task limits held bytes ≡ Some (file, rec, why)) (λ bytes. ap (λ (x : Refusal). or_else x (input_refusal task.reads_input limits bytes)) k)
 
-module _ (task : Task) (limits : Limits) (relations : List Content) (input : Option (List ℕ)) (P Q : Fact) where
+module _ {E : Type 0} (task : Task) (limits : Limits) (relations : List Content) (texts : List (List ℕ)) (input : Option (List ℕ)) (made : Result Written E) (P Q : Fact) where
+  abbrev From : List ℕ → Sources
+  From bytes = record { relations = relations; texts = texts; input = bytes }
+
   abbrev At : Bool → Type 0
-  At b = OnInput b input (λ bytes. Q (input_refusal b limits bytes) (task.writes limits relations bytes))
+  At b = OnInput b input (λ bytes. Q (input_refusal b limits bytes) (task.writes limits (From bytes)))
+
+  -- what was made may be written
+  of_made : (bytes : List ℕ) → IfOk made (task.writes limits (From bytes)) → Follows P Q → OnMade made P → Q None (task.writes limits (From bytes))
+  of_made bytes known f p = by made known p
+    where
+      by : (m : Result Written E) → IfOk m (task.writes limits (From bytes)) → OnMade m P → Q None (task.writes limits (From bytes))
+      by (Ok w) known p = f None (λ v. v ≡ w) (task.writes limits (From bytes)) (λ v e. subst (task.writes limits (From bytes)) (sym e) known) p
+      by (Err e) known p = absurd p
 
   -- the input isn't read
-  pub OnRead-unread : task.reads_input ≡ false → ((r : Refusal) (w : Written) → P r w → Q r w) → OnMade (task.writes limits relations []) P → OnRead task limits relations input Q
-  OnRead-unread unread f p = subst At (sym unread) (f None (task.writes limits relations []) p)
+  pub OnRead-unread : task.reads_input ≡ false → IfOk made (task.writes limits (From [])) → Follows P Q → OnMade made P → OnRead task limits relations texts input Q
+  OnRead-unread unread known f p = subst At (sym unread) (of_made [] known f p)
 
   -- the input was read to its end
-  pub OnRead-loaded : task.reads_input ≡ true → (bytes : List ℕ) → IfSome input (λ all. (bytes ≡ all) × (length all ≤ limits.bytes)) → ((r : Refusal) (w : Written) → P r w → Q r w)
-      → OnMade (task.writes limits relations bytes) P → OnRead task limits relations input Q
-  OnRead-loaded reads bytes k f p = subst At (sym reads) (at input k)
+  pub OnRead-loaded : task.reads_input ≡ true → (bytes : List ℕ) → IfSome input (λ all. (bytes ≡ all) × (length all ≤ limits.bytes)) → IfOk made (task.writes limits (From bytes)) → Follows P Q
+      → OnMade made P → OnRead task limits relations texts input Q
+  OnRead-loaded reads bytes k known f p = subst At (sym reads) (at input k)
     where
-      at : (i : Option (List ℕ)) → IfSome i (λ all. (bytes ≡ all) × (length all ≤ limits.bytes)) → IfSome i (λ all. Q (input_refusal true limits all) (task.writes limits relations all))
+      at : (i : Option (List ℕ)) → IfSome i (λ all. (bytes ≡ all) × (length all ≤ limits.bytes)) → IfSome i (λ all. Q (input_refusal true limits all) (task.writes limits (From all)))
       at None k = tt
       at (Some all) k =
-          subst (λ (b : Bool). Q (cond b (Some (input_name, 0, Bytes)) None) (task.writes limits relations all)) (sym (le-ltb limits.bytes (length all) k.1))
-          (subst (λ (xs : List ℕ). Q None (task.writes limits relations xs)) k.0 (f None (task.writes limits relations bytes) p))
+          subst (λ (b : Bool). Q (cond b (Some (input_name, 0, Bytes)) None) (task.writes limits (From all))) (sym (le-ltb limits.bytes (length all) k.1))
+          (subst (λ (xs : List ℕ). Q None (task.writes limits (From xs))) k.0 (of_made bytes known f p))
 
 -- the input is too long
-pub OnRead-long : (task : Task) (limits : Limits) (relations : List Content) (input : Option (List ℕ)) → task.reads_input ≡ true → IfSome input (λ all. limits.bytes < length all)
-    → OnRead task limits relations input (λ r w. r ≡ Some (input_name, 0, Bytes))
-OnRead-long task limits relations input reads k =
+pub OnRead-long : (task : Task) (limits : Limits) (relations : List Content) (texts : List (List ℕ)) (input : Option (List ℕ)) → task.reads_input ≡ true → IfSome input (λ all. limits.bytes < length all)
+    → OnRead task limits relations texts input (λ r may. r ≡ Some (input_name, 0, Bytes))
+OnRead-long task limits relations texts input reads k =
     subst (λ (b : Bool). OnInput b input (λ bytes. input_refusal b limits bytes ≡ Some (input_name, 0, Bytes))) (sym reads) (at input k)
   where
     at : (i : Option (List ℕ)) → IfSome i (λ all. limits.bytes < length all) → IfSome i (λ all. input_refusal true limits all ≡ Some (input_name, 0, Bytes))
@@ -202,20 +224,26 @@ module _ {S : Type 0} (before now : Option (List ℕ)) (sink sink' : ℕ) (fault
   rose_either (inl r) = inl r
   rose_either (inr r) = inr (rose_from faults last a b new from r)
 
-  pub Runs-from : (M N : Fact → Type 0) → ((P Q : Fact) → ((r : Refusal) (w : Written) → P r w → Q r w) → M P → N Q) → (content content' : Option Files) (o : Outcome)
+  pub Runs-from : (M N : Fact → Type 0) → ((P Q : Fact) → Follows P Q → M P → N Q) → (content content' : Option Files) (o : Outcome)
       → Runs M o content content' before now sink sink' faults last b new → Runs N o content content' before now sink sink' faults last a new
-  Runs-from M N f content content' Done r = (f _ _ (λ x w p. p) r.0, r.1, same_from faults last a b new from r.2)
+  Runs-from M N f content content' Done r =
+      let Whole : Written → Type 0 = λ w. IsWhole w content content' before now in
+      (f (λ x V. (x ≡ None) × SomeWritten V Whole) (λ x W. (x ≡ None) × SomeWritten W Whole) (λ x V W sub p. (p.0, SomeWritten-map V W Whole Whole sub (λ w h. h) p.1)) r.0, r.1, same_from faults last a b new from r.2)
   Runs-from M N f content content' Usage r = r
-  Runs-from M N f content content' (Refused file rec why) r = (f _ _ (λ x w p. p) r.0, r.1, unwritten_from content content' r.2)
+  Runs-from M N f content content' (Refused file rec why) r =
+      (f (λ x V. x ≡ Some (file, rec, why)) (λ x W. x ≡ Some (file, rec, why)) (λ x V W sub p. p) r.0, r.1, unwritten_from content content' r.2)
   Runs-from M N f content content' (ReadFault file) r = (r.0, unwritten_from content content' r.1)
-  Runs-from M N f content content' WriteFault r = (f _ _ (λ x w p. (p.0, stops_from w content content' p.1)) r.0, rose_either r.1)
+  Runs-from M N f content content' WriteFault r =
+      let Then : Written → Type 0 = λ w. Stops w content content' before now sink sink' faults last b new in
+      let Now : Written → Type 0 = λ w. Stops w content content' before now sink sink' faults last a new in
+      (f (λ x V. (x ≡ None) × SomeWritten V Then) (λ x W. (x ≡ None) × SomeWritten W Now) (λ x V W sub p. (p.0, SomeWritten-map V W Then Now sub (λ w h. stops_from w content content' h) p.1)) r.0, rose_either r.1)
   Runs-from M N f content content' NoMemory r = (r.0, r.1, unwritten_from content content' r.2)
 
 -- ---- a run that ends with a line, as a run
 module _ {S : Type 0} (M : Fact → Type 0) (o : Outcome) (content content' : Option Files) (before now : Option (List ℕ)) (sink sink' : ℕ) (faults : S → ℕ) (last : S → Option (List ℕ)) (old new : S)
     (unwritten : IsUnwritten content content' faults last old new) where
   pub Runs-refused : (file : List ℕ) (rec : ℕ) (why : Why) → EndsWith o (Refused file rec why) (file_line file rec why) before now sink sink'
-      → M (λ r w. r ≡ Some (file, rec, why)) → Runs M o content content' before now sink sink' faults last old new
+      → M (λ r may. r ≡ Some (file, rec, why)) → Runs M o content content' before now sink sink' faults last old new
   Runs-refused file rec why e known =
       ends_put o (Refused file rec why) (file_line file rec why) before now sink sink' (λ x. Runs M x content content' before now sink sink' faults last old new) e
       (λ nothing. (nothing.0, nothing.1, unwritten)) (λ put. (known, put, unwritten))
@@ -232,50 +260,63 @@ option_map-with_none None = refl
 option_map-with_none (Some held) = refl
 
 module _ {S : Type 0} (content content' : Option Files) (before now : Option (List ℕ)) (sink sink' : ℕ) (faults : S → ℕ) (last : S → Option (List ℕ)) (old new : S) where
-  pub no_files : (w : Written) (o : Outcome) → w.files ≡ [] → Runs (OnMade w) o content content' before now sink sink' faults last old new → IsUnwritten content content' faults last old new
-  no_files w Done none r = record { files = r.0.1.files ∙ ap (λ files. option_map (with_files files) content) none ∙ option_map-with_none content; shelf = r.2 }
-  no_files w Usage none r = absurd r
-  no_files w (Refused file rec why) none r = r.2
-  no_files w (ReadFault file) none r = r.1
-  no_files w WriteFault none r = at r.0.1
-    where
-      at : StopsAtFile w content content' before now sink sink' faults last old new ⊎ StopsAtSink w content content' before now sink sink' faults last old new → IsUnwritten content content' faults last old new
-      at (inl s) = let within = s.file.within in let long : length w.files ≡ 0 = ap length none in absurd (omega arith)
-      at (inr s) = record { files = s.files ∙ ap (λ files. option_map (with_files files) content) none ∙ option_map-with_none content; shelf = s.shelf }
-  no_files w NoMemory none r = r.2
+  no_files_of : (w : Written) → w.files ≡ [] → IsWhole w content content' before now → SameFaults faults last old new → IsUnwritten content content' faults last old new
+  no_files_of w none whole same = record { files = whole.files ∙ ap (λ files. option_map (with_files files) content) none ∙ option_map-with_none content; shelf = same }
+
+  no_files_at : (w : Written) → w.files ≡ [] → Stops w content content' before now sink sink' faults last old new → IsUnwritten content content' faults last old new
+  no_files_at w none (inl s) = let within = s.file.within in let long : length w.files ≡ 0 = ap length none in absurd (omega arith)
+  no_files_at w none (inr s) = record { files = s.files ∙ ap (λ files. option_map (with_files files) content) none ∙ option_map-with_none content; shelf = s.shelf }
+
+  pub no_files : {E : Type 0} (made : Result Written E) (o : Outcome) → IfOk made (λ w. w.files ≡ []) → Runs (OnMade made) o content content' before now sink sink' faults last old new → IsUnwritten content content' faults last old new
+  no_files (Ok w) Done none r = no_files_of r.0.1.0 (ap (λ (x : Written). x.files) r.0.1.1 ∙ none) r.0.1.2 r.2
+  no_files (Err e) Done none r = absurd r.0
+  no_files made Usage none r = absurd r
+  no_files made (Refused file rec why) none r = r.2
+  no_files made (ReadFault file) none r = r.1
+  no_files (Ok w) WriteFault none r = no_files_at r.0.1.0 (ap (λ (x : Written). x.files) r.0.1.1 ∙ none) r.0.1.2
+  no_files (Err e) WriteFault none r = absurd r.0
+  no_files made NoMemory none r = r.2
 
 -- ---- the output of a run
-output_of : (words : List Text) (request : Request) (limits : Limits) (held : Files) (input : List ℕ) → command words ≡ Some request
-    → output words limits held input ≡ judged (refusal (task_of request) limits held input) (written (task_of request) limits held input)
+output_of : (words : List Text) (request : Request) (limits : Limits) (held : Files) (input : List ℕ) (o : Output) → command words ≡ Some request
+    → output words limits held input o ≡ judged (refusal (task_of request) limits held input) (written (task_of request) limits held input) o
 unfolding output
-output_of words request limits held input e = ap (λ c. asked c limits held input) e
+output_of words request limits held input o e = ap (λ c. asked c limits held input o) e
 
-pub accepted_output : (words : List Text) (request : Request) (limits : Limits) (held : Files) (input : List ℕ) → command words ≡ Some request → refusal (task_of request) limits held input ≡ None
-    → output words limits held input ≡ record { status = 0; written = written (task_of request) limits held input }
-accepted_output words request limits held input e none = output_of words request limits held input e ∙ ap (λ r. judged r (written (task_of request) limits held input)) none
+accepted : (words : List Text) (request : Request) (limits : Limits) (held : Files) (input : List ℕ) (o : Output) → command words ≡ Some request → refusal (task_of request) limits held input ≡ None
+    → output words limits held input o ≡ ((o.status ≡ 0) × written (task_of request) limits held input o.written)
+accepted words request limits held input o e none = output_of words request limits held input o e ∙ ap (λ r. judged r (written (task_of request) limits held input) o) none
+
+-- where nothing is refused, an output is what may be written
+pub accepted_output : (words : List Text) (request : Request) (limits : Limits) (held : Files) (input : List ℕ) (o : Output) → command words ≡ Some request → refusal (task_of request) limits held input ≡ None
+    → output words limits held input o → (o.status ≡ 0) × written (task_of request) limits held input o.written
+accepted_output words request limits held input o e none is = subst (λ (X : Type 0). X) (accepted words request limits held input o e none) is
+
+pub output_accepted : (words : List Text) (request : Request) (limits : Limits) (held : Files) (input : List ℕ) (w : Written) → command words ≡ Some request → refusal (task_of request) limits held input ≡ None
+    → written (task_of request) limits held input w → output words limits held input (record { status = 0; written = w })
+output_accepted words request limits held input w e none may = subst (λ (X : Type 0). X) (sym (accepted words request limits held input (record { status = 0; written = w }) e none)) (refl, may)
 
 module _ (words : List Text) (request : Request) (limits : Limits) (content : Option Files) (input : Option (List ℕ)) (is : command words ≡ Some request) where
   abbrev task : Task
   task = task_of request
 
-  OnTold-map : (P : Written → Type 0) → OnTold task limits content input (λ r w. (r ≡ None) × P w)
-      → OnSources task content input (λ files bytes. ((output words limits files bytes).status ≡ 0) × P (output words limits files bytes).written)
+  OnTold-map : (P : Written → Type 0) → OnTold task limits content input (λ r may. (r ≡ None) × SomeWritten may P)
+      → OnSources task content input (λ files bytes. SomeOutput words limits files bytes (λ o. (o.status ≡ 0) × P o.written))
   OnTold-map P k = at content k
     where
-      at : (c : Option Files) → IfSome c (λ held. OnInput task.reads_input input (λ bytes. (refusal task limits held bytes ≡ None) × P (written task limits held bytes)))
-          → IfSome c (λ held. OnInput task.reads_input input (λ bytes. ((output words limits held bytes).status ≡ 0) × P (output words limits held bytes).written))
+      at : (c : Option Files) → IfSome c (λ held. OnInput task.reads_input input (λ bytes. (refusal task limits held bytes ≡ None) × SomeWritten (written task limits held bytes) P))
+          → IfSome c (λ held. OnInput task.reads_input input (λ bytes. SomeOutput words limits held bytes (λ o. (o.status ≡ 0) × P o.written)))
       at None k = tt
       at (Some held) k =
-          OnInput-map task.reads_input input (λ bytes. (refusal task limits held bytes ≡ None) × P (written task limits held bytes))
-          (λ bytes. ((output words limits held bytes).status ≡ 0) × P (output words limits held bytes).written)
-          (λ bytes p.
-          subst (λ o. (o.status ≡ 0) × P o.written) (sym (accepted_output words request limits held bytes is p.0)) (refl, p.1)) k
+          OnInput-map task.reads_input input (λ bytes. (refusal task limits held bytes ≡ None) × SomeWritten (written task limits held bytes) P)
+          (λ bytes. SomeOutput words limits held bytes (λ o. (o.status ≡ 0) × P o.written))
+          (λ bytes p. (record { status = 0; written = p.1.0 }, output_accepted words request limits held bytes p.1.0 is p.0 p.1.1, (refl, p.1.2))) k
 
   module _ {S : Type 0} (content' : Option Files) (before now : Option (List ℕ)) (sink sink' : ℕ) (faults : S → ℕ) (last : S → Option (List ℕ)) (old new : S) where
     abbrev Ran : Outcome → Type 0
     Ran o = Runs (OnTold task limits content input) o content content' before now sink sink' faults last old new
 
-    pub done : (o : Outcome) → Ran o → OnDone o (OnSources task content input (λ files bytes. ((output words limits files bytes).status ≡ 0) × IsWhole (output words limits files bytes).written content content' before now))
+    pub done : (o : Outcome) → Ran o → OnDone o (OnSources task content input (λ files bytes. SomeOutput words limits files bytes (λ o. (o.status ≡ 0) × IsWhole o.written content content' before now)))
     done Done r = OnTold-map (λ w. IsWhole w content content' before now) r.0
     done Usage r = tt
     done (Refused file rec why) r = tt
@@ -283,8 +324,8 @@ module _ (words : List Text) (request : Request) (limits : Limits) (content : Op
     done WriteFault r = tt
     done NoMemory r = tt
 
-    pub write_fault : (o : Outcome) → Ran o → OnWriteFault o (OnSources task content input (λ files bytes. ((output words limits files bytes).status ≡ 0)
-        × (StopsAtFile (output words limits files bytes).written content content' before now sink sink' faults last old new ⊎ StopsAtSink (output words limits files bytes).written content content' before now sink sink' faults last old new)))
+    pub write_fault : (o : Outcome) → Ran o → OnWriteFault o (OnSources task content input (λ files bytes. SomeOutput words limits files bytes (λ o. (o.status ≡ 0)
+        × (StopsAtFile o.written content content' before now sink sink' faults last old new ⊎ StopsAtSink o.written content content' before now sink sink' faults last old new))))
     write_fault Done r = tt
     write_fault Usage r = tt
     write_fault (Refused file rec why) r = tt
@@ -327,7 +368,7 @@ module _ (words : List Text) (request : Request) (limits : Limits) (content : Op
           ⊎ (AreAccepted limits content task.reads read_faults read_last old new × IsInputFault limits task.reads_input file left left' count count'))
 
       abbrev NoFileFault : Type 0
-      NoFileFault = (place : ℕ) → place < length task.reads → RoseAt (get_or task.reads place []) read_faults read_last old new → ⊥
+      NoFileFault = (place : ℕ) → place < length task.reads → RoseAt (get_or task.reads place no_reading).0 read_faults read_last old new → ⊥
 
       at_told : (P : Files → List ℕ → Type 0) → OnSources task content input P → P files bytes
       at_told P k = at task.reads_input given (subst (λ c. IfSome c (λ held. OnInput task.reads_input input (P held))) told k)
@@ -339,41 +380,34 @@ module _ (words : List Text) (request : Request) (limits : Limits) (content : Op
       no_file : (file : List ℕ) → NoFileFault → IsFileFault limits content task file read_faults read_last old new from from' opens opens' → ⊥
       no_file file shelf x = shelf x.reached.place x.reached.within (record { count = x.shelf.count; name_is = x.shelf.name_is ∙ ap (λ (name : List ℕ). Some name) (sym x.reached.name) })
 
+      abbrev Stopped : Files → List ℕ → Type 0
+      Stopped held all = (refusal task limits held all ≡ None) × SomeWritten (written task limits held all) (λ w. Stops w content content' before now sink sink' faults last old new)
+
       pub complete : (o : Outcome) → Ran o → Faulted o → refusal task limits files bytes ≡ None → NoFileFault → (task.reads_input ≡ true → Rose count count' → ⊥)
-          → ((place : ℕ) → place < length (output words limits files bytes).written.files → RoseAt (file_at (output words limits files bytes).written.files place).0 faults last old new → ⊥)
+          → ((out : Output) (place : ℕ) → output words limits files bytes out → place < length out.written.files → RoseAt (file_at out.written.files place).0 faults last old new → ⊥)
           → (Rose sink sink' → ⊥) → IsDoneOrNoMemory o
       complete Done r f none shelf input_fault writes sink_fault = tt
       complete Usage r f none shelf input_fault writes sink_fault = absurd r
       complete (Refused file rec why) r f none shelf input_fault writes sink_fault = absurd (none_is_some (file, rec, why) (sym none ∙ at_told (λ held all. refusal task limits held all ≡ Some (file, rec, why)) r.0))
       complete (ReadFault file) r (inl x) none shelf input_fault writes sink_fault = absurd (no_file file shelf x)
       complete (ReadFault file) r (inr x) none shelf input_fault writes sink_fault = absurd (input_fault x.1.reads_input x.1.rose)
-      complete WriteFault r f none shelf input_fault writes sink_fault = absurd (at (at_told Stopped r.0).1)
+      complete WriteFault r f none shelf input_fault writes sink_fault =
+          let told = at_told Stopped r.0 in
+          absurd (at told.1.0 told.1.1 told.1.2)
         where
-          Stopped : Files → List ℕ → Type 0
-          Stopped held all = (refusal task limits held all ≡ None)
-              × (StopsAtFile (written task limits held all) content content' before now sink sink' faults last old new ⊎ StopsAtSink (written task limits held all) content content' before now sink sink' faults last old new)
-
-          made : Written
-          made = written task limits files bytes
-
-          at : StopsAtFile made content content' before now sink sink' faults last old new ⊎ StopsAtSink made content content' before now sink sink' faults last old new → ⊥
-          at (inl s) =
-              let o = accepted_output words request limits files bytes is none in
-              writes s.file.place (subst (λ (w : Written). s.file.place < length w.files) (ap (λ x. x.written) (sym o)) s.file.within)
-              (subst (λ (w : Written). RoseAt (file_at w.files s.file.place).0 faults last old new) (ap (λ x. x.written) (sym o)) s.file.shelf)
-          at (inr s) = sink_fault s.sink_count
+          at : (w : Written) → written task limits files bytes w → Stops w content content' before now sink sink' faults last old new → ⊥
+          at w may (inl s) = writes (record { status = 0; written = w }) s.file.place (output_accepted words request limits files bytes w is none may) s.file.within s.file.shelf
+          at w may (inr s) = sink_fault s.sink_count
       complete NoMemory r f none shelf input_fault writes sink_fault = tt
 
       pub not_accepted : (o : Outcome) (file : List ℕ) (rec : ℕ) (why : Why) → Ran o → Faulted o → refusal task limits files bytes ≡ Some (file, rec, why) → NoFileFault
           → (first_refusal limits files task.reads ≡ None → Rose count count' → ⊥) → IsRefusedOrNoMemory o
       not_accepted Done file rec why r f some shelf input_fault =
-          absurd (none_is_some (file, rec, why) (sym (at_told (λ held all. (refusal task limits held all ≡ None) × IsWhole (written task limits held all) content content' before now) r.0).0 ∙ some))
+          absurd (none_is_some (file, rec, why) (sym (at_told (λ held all. (refusal task limits held all ≡ None) × SomeWritten (written task limits held all) (λ w. IsWhole w content content' before now)) r.0).0 ∙ some))
       not_accepted Usage file rec why r f some shelf input_fault = absurd r
       not_accepted (Refused name n y) file rec why r f some shelf input_fault = tt
       not_accepted (ReadFault name) file rec why r (inl x) some shelf input_fault = absurd (no_file name shelf x)
       not_accepted (ReadFault name) file rec why r (inr x) some shelf input_fault =
           absurd (input_fault (subst (λ c. IfSome c (λ held. first_refusal limits held task.reads ≡ None)) told x.0.accepted) x.1.rose)
-      not_accepted WriteFault file rec why r f some shelf input_fault =
-          absurd (none_is_some (file, rec, why) (sym (at_told (λ held all. (refusal task limits held all ≡ None)
-          × (StopsAtFile (written task limits held all) content content' before now sink sink' faults last old new ⊎ StopsAtSink (written task limits held all) content content' before now sink sink' faults last old new)) r.0).0 ∙ some))
+      not_accepted WriteFault file rec why r f some shelf input_fault = absurd (none_is_some (file, rec, why) (sym (at_told Stopped r.0).0 ∙ some))
       not_accepted NoMemory file rec why r f some shelf input_fault = tt

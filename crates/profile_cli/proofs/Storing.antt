@@ -1,16 +1,10 @@
 -- Files that are written one after another.
-use Rattle.std.proofs.Common.{◌≡◌, ◌∙◌, ℕ, zero, suc, ◌+◌, ◌<◌, refl, sym, ap, arith, List, [], ◌∷◌, ◌++◌, length, get_or, take, Option, Some, None}
+use Rattle.std.proofs.Common.{◌≡◌, ◌∙◌, ℕ, ◌+◌, ◌<◌, refl, sym, ap, List, [], ◌∷◌, ◌++◌, length, get_or, take, Option, Some, None}
 use Rattle.std.specs.Option.{option_map}
 use Rattle.std.proofs.lemmas.List.{take_more}
 use Rattle.ports.specs.Files.{Files, with_file}
 use Rattle.ports.specs.Lists.{File}
 use Rattle.profile_cli.specs.Output.{with_files}
-
--- the place of a list, whatever stands for a place that is not there
-pub at_place : {X : Type 0} (xs : List X) (n : ℕ) (y d : X) → n < length xs → y ≡ get_or xs n y → y ≡ get_or xs n d
-at_place [] n y d h e = absurd (omega arith)
-at_place (x ∷ xs) zero y d h e = e
-at_place (x ∷ xs) (suc n) y d h e = at_place xs n y d (omega arith) e
 
 with_files-append : (xs : List File) (y : File) (held : Files) → with_files (xs ++ y ∷ []) held ≡ with_file y.0 y.1 (with_files xs held)
 unfolding with_files

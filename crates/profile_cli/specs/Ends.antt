@@ -1,5 +1,5 @@
 -- What each end of a run says of the outside, for any command.
-use Rattle.std.specs.Prelude.{◌≡◌, ◌⊎◌, ◌<◌, ◌≤◌, ◌+◌, ℕ, Bool, true, false, List, [], length, take, slice_index_or, Option, Some, None, IfSome, ⊤}
+use Rattle.std.specs.Prelude.{◌≡◌, ◌⊎◌, ◌<◌, ◌≤◌, ◌+◌, ℕ, Bool, true, false, List, [], length, take, slice_index_or, Option, Some, None, IfSome, Result, Ok, Err, ⊤}
 use Rattle.std.specs.Option.{option_map}
 use Rattle.rel_base.specs.declared.limits.Limits.{Limits}
 use Rattle.rel_base.specs.declared.why.Why.{Why}
@@ -13,11 +13,11 @@ use Rattle.ports.specs.Whole.{Puts, Stores, put_failed}
 use Rattle.ports.specs.declared.putting.Putting.{Putting}
 use Rattle.ports.specs.declared.whole_files.Storing.{Storing}
 use Rattle.ports.specs.declared.whole_files.Storing.TheVariants.{Stored, Failed}
-use Rattle.csv_load.specs.Refusal.{refused_file}
 use Rattle.report_text.specs.Outcome.{file_line, fault_line}
-use Rattle.profile_cli.specs.Contents.{first_refusal}
-use Rattle.profile_cli.specs.Task.{Task}
-use Rattle.profile_cli.specs.Written.{Written}
+use Rattle.profile_cli.specs.Contents.{first_refusal, refused_as}
+use Rattle.task_base.specs.Reading.{Reading, no_reading}
+use Rattle.task_base.specs.Task.{Task}
+use Rattle.task_base.specs.Written.{Written}
 use Rattle.profile_cli.specs.Output.{input_name, input_refusal, refusal, with_files, written}
 use Rattle.profile_cli.specs.declared.outcome.Outcome.{Outcome}
 use Rattle.profile_cli.specs.declared.outcome.Outcome.TheVariants.{Done, Usage, Refused, ReadFault, WriteFault, NoMemory}
@@ -42,18 +42,27 @@ abbrev pub IsReadThrough : Bool → Option (List ℕ) → Type 0
 IsReadThrough true left = IsUsedUp left
 IsReadThrough false left = ⊤
 
--- a fact of the first refusal and of what is written
-abbrev pub OnTold : Task → Limits → Option Files → Option (List ℕ) → (Option (List ℕ × ℕ × Why) → Written → Type 0) → Type 0
+-- facts of the first refusal and of what may be written
+abbrev pub Fact : Type 1
+Fact = Option (List ℕ × ℕ × Why) → (Written → Type 0) → Type 0
+
+-- such a fact
+abbrev pub OnTold : Task → Limits → Option Files → Option (List ℕ) → Fact → Type 0
 OnTold task limits content input P = OnSources task content input (λ files bytes. P (refusal task limits files bytes) (written task limits files bytes))
 
--- such a fact where the files are accepted and hold these relations
-abbrev pub OnRead : Task → Limits → List Content → Option (List ℕ) → (Option (List ℕ × ℕ × Why) → Written → Type 0) → Type 0
-OnRead task limits relations input P =
-    OnInput task.reads_input input (λ bytes. P (input_refusal task.reads_input limits bytes) (task.writes limits relations bytes))
+-- such a fact where the files are accepted and hold these relations and these texts
+abbrev pub OnRead : Task → Limits → List Content → List (List ℕ) → Option (List ℕ) → Fact → Type 0
+OnRead task limits relations texts input P =
+    OnInput task.reads_input input (λ bytes. P (input_refusal task.reads_input limits bytes) (task.writes limits (record { relations = relations; texts = texts; input = bytes })))
 
 -- such a fact of what was made, where nothing is refused
-abbrev pub OnMade : Written → (Option (List ℕ × ℕ × Why) → Written → Type 0) → Type 0
-OnMade w P = P None w
+abbrev pub OnMade : {E : Type 0} → Result Written E → Fact → Type 0
+OnMade (Ok w) P = P None (λ made. made ≡ w)
+OnMade (Err e) P = ⊥
+
+-- a fact of something that may be written
+abbrev pub SomeWritten : (Written → Type 0) → (Written → Type 0) → Type 0
+SomeWritten may P = (w : Written) × may w × P w
 
 -- ---- what stands on the sink and on the shelf
 -- A text was put on a sink: all of it, or where the sink's count rose, some first bytes.
@@ -108,19 +117,19 @@ Stops w content content' before now sink sink' faults last old new =
     StopsAtFile w content content' before now sink sink' faults last old new ⊎ StopsAtSink w content content' before now sink sink' faults last old new
 
 -- ---- what a run comes to
--- What each end says of the first refusal, of what is written and of what was written. `M` says what is known of the first two.
-abbrev pub Runs : {S : Type 0} → ((Option (List ℕ × ℕ × Why) → Written → Type 0) → Type 0) → Outcome → Option Files → Option Files → Option (List ℕ)
+-- What each end says of the first refusal, of what may be written and of what was written. `M` says what is known of the first two.
+abbrev pub Runs : {S : Type 0} → (Fact → Type 0) → Outcome → Option Files → Option Files → Option (List ℕ)
     → Option (List ℕ) → ℕ → ℕ
     → (S → ℕ) → (S → Option (List ℕ)) → S → S → Type 0
 Runs M Done content content' before now sink sink' faults last old new =
-    M (λ r w. (r ≡ None) × IsWhole w content content' before now) × (sink' ≡ sink) × SameFaults faults last old new
+    M (λ r may. (r ≡ None) × SomeWritten may (λ w. IsWhole w content content' before now)) × (sink' ≡ sink) × SameFaults faults last old new
 Runs M Usage content content' before now sink sink' faults last old new = ⊥
 Runs M (Refused file rec why) content content' before now sink sink' faults last old new =
-    M (λ r w. r ≡ Some (file, rec, why)) × IsPut (file_line file rec why) before now sink sink' × IsUnwritten content content' faults last old new
+    M (λ r may. r ≡ Some (file, rec, why)) × IsPut (file_line file rec why) before now sink sink' × IsUnwritten content content' faults last old new
 Runs M (ReadFault file) content content' before now sink sink' faults last old new =
     IsPut (fault_line file) before now sink sink' × IsUnwritten content content' faults last old new
 Runs M WriteFault content content' before now sink sink' faults last old new =
-    M (λ r w. (r ≡ None) × Stops w content content' before now sink sink' faults last old new)
+    M (λ r may. (r ≡ None) × SomeWritten may (λ w. Stops w content content' before now sink sink' faults last old new))
     × (Rose sink sink' ⊎ Rose (faults old) (faults new))
 Runs M NoMemory content content' before now sink sink' faults last old new = (now ≡ before) × (sink' ≡ sink) × IsUnwritten content content' faults last old new
 
@@ -136,18 +145,18 @@ EndsWith WriteFault wanted line before now faults faults' = (WriteFault ≡ want
 -- ---- where a run ends before it writes
 -- This file is one of those that are read, no file before it is refused, and none behind it was opened: so many files were opened at most as there are
 -- up to it.
-pub record IsReached (limits : Limits) (content : Option Files) (names : List (List ℕ)) (file : List ℕ) (opens opens' : ℕ) : Type 0 where
+pub record IsReached (limits : Limits) (content : Option Files) (reads : List Reading) (file : List ℕ) (opens opens' : ℕ) : Type 0 where
   pub place : ℕ
-  pub within : place < length names
-  pub name : slice_index_or names place [] ≡ file
-  pub accepted : IfSome content (λ files. first_refusal limits files (take place names) ≡ None)
+  pub within : place < length reads
+  pub name : (slice_index_or reads place no_reading).0 ≡ file
+  pub accepted : IfSome content (λ files. first_refusal limits files (take place reads) ≡ None)
   pub opened : opens' ≤ opens + (place + 1)
 
 -- This file is the first that a rule refuses, and the input was left as it was.
 pub record IsFileRefusal {I : Type 0} (limits : Limits) (content : Option Files) (task : Task) (file : List ℕ) (rec : ℕ) (why : Why)
     (input input' : I) (opens opens' : ℕ) : Type 0 where
   pub reached : IsReached limits content task.reads file opens opens'
-  pub refused : IfSome content (λ files. refused_file limits (bytes_of files file) ≡ Some (rec, why))
+  pub refused : IfSome content (λ files. refused_as (slice_index_or task.reads reached.place no_reading).1 limits (bytes_of files file) ≡ Some (rec, why))
   pub unread : input' ≡ input
 
 -- The input is too long, and no more of it was read than one byte behind the limit.
@@ -177,7 +186,7 @@ pub record IsInputFault (limits : Limits) (reads : Bool) (file : List ℕ) (left
   pub moved : Moves left left' came
 
 -- all files are accepted, and no call on one of them failed
-pub record AreAccepted {S : Type 0} (limits : Limits) (content : Option Files) (names : List (List ℕ)) (faults : S → ℕ)
+pub record AreAccepted {S : Type 0} (limits : Limits) (content : Option Files) (reads : List Reading) (faults : S → ℕ)
     (last : S → Option (List ℕ)) (old new : S) : Type 0 where
-  pub accepted : IfSome content (λ files. first_refusal limits files names ≡ None)
+  pub accepted : IfSome content (λ files. first_refusal limits files reads ≡ None)
   pub shelf : SameFaults faults last old new

@@ -1,11 +1,31 @@
 // Laws of the definitions in specs/. Each function does nothing, and its contract is the law.
-ghost use Rattle.std.specs.Prelude.{◌≡◌, Some, List};
+ghost use Rattle.std.specs.Prelude.{◌≡◌, ℕ, Some, List};
 ghost use Rattle.clap.specs.Walk.{Text};
-ghost use Rattle.profile_cli.specs.Command.{command};
-ghost use Rattle.profile_cli.specs.Task.{HasWorkers, task_of};
-ghost use Rattle.profile_cli.specs.declared.request.Request.{Request};
+ghost use Rattle.cli_words.specs.Command.{command};
+ghost use Rattle.cli_words.specs.declared.request.Request.{Request};
+ghost use Rattle.cli_words.specs.declared.request.Request.TheVariants.{Normalize};
+ghost use Rattle.normalize_text.specs.Joined.{AreLosslessTables};
+ghost use Rattle.ports.specs.Files.{Files, bytes_of};
+ghost use Rattle.profile_cli.specs.Contents.{file_content};
+ghost use Rattle.profile_cli.specs.Output.{Output, output};
+ghost use Rattle.profile_cli.specs.Task.{task_of};
+ghost use Rattle.rel_base.specs.RowState.{opened};
+ghost use Rattle.rel_base.specs.declared.limits.Limits.{Limits};
+ghost use Rattle.rel_base.specs.declared.nulls.Nulls.TheVariants.{Equal};
+ghost use Rattle.task_base.specs.Task.{HasWorkers};
 
 /// Words that are a command ask for 1 to 16 workers.
 pub fn a_command_has_workers()
     ensures { (words : List Text) (request : Request) → command words ≡ Some request → HasWorkers (task_of request) }
+{}
+
+/// The files of each output of `normalize` hold projections of the rows of its file, each in Boyce-Codd normal form, whose natural join is the distinct rows.
+pub fn normalize_writes_a_lossless_split()
+    ensures { (words : List Text) (workers : ℕ) (prefix file : List ℕ) (limits : Limits) (files : Files) (input : List ℕ) (o : Output) → command words ≡ Some (Normalize workers prefix file)
+        → output words limits files input o → o.status ≡ 0 → AreLosslessTables (opened Equal limits.rows (file_content (bytes_of files file))) o.written.files }
+{}
+
+/// A run has one output alone: no command leaves a choice of what is written.
+pub fn a_run_has_one_output()
+    ensures { (words : List Text) (limits : Limits) (files : Files) (input : List ℕ) (a b : Output) → output words limits files input a → output words limits files input b → a ≡ b }
 {}

@@ -1,20 +1,29 @@
 // Files read, one after another, before anything is computed.
-ghost use Rattle.std.specs.Prelude.{◌≡◌, ◌≤◌, ◌+◌, ℕ, List, length, IfSome};
+ghost use Rattle.std.specs.Prelude.{◌≡◌, ◌≤◌, ◌+◌, ◌++◌, ℕ, List, [], false, length, IfSome, OnOk};
 ghost use Rattle.ports.specs.Faults.{CountsAt, SameFaults};
 ghost use Rattle.ports.specs.Files.{Nothing, bytes_of};
 ghost use Rattle.ports.specs.Whole.{Loads, load_failed};
-ghost use Rattle.profile_cli.specs.FilesRead.{faulted, Understands, any_faulted, fault_name, most_opened, IsOfFiles, UnderstandsAll};
+ghost use Rattle.profile_cli.specs.FilesRead.{faulted, Understands, any_faulted, fault_name, most_opened, relation_in, text_in, IsOfFiles, IsReadAs, UnderstandsAll};
+ghost use Rattle.task_base.specs.declared.reads.ReadAs.TheVariants as ways;
 
 use csv_load::{Loaded, read_relation_by};
-use ports::{Loading, Shelf, load_file};
-use rel_base::{Limits, Name, Relation, Why};
-use std::alloc::Global;
+use ports::{Loading, Shelf, Text, load_file};
+use rel_base::{Name, Relation, Why};
+use std::alloc::{AllocError, Global};
 use std::thread::Threads;
+use task_base::{Means, ReadAs, Reads};
+
+/// What a file holds, by how it is read.
+#[derive(Drop)]
+pub(crate) enum Held {
+    Relation(Relation),
+    Text(Text),
+}
 
 /// What reading one file comes to.
 #[derive(Drop)]
 pub(crate) enum FileRead {
-    Read(Relation),
+    Read(Held),
     /// A rule refuses it.
     Refused { rec: u64, why: Why },
     /// A call on it failed.
@@ -22,11 +31,18 @@ pub(crate) enum FileRead {
     NoMemory,
 }
 
+/// What files hold: the relations in their order, and the texts in theirs.
+#[derive(Drop)]
+pub(crate) struct Found {
+    pub(crate) relations: Vec<Relation>,
+    pub(crate) texts: Vec<Text>,
+}
+
 /// What reading files comes to. A file is named by its place.
 #[derive(Drop)]
 pub(crate) enum FilesRead {
-    /// The relation of each.
-    Read(Vec<Relation>),
+    /// What all of them hold.
+    Read(Found),
     /// This one is the first that a rule refuses, and none after it was read.
     Refused { place: usize, rec: u64, why: Why },
     /// A call on this one failed, and none before it is refused.
@@ -34,25 +50,60 @@ pub(crate) enum FilesRead {
     NoMemory,
 }
 
-// The relation in the bytes that were loaded, read by so many workers at most, or why there is none.
-fn understood<R: Threads + Sync>(
+impl Found {
+    // Nothing so far.
+    fn nothing(alloc: Global) -> Found
+        ensures relations { result.relations.items ≡ [] }
+        ensures texts { result.texts.items ≡ [] }
+    {
+        Found {
+            relations: Vec::new(alloc),
+            texts: Vec::new(alloc),
+        }
+    }
+
+    // What one file more holds.
+    fn push(&mut self, held: Held) -> Result<(), AllocError>
+        ensures relations { OnOk result (self.new.relations.items ≡ self.old.relations.items ++ relation_in held) }
+        ensures texts { OnOk result (self.new.texts.items ≡ self.old.texts.items ++ text_in held) }
+    {
+        match held {
+            Held::Relation(relation) => self.relations.push(relation)?,
+            Held::Text(text) => self.texts.push(text)?,
+        }
+        Ok(())
+    }
+}
+
+// The relation that these bytes are, if they are one.
+fn relation_of<R: Threads + Sync, G>(rt: &R, means: &Means<'_, G>, bytes: &[u8]) -> FileRead
+    ensures relation { IsReadAs result ways.Relation }
+    ensures failed { faulted result ≡ false }
+    ensures bytes { length bytes.now ≤ means.now.limits.bytes → Understands result ways.Relation means.now.limits bytes.now }
+{
+    match read_relation_by(rt, means.alloc, bytes, &means.limits, means.workers) {
+        Loaded::Read(relation) => FileRead::Read(Held::Relation(relation)),
+        Loaded::Refused { rec, why } => FileRead::Refused { rec, why },
+        Loaded::NoMemory => FileRead::NoMemory,
+    }
+}
+
+// What the bytes that were loaded hold, or why that is nothing.
+fn understood<R: Threads + Sync, G>(
     rt: &R,
-    alloc: Global,
+    means: &Means<'_, G>,
     loading: Loading,
-    limits: &Limits,
-    workers: u8,
+    read_as: ReadAs,
 ) -> FileRead
+    ensures read_as { IsReadAs result read_as }
     ensures failed { faulted result ≡ load_failed loading }
-    ensures bytes { (bytes : List ℕ) → Loads loading limits.now.bytes bytes → Understands result limits.now bytes }
+    ensures bytes { (bytes : List ℕ) → Loads loading means.now.limits.bytes bytes → Understands result read_as means.now.limits bytes }
 {
     match loading {
-        Loading::Loaded(bytes) => {
-            match read_relation_by(rt, alloc, bytes.as_slice(), limits, workers) {
-                Loaded::Read(relation) => FileRead::Read(relation),
-                Loaded::Refused { rec, why } => FileRead::Refused { rec, why },
-                Loaded::NoMemory => FileRead::NoMemory,
-            }
-        }
+        Loading::Loaded(bytes) => match read_as {
+            ReadAs::Relation => relation_of(rt, means, bytes.as_slice()),
+            ReadAs::Text => FileRead::Read(Held::Text(Text::of(bytes))),
+        },
         Loading::TooLong => FileRead::Refused {
             rec: 0,
             why: Why::Bytes,
@@ -62,17 +113,17 @@ fn understood<R: Threads + Sync>(
     }
 }
 
-/// Reads one file, by so many workers at most.
-pub(crate) fn read_file<R: Threads + Sync, H: Shelf>(
+/// Reads one file.
+pub(crate) fn read_file<R: Threads + Sync, H: Shelf, G>(
     rt: &R,
-    alloc: Global,
+    means: &Means<'_, G>,
     shelf: &mut H,
     name: &Name,
-    limits: &Limits,
-    workers: u8,
+    read_as: ReadAs,
 ) -> FileRead
     requires { H.opened shelf.old ≡ Nothing }
-    ensures bytes { IfSome (H.content shelf.old) (λ files. Understands result limits.now (bytes_of files name.now)) }
+    ensures bytes { IfSome (H.content shelf.old) (λ files. Understands result read_as means.now.limits (bytes_of files name.now)) }
+    ensures read_as { IsReadAs result read_as }
     ensures content { H.content shelf.new ≡ H.content shelf.old }
     ensures closed { H.opened shelf.new ≡ Nothing }
     ensures reads { CountsAt (faulted result) name.now H.read_faults H.read_last shelf.old shelf.new }
@@ -81,36 +132,35 @@ pub(crate) fn read_file<R: Threads + Sync, H: Shelf>(
 {
     match name.clone() {
         Ok(own) => {
-            let loading = load_file(alloc, shelf, own, limits.bytes);
-            understood(rt, alloc, loading, limits, workers)
+            let loading = load_file(means.alloc, shelf, own, means.limits.bytes);
+            understood(rt, means, loading, read_as)
         }
         Err(_) => FileRead::NoMemory,
     }
 }
 
-/// Reads these files in order, each by so many workers at most, up to the first that is refused or fails. None behind it is opened.
-pub(crate) fn read_files<R: Threads + Sync, H: Shelf>(
+/// Reads these files in order, up to the first that is refused or fails. None behind it is opened.
+pub(crate) fn read_files<R: Threads + Sync, H: Shelf, G>(
     rt: &R,
-    alloc: Global,
+    means: &Means<'_, G>,
     shelf: &mut H,
-    names: &[Name],
-    limits: &Limits,
-    workers: u8,
+    reads: &Reads<'_>,
 ) -> FilesRead
     requires { H.opened shelf.old ≡ Nothing }
-    ensures files { IfSome (H.content shelf.old) (UnderstandsAll result limits.now names.now) }
-    ensures places { IsOfFiles result names.now }
+    ensures files { IfSome (H.content shelf.old) (UnderstandsAll result means.now.limits reads.now) }
+    ensures places { IsOfFiles result reads.now }
     ensures content { H.content shelf.new ≡ H.content shelf.old }
     ensures closed { H.opened shelf.new ≡ Nothing }
-    ensures reads { CountsAt (any_faulted result) (fault_name result names.now) H.read_faults H.read_last shelf.old shelf.new }
-    ensures opens { H.opens shelf.new ≤ H.opens shelf.old + most_opened result (length names.now) }
+    ensures reads { CountsAt (any_faulted result) (fault_name result reads.now) H.read_faults H.read_last shelf.old shelf.new }
+    ensures opens { H.opens shelf.new ≤ H.opens shelf.old + most_opened result (length reads.now) }
     ensures writes { SameFaults H.write_faults H.write_last shelf.old shelf.new }
 {
-    let mut relations = Vec::new(alloc);
-    for place in 0..names.len() {
-        match read_file(rt, alloc, shelf, &names[place], limits, workers) {
-            FileRead::Read(relation) => {
-                if relations.push(relation).is_err() {
+    let mut found = Found::nothing(means.alloc);
+    for place in 0..reads.len() {
+        let (name, read_as) = reads.at(place);
+        match read_file(rt, means, shelf, name, read_as) {
+            FileRead::Read(held) => {
+                if found.push(held).is_err() {
                     return FilesRead::NoMemory;
                 }
             }
@@ -119,5 +169,5 @@ pub(crate) fn read_files<R: Threads + Sync, H: Shelf>(
             FileRead::NoMemory => return FilesRead::NoMemory,
         }
     }
-    FilesRead::Read(relations)
+    FilesRead::Read(found)
 }

@@ -2,6 +2,7 @@
 ghost use Rattle.std.specs.Prelude.{◌≡◌, ◌<◌, IfOk};
 ghost use Rattle.ports.specs.Files.{Nothing};
 
+mod approximate;
 mod beside;
 mod hostile;
 mod reports;
@@ -12,6 +13,7 @@ mod tables;
 mod words;
 
 use crate::{Outcome, run};
+use approximate::APPROXIMATE;
 use ports::{Gate, Kind, MemShelf, MemSink, MemSource, OpenGate, Text};
 use rel_base::{Limits, Name};
 use reports::{FILES_IN_ORDER, ONE_FILE};
@@ -305,6 +307,12 @@ fn expect_all<R: Threads + Wait + Sync + Abort>(
     for case in cases {
         expect(rt, alloc, case)?;
     }
+    Ok(())
+}
+
+#[test]
+fn dependencies_that_hold_but_for_a_few_rows(rt: HostRuntime) -> Result<(), Fail> {
+    expect_all(&rt, rt.alloc(), &APPROXIMATE)?;
     Ok(())
 }
 

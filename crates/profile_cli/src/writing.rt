@@ -1,16 +1,15 @@
 // What was made, written.
-ghost use Rattle.std.specs.Prelude.{◌≡◌, IfOk};
+ghost use Rattle.std.specs.Prelude.{◌≡◌};
 ghost use Rattle.ports.specs.Faults.{SameFaults};
 ghost use Rattle.ports.specs.Files.{Nothing};
 ghost use Rattle.profile_cli.specs.Ends.{OnMade, Runs, StoresAll};
 ghost use Rattle.profile_cli.specs.Outcomes.{IsWritingEnd};
-ghost use Rattle.profile_cli.specs.Written.{Written};
 
 use crate::Outcome;
-use crate::made::Made;
 use ports::{Putting, Shelf, Sink, Storing, Text, put_all, store_file};
 use rel_base::Name;
 use std::alloc::AllocError;
+use task_base::Made;
 
 // Writes the files one after another, up to the first that fails.
 fn store_all<H: Shelf>(shelf: &mut H, files: Vec<(Name, Text)>) -> Storing
@@ -36,8 +35,7 @@ pub(crate) fn write_made<H: Shelf, O: Sink>(
     out: &mut O,
 ) -> Outcome
     requires { H.opened shelf.old ≡ Nothing }
-    ensures runs { (w : Written) → IfOk made (λ m. m ≡ w)
-        → Runs (OnMade w) result (H.content shelf.old) (H.content shelf.new) (O.held out.old) (O.held out.new) (O.faults out.old) (O.faults out.new) H.write_faults H.write_last shelf.old shelf.new }
+    ensures runs { Runs (OnMade made) result (H.content shelf.old) (H.content shelf.new) (O.held out.old) (O.held out.new) (O.faults out.old) (O.faults out.new) H.write_faults H.write_last shelf.old shelf.new }
     ensures end { IsWritingEnd result }
     ensures room { O.room out.new ≡ O.room out.old }
     ensures closed { H.opened shelf.new ≡ Nothing }

@@ -17,3 +17,5 @@ pub mod Ordered
 pub mod Alike
 pub mod Equal
 pub mod Live
+pub mod Whole
+pub mod Adjacent

@@ -1,30 +1,35 @@
 -- Covers and inclusions list each fact once, in order.
-use Rattle.std.proofs.Common.{◌≡◌, ℕ, ◌+◌, ◌<◌, Ordering, sym, ap, ◌∙◌, subst, arith, List, [], ◌∷◌, length, map, Less}
+use Rattle.std.proofs.Common.{inl, inr, refl, ◌≡◌, ℕ, ◌+◌, ◌<◌, ◌≤◌, Ordering, sym, ap, ◌∙◌, subst, arith, List, [], ◌∷◌, length, map, Less}
 use Rattle.std.specs.List.{filter, flat_map, Contains}
 use Rattle.std.specs.Ordering.{nat_cmp, ordering_then}
 use Rattle.std.proofs.lemmas.Cmp.{nat_cmp_total, tied_itself}
+use Rattle.col_set.specs.declared.col_set.TheConstants.{MOST_COLUMNS}
+use Rattle.col_set.specs.declared.target.Target.TheVariants.{Col, RowId}
 use Rattle.col_set.specs.ColSet.{Columns, upto, all_sets, report_cmp}
+use Rattle.col_set.specs.Evidence.{least}
 use Rattle.col_set.specs.Columns.{nat_cmp-lt}
 use Rattle.col_set.specs.Lists.{Listed, Rises, Listed-filter, Listed-filter_parts, Listed-map, Listed-map_which, Listed-flat_map, Listed-flat_map_which, Rises-filter, Rises-map, Rises-append}
 use Rattle.col_set.specs.AllSets.{Ascends, Ascends-range, Ascends_within, Listed-upto, Listed-upto_within, Listed-all_sets, all_sets_below, Rises-all_sets}
 use Rattle.col_set.proofs.Places.{Contains-listed, Listed-contained, AllPairs-rises}
+use Rattle.col_set.proofs.More.{Rises-least}
 use Rattle.rel_base.specs.declared.dependency.Fd.{Fd}
 use Rattle.rel_base.specs.Cells.{Cell}
 use Rattle.rel_base.specs.RowState.{RowState, IsRowState, width}
+use Rattle.rel_base.specs.Validity.{agree_sets}
 use Rattle.rel_base.specs.Minimality.{min_fd, MinFd, min_key, MinKey}
-use Rattle.rel_base.specs.Covers.{fds_to, covers}
+use Rattle.rel_base.specs.Covers.{fd_cmp, fds_to, covers, least_covers, AreInOrder, IsInOrder}
 use Rattle.rel_base.specs.Inclusion.{included, Included, inclusions}
-use Rattle.rel_base.specs.Laws.{fd_cmp, CoversListed, pair_cmp, InclusionsListed}
-use Rattle.rel_base.proofs.States.{live_climbs}
-use Rattle.rel_base.proofs.Minima.{MinFd-tested, min_fd-true, MinKey-tested, min_key-true}
+use Rattle.rel_base.specs.Laws.{CoversListed, pair_cmp, InclusionsListed}
+use Rattle.rel_base.proofs.States.{All-from, live_climbs}
+use Rattle.rel_base.proofs.Minima.{MinFd-tested, min_fd-true, MinKey-tested, min_key-true, covers-least}
 use Rattle.rel_base.proofs.Parts.{Included-tested, included-true}
 
 -- lists made for each of some ascending numbers, each in order and each element of the first before each of a later one, are in order
 module _ {Y : Type 0} where
-  rises_each : (R : Y → Y → Ordering) (f : ℕ → List Y) (a b : ℕ) (ns : List ℕ) → Ascends a b ns → ((n : ℕ) → Rises R (f n))
+  rises_each : (R : Y → Y → Ordering) (f : ℕ → List Y) (a b : ℕ) (ns : List ℕ) → Ascends a b ns → ((n : ℕ) → Listed n ns → Rises R (f n))
       → ((m n : ℕ) (x y : Y) → m < n → Listed x (f m) → Listed y (f n) → R x y ≡ Less) → Rises R (flat_map f ns)
   rises_each R f a b [] up own across = tt
-  rises_each R f a b (n ∷ ns) up own across = Rises-append R (f n) (flat_map f ns) (own n) (rises_each R f (n + 1) b ns up.2 own across)
+  rises_each R f a b (n ∷ ns) up own across = Rises-append R (f n) (flat_map f ns) (own n (inl refl)) (rises_each R f (n + 1) b ns up.2 (λ m h. own m (inr h)) across)
       (λ x y h g. let w = Listed-flat_map_which f y ns g in let l = (Ascends_within (n + 1) b w.0 ns up.2 w.1).0 in across n w.0 x y (omega arith) h w.2)
 
 then_less : (a b : ℕ) (o : Ordering) → a < b → ordering_then (nat_cmp a b) o ≡ Less
@@ -32,6 +37,44 @@ then_less a b o l = ap (λ c. ordering_then c o) (nat_cmp-lt a b l)
 
 then_tied : (a : ℕ) (o : Ordering) → o ≡ Less → ordering_then (nat_cmp a a) o ≡ Less
 then_tied a o e = ap (λ c. ordering_then c o) (tied_itself nat_cmp_total a) ∙ e
+
+-- ---- dependencies of left sides in order
+module _ (lefts : ℕ → List Columns) where
+  to_one : (a : ℕ) → Rises report_cmp (lefts a) → Rises fd_cmp (fds_to a (lefts a))
+  to_one a up = Rises-map report_cmp fd_cmp (λ (x : ℕ). record { left = x; right = a }) (lefts a) up (λ x y h g e. then_tied a (report_cmp x y) e)
+
+  to_two : (a b : ℕ) (f g : Fd) → a < b → Listed f (fds_to a (lefts a)) → Listed g (fds_to b (lefts b)) → fd_cmp f g ≡ Less
+  to_two a b f g l h i =
+      let w = Listed-map_which (λ (x : ℕ). record { left = x; right = a }) f (lefts a) h in
+      let v = Listed-map_which (λ (x : ℕ). record { left = x; right = b }) g (lefts b) i in
+      subst (λ (f : Fd). fd_cmp f g ≡ Less) (sym w.2) (subst (λ (g : Fd). fd_cmp (record { left = w.0; right = a }) g ≡ Less) (sym v.2) (then_less a b (report_cmp w.0 v.0) l))
+
+  pub fds-rise : (n : ℕ) → ((a : ℕ) → a < n → Rises report_cmp (lefts a)) → Rises fd_cmp (flat_map (λ a. fds_to a (lefts a)) (upto n))
+  fds-rise n up = rises_each fd_cmp (λ a. fds_to a (lefts a)) 0 n (upto n) (Ascends-range n 0 n (omega arith)) (λ a h. to_one a (up a (Listed-upto_within n a h))) to_two
+
+  fds-narrow : (n : ℕ) → n ≤ MOST_COLUMNS → (f : Fd) → Listed f (flat_map (λ a. fds_to a (lefts a)) (upto n)) → f.right < MOST_COLUMNS
+  fds-narrow n l f h =
+      let w = Listed-flat_map_which (λ a. fds_to a (lefts a)) f (upto n) h in
+      let v = Listed-map_which (λ (x : ℕ). record { left = x; right = w.0 }) f (lefts w.0) w.2 in
+      let b = Listed-upto_within n w.0 w.1 in
+      subst (λ (g : Fd). g.right < MOST_COLUMNS) (sym v.2) (let g : w.0 < MOST_COLUMNS = omega arith in g)
+
+  pub fds-in_order : (n : ℕ) → n ≤ MOST_COLUMNS → ((a : ℕ) → a < n → Rises report_cmp (lefts a)) → IsInOrder (flat_map (λ a. fds_to a (lefts a)) (upto n))
+  fds-in_order n l up = record {
+    rising = AllPairs-rises fd_cmp _ (fds-rise n up);
+    narrow = All-from (λ (f : Fd). f.right < MOST_COLUMNS) _ (fds-narrow n l);
+  }
+
+-- what agree sets leave stands in order
+pub least_covers-in_order : (n : ℕ) (ws : List Columns) → n ≤ MOST_COLUMNS → AreInOrder (least_covers n ws)
+unfolding least_covers
+least_covers-in_order n ws l = record {
+  keys = AllPairs-rises report_cmp _ (Rises-least n ws RowId);
+  fds = fds-in_order (λ a. least n ws (Col a)) n l (λ a b. Rises-least n ws (Col a));
+}
+
+pub covers-in_order : (r : RowState) → IsRowState r → AreInOrder (covers r)
+covers-in_order r is = subst AreInOrder (sym (covers-least r)) (least_covers-in_order (width r) (agree_sets r) is.narrow)
 
 -- ---- covers
 module _ (r : RowState) (is : IsRowState r) where
@@ -64,20 +107,9 @@ module _ (r : RowState) (is : IsRowState r) where
   unfolding covers
   keys_rise = Rises-filter report_cmp (min_key r) (all_sets (width r)) (Rises-all_sets (width r))
 
-  to_one : (a : ℕ) → Rises fd_cmp (fds_to a (lefts a))
-  to_one a = Rises-map report_cmp fd_cmp (λ (x : ℕ). record { left = x; right = a }) (lefts a)
-      (Rises-filter report_cmp (λ x. min_fd r x a) (all_sets (width r)) (Rises-all_sets (width r)))
-      (λ x y h g e. then_tied a (report_cmp x y) e)
-
-  to_two : (a b : ℕ) (f g : Fd) → a < b → Listed f (fds_to a (lefts a)) → Listed g (fds_to b (lefts b)) → fd_cmp f g ≡ Less
-  to_two a b f g l h i =
-      let w = Listed-map_which (λ (x : ℕ). record { left = x; right = a }) f (lefts a) h in
-      let v = Listed-map_which (λ (x : ℕ). record { left = x; right = b }) g (lefts b) i in
-      subst (λ (f : Fd). fd_cmp f g ≡ Less) (sym w.2) (subst (λ (g : Fd). fd_cmp (record { left = w.0; right = a }) g ≡ Less) (sym v.2) (then_less a b (report_cmp w.0 v.0) l))
-
   fds_rise : Rises fd_cmp (covers r).fds
   unfolding covers
-  fds_rise = rises_each fd_cmp (λ a. fds_to a (lefts a)) 0 (width r) (upto (width r)) (Ascends-range (width r) 0 (width r) (omega arith)) to_one to_two
+  fds_rise = fds-rise lefts (width r) (λ a l. Rises-filter report_cmp (λ x. min_fd r x a) (all_sets (width r)) (Rises-all_sets (width r)))
 
   pub covers-listed : CoversListed r
   covers-listed = record {
@@ -127,7 +159,7 @@ module _ (columns : List (List Cell)) where
   pairs_rise : Rises pair_cmp (inclusions columns)
   unfolding inclusions
   pairs_rise = Rises-filter pair_cmp (λ (p : ℕ × ℕ). included columns p.0 p.1) (flat_map with_each (upto (length columns)))
-      (rises_each pair_cmp with_each 0 (length columns) (upto (length columns)) (Ascends-range (length columns) 0 (length columns) (omega arith)) of_one of_two)
+      (rises_each pair_cmp with_each 0 (length columns) (upto (length columns)) (Ascends-range (length columns) 0 (length columns) (omega arith)) (λ c h. of_one c) of_two)
 
   pub inclusions-listed : InclusionsListed columns
   inclusions-listed = record {

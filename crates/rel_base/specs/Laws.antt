@@ -2,25 +2,35 @@
 use Rattle.std.specs.Prelude.{◌≡◌, ◌≢◌, ◌<◌, ◌≤◌, ◌^◌, ◌↔◌, ℕ, true, List, length, Ok}
 use Rattle.std.specs.List.{All, AllPairs, Contains}
 use Rattle.col_set.specs.declared.target.Target.{Target}
-use Rattle.col_set.specs.declared.target.Target.TheVariants.{Col}
+use Rattle.col_set.specs.declared.target.Target.TheVariants.{Col, RowId}
+use Rattle.col_set.specs.declared.col_set.TheConstants.{MOST_COLUMNS}
 use Rattle.std.specs.Ordering.{nat_cmp, on, then_cmp}
 use Rattle.std.specs.declared.cmp.Ordering.{Ordering}
 use Rattle.std.specs.declared.cmp.Ordering.TheVariants.{Less}
 use Rattle.col_set.specs.ColSet.{Columns, IsSubset, report_cmp}
+use Rattle.rel_base.specs.declared.limits.TheConstants.{MOST_ROWS, MOST_CELL_BYTES, MOST_BYTES}
 use Rattle.rel_base.specs.declared.batch.Op.{Op}
 use Rattle.rel_base.specs.declared.batch.Op.TheVariants.{Insert, Delete}
 use Rattle.rel_base.specs.Cells.{Cell, Row}
 use Rattle.rel_base.specs.CodeTable.{CodeTable}
 use Rattle.rel_base.specs.RowState.{RowState, IsRowState, width, next, row}
-use Rattle.rel_base.specs.Validity.{agree_sets, holds, Holds, holds_below, HoldsBelow, unique}
+use Rattle.rel_base.specs.Validity.{agree_of, agree_sets, holds, Holds, holds_below, HoldsBelow, unique}
 use Rattle.rel_base.specs.Minimality.{min_fd, MinFd, min_key, MinKey}
 use Rattle.rel_base.specs.declared.dependency.Fd.{Fd}
-use Rattle.rel_base.specs.Covers.{covers, least_covers}
+use Rattle.rel_base.specs.Covers.{CoverLists, fd_cmp, covers, least_covers}
 use Rattle.rel_base.specs.Batches.{applied, after_from, IsAsWide}
 use Rattle.rel_base.specs.Alike.{Alike}
 use Rattle.rel_base.specs.Shows.{Shows, holds_in, HoldsIn, holds_in_below, HoldsInBelow}
 use Rattle.rel_base.specs.Inclusion.{included, Included, inclusions}
 use Rattle.rel_base.specs.Projection.{part, projection}
+
+-- ---- limits
+-- The standard limits in digits.
+pub record StandardLimits : Type 0 where
+  pub columns : MOST_COLUMNS ≡ 128
+  pub rows : MOST_ROWS ≡ 1000000
+  pub cell : MOST_CELL_BYTES ≡ 65536
+  pub bytes : MOST_BYTES ≡ 268435456
 
 -- ---- validity
 -- The tests say what the facts say.
@@ -43,16 +53,31 @@ KeysDetermine = (r : RowState) (x : Columns) (a : ℕ) → unique r x ≡ true �
 abbrev pub CoversAreLeast : Type 0
 CoversAreLeast = (r : RowState) → covers r ≡ least_covers (width r) (agree_sets r)
 
--- the order of dependencies: by right column, then by left side in report order
-abbrev pub fd_cmp : Fd → Fd → Ordering
-fd_cmp = then_cmp (on (λ f. f.right) nat_cmp) (on (λ f. f.left) report_cmp)
-
 -- The covers have each minimal key and each minimal dependency, each once, in order, and nothing else.
 pub record CoversListed (r : RowState) : Type 0 where
   pub keys : (x : Columns) → Contains (covers r).keys x ↔ MinKey r x
   pub keys_in_order : AllPairs (λ x y. report_cmp x y ≡ Less) (covers r).keys
   pub fds : (f : Fd) → Contains (covers r).fds f ↔ MinFd r f.left f.right
   pub fds_in_order : AllPairs (λ f g. fd_cmp f g ≡ Less) (covers r).fds
+
+-- w is the agree set of two different live rows, as the relation reads NULL
+pub record IsAgreeSet (r : RowState) (w : Columns) : Type 0 where
+  pub first : ℕ
+  pub second : ℕ
+  pub first_live : Contains r.live first
+  pub second_live : Contains r.live second
+  pub different : first ≢ second
+  pub agrees : w ≡ agree_of r first second
+
+-- the listed keys are unique, and the listed dependencies hold
+pub record AllHold (r : RowState) (lists : CoverLists) : Type 0 where
+  pub keys : All (λ x. Holds r x RowId) lists.keys
+  pub fds : All (λ f. Holds r f.left (Col f.right)) lists.fds
+
+-- Where all that some agree sets of its rows leave holds in a row state, that is its covers.
+abbrev pub HoldingEvidenceLeavesCovers : Type 0
+HoldingEvidenceLeavesCovers = (r : RowState) (ws : List Columns) → IsRowState r → All (IsAgreeSet r) ws → AllHold r (least_covers (width r) ws)
+    → least_covers (width r) ws ≡ covers r
 
 -- ---- batches
 -- s may come after r: rows keep their numbers, no number is used twice, and of the rows that r had, none is live again.

@@ -6,7 +6,13 @@ ghost use Rattle.rel_base.specs.Shows.{Shows};
 ghost use Rattle.rel_base.specs.Alike.{Alike};
 ghost use Rattle.rel_base.specs.Cells.{Cell};
 ghost use Rattle.std.specs.Prelude.{List};
-ghost use Rattle.rel_base.specs.Laws.{TestsMean, MoreColumnsKeep, KeysDetermine, CoversAreLeast, BatchesFollow, InsertsAndDeletes, InclusionsMean, ProjectionMeans, SnapshotsShow, SnapshotTestsMean, CoversListed, InclusionsListed, AlikeHoldTheSame, ShowingTheSameIsAlike, AlikeIsEquivalence};
+ghost use Rattle.rel_base.specs.Laws.{TestsMean, MoreColumnsKeep, KeysDetermine, CoversAreLeast, BatchesFollow, InsertsAndDeletes, InclusionsMean, ProjectionMeans, SnapshotsShow, SnapshotTestsMean, CoversListed, InclusionsListed, AlikeHoldTheSame, ShowingTheSameIsAlike, AlikeIsEquivalence, StandardLimits, HoldingEvidenceLeavesCovers};
+
+/// The limits of the program as its users run it, in digits: 128 columns, 1000000 rows, 65536 bytes of a cell, and 268435456 bytes
+/// of a file or a change text.
+pub fn the_standard_limits_in_digits()
+    ensures { StandardLimits }
+{}
 
 /// The tests of a dependency, of one among the rows below a number, of a minimal one and of a minimal key say what the facts say.
 pub fn tests_say_what_the_facts_say()
@@ -26,6 +32,13 @@ pub fn a_key_determines_every_column()
 /// The covers are what the agree sets of all pairs of live rows leave.
 pub fn covers_are_least_sets()
     ensures { CoversAreLeast }
+{}
+
+/// Agree sets of some pairs of live rows leave the covers as soon as all that they leave holds in the rows.
+///
+/// So a few pairs of rows show covers to be complete: what they leave has only to be tried, one after another.
+pub fn covers_are_what_holding_evidence_leaves()
+    ensures { HoldingEvidenceLeavesCovers }
 {}
 
 /// The covers have each minimal key and each minimal dependency once, in order, and nothing else.

@@ -33,12 +33,12 @@ pub struct Limits {
 }
 
 impl Limits {
-    /// The limits of the program as its users run it.
+    /// The limits of the program as its users run it: 128 columns, 1000000 rows, 65536 bytes of a cell, 268435456 bytes of a text.
     pub fn standard() -> Limits
-        ensures columns { result.columns ≡ MOST_COLUMNS }
-        ensures rows { result.rows ≡ MOST_ROWS }
-        ensures cell { result.cell ≡ MOST_CELL_BYTES }
-        ensures bytes { result.bytes ≡ MOST_BYTES }
+        ensures columns { result.columns ≡ 128 }
+        ensures rows { result.rows ≡ 1000000 }
+        ensures cell { result.cell ≡ 65536 }
+        ensures bytes { result.bytes ≡ 268435456 }
     {
         Limits {
             columns: MOST_COLUMNS,

@@ -4,9 +4,8 @@ ghost use Rattle.rel_base.specs.Covers.{covers};
 ghost use Rattle.rel_base.specs.Worked.{letters, blanks};
 
 use crate::{
-    Batch, Cell, Change, Codes, Covers, Cursor, Fd, Job, Limits, MOST_BYTES, MOST_CELL_BYTES,
-    MOST_COLUMNS, MOST_ROWS, Name, Nulls, Op, PackedCodes, Relation, Row, RowNo, RowPlace,
-    Snapshot, Why,
+    Batch, Cell, Change, Codes, Covers, Cursor, Fd, Job, Limits, Name, Nulls, Op, PackedCodes,
+    Relation, Row, RowNo, RowPlace, Snapshot, Why,
 };
 use col_set::{ColSet, Target};
 use csv::{ByteRecord, ReaderBuilder};
@@ -276,10 +275,10 @@ fn causes_have_their_numbers(rt: HostRuntime) {
 #[test]
 fn standard_limits_are_the_greatest(rt: HostRuntime) {
     let standard = Limits::standard();
-    assert!(rt; standard.columns == MOST_COLUMNS);
-    assert!(rt; standard.rows == MOST_ROWS);
-    assert!(rt; standard.cell == MOST_CELL_BYTES);
-    assert!(rt; standard.bytes == MOST_BYTES);
+    assert!(rt; standard.columns == 128);
+    assert!(rt; standard.rows == 1_000_000);
+    assert!(rt; standard.cell == 65_536);
+    assert!(rt; standard.bytes == 268_435_456);
 }
 
 #[test]
@@ -369,9 +368,24 @@ fn a_name_keeps_its_text(rt: HostRuntime) -> Result<(), Fail> {
 #[test]
 fn covers_keep_their_keys(rt: HostRuntime) -> Result<(), Fail> {
     let keys = vec![in rt.alloc(); ColSet::all(1)]?;
-    let covers = Covers::of(keys, Vec::new(rt.alloc()));
-    assert!(rt; covers.keys().len() == 1);
-    assert!(rt; covers.fds().is_empty());
+    let found = Covers::checked(keys, Vec::new(rt.alloc()));
+    assert!(rt; found.is_some());
+    if let Some(covers) = found {
+        assert!(rt; covers.keys().len() == 1);
+        assert!(rt; covers.fds().is_empty());
+    }
+    Ok(())
+}
+
+#[test]
+fn lists_out_of_order_are_no_covers(rt: HostRuntime) -> Result<(), Fail> {
+    let turned = vec![in rt.alloc(); ColSet::all(2), ColSet::all(1)]?;
+    assert!(rt; Covers::checked(turned, Vec::new(rt.alloc())).is_none());
+    let left = ColSet::all(1);
+    let twice = vec![in rt.alloc(); Fd { left, right: 1 }, Fd { left, right: 1 }]?;
+    assert!(rt; Covers::checked(Vec::new(rt.alloc()), twice).is_none());
+    let far = vec![in rt.alloc(); Fd { left, right: 128 }]?;
+    assert!(rt; Covers::checked(Vec::new(rt.alloc()), far).is_none());
     Ok(())
 }
 

@@ -22,6 +22,14 @@ key_line key = line (codes "key" ∷ columns_text key ∷ [])
 abbrev pub fd_line : Fd → List ℕ
 fd_line fd = line (codes "fd" ∷ columns_text fd.left ∷ decimal (fd.right + 1) ∷ [])
 
+-- a dependency that holds but for so many rows
+abbrev pub approx_line : Fd → ℕ → List ℕ
+approx_line fd removed = line (codes "afd" ∷ columns_text fd.left ∷ decimal (fd.right + 1) ∷ decimal removed ∷ [])
+
+-- a line for the relation and one for each column
+unfoldable pub head_text : List ℕ → Row → ℕ → List ℕ
+head_text name names rows = relation_line name (length names) rows ++ flat_map column_line (enumerate_from 1 names)
+
 -- a line for the relation, one for each column, one for each key and one for each dependency
 unfoldable pub report_text : List ℕ → Row → ℕ → CoverLists → List ℕ
 report_text name names rows covers =

@@ -1,7 +1,7 @@
 // The report of a relation.
 ghost use Rattle.std.specs.Prelude.{◌≡◌, ◌++◌, [], IfOk, OnOk, OnErr};
 ghost use Rattle.std.specs.List.{enumerate_from, flat_map};
-ghost use Rattle.report_text.specs.Report.{report_text, column_line, key_line, fd_line};
+ghost use Rattle.report_text.specs.Report.{report_text, head_text, column_line, key_line, fd_line, approx_line};
 
 use crate::Lines;
 use crate::field::Field;
@@ -28,7 +28,7 @@ pub fn report(
 
 impl Lines {
     /// Adds what `report` gives.
-    #[tactic(auto, unfolding(crate::specs::Report::report_text))]
+    #[tactic(auto, unfolding(crate::specs::Report::report_text, crate::specs::Report::head_text))]
     pub fn push_report(
         &mut self,
         name: &Name,
@@ -40,15 +40,38 @@ impl Lines {
             (self.new ≡ self.old ++ report_text name.now names.now rows covers.now) }
         ensures err { OnErr result (self.new ≡ []) }
     {
+        self.push_head(name, names, rows)?;
+        self.push_keys(covers.keys())?;
+        self.push_fds(covers.fds())
+    }
+
+    /// Adds the lines that a report of a relation begins with: one for the relation, by its name, its columns and so many live rows, and one
+    /// for each column.
+    #[tactic(auto, unfolding(crate::specs::Report::head_text))]
+    pub fn push_head(&mut self, name: &Name, names: &Row, rows: u64) -> Result<(), AllocError>
+        ensures ok { OnOk result (self.new ≡ self.old ++ head_text name.now names.now rows) }
+        ensures err { OnErr result (self.new ≡ []) }
+    {
         self.push(&[
             Field::Bytes(b"relation"),
             Field::Bytes(name.bytes()),
             Field::Number(names.len() as u64),
             Field::Number(rows),
         ])?;
-        self.push_columns(names)?;
-        self.push_keys(covers.keys())?;
-        self.push_fds(covers.fds())
+        self.push_columns(names)
+    }
+
+    /// Adds the line of a dependency that holds but for so many rows.
+    pub fn push_approx_line(&mut self, fd: &Fd, removed: u32) -> Result<(), AllocError>
+        ensures ok { OnOk result (self.new ≡ self.old ++ approx_line fd.now removed) }
+        ensures err { OnErr result (self.new ≡ []) }
+    {
+        self.push(&[
+            Field::Bytes(b"afd"),
+            Field::Columns(fd.left),
+            Field::Number(u64::from(fd.right) + 1),
+            Field::Number(u64::from(removed)),
+        ])
     }
 
     fn push_columns(&mut self, names: &Row) -> Result<(), AllocError>
@@ -81,7 +104,7 @@ impl Lines {
         Ok(())
     }
 
-    fn push_fds(&mut self, fds: &[Fd]) -> Result<(), AllocError>
+    pub(crate) fn push_fds(&mut self, fds: &[Fd]) -> Result<(), AllocError>
         ensures ok { OnOk result (self.new ≡ self.old ++ flat_map fd_line fds.now) }
         ensures err { OnErr result (self.new ≡ []) }
     {

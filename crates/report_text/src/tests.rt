@@ -25,6 +25,10 @@ fn expect_end(rt: &impl Abort, text: &[u8], end: &[u8]) {
     assert!(rt; text.ends_with(end));
 }
 
+fn covers(rt: &impl Abort, keys: Vec<ColSet>, fds: Vec<Fd>) -> Covers {
+    Covers::checked(keys, fds).expect(rt, "keys and dependencies in order")
+}
+
 fn check_report(rt: &impl Abort, alloc: Global) -> Result<(), AllocError> {
     let (id, city, zip) = (one(0), one(1), one(2));
     let fds = [
@@ -39,7 +43,8 @@ fn check_report(rt: &impl Abort, alloc: Global) -> Result<(), AllocError> {
             right: 2,
         },
     ];
-    let covers = Covers::of(
+    let covers = covers(
+        rt,
         Vec::from_slice(alloc, &[id])?,
         Vec::from_slice(alloc, &fds)?,
     );
@@ -71,16 +76,16 @@ fn check_odd_report(rt: &impl Abort, alloc: Global) -> Result<(), AllocError> {
         },
         Fd {
             left: wide,
-            right: 255,
+            right: 127,
         },
     ];
-    let covers = Covers::of(keys, Vec::from_slice(alloc, &fds)?);
+    let covers = covers(rt, keys, Vec::from_slice(alloc, &fds)?);
     let names = Row::copied(alloc, &[b"a,b", b"say \"x\"", b"two\nlines", b""])?;
     let text = report(alloc, &name(alloc, "x, y.csv")?, &names, u64::MAX, &covers)?;
     expect_text(
         rt,
         &text,
-        "relation,\"x, y.csv\",4,18446744073709551615\ncolumn,1,\"a,b\"\ncolumn,2,\"say \"\"x\"\"\"\ncolumn,3,\"two\nlines\"\ncolumn,4,\nkey,\nkey,1 10 100 128\nfd,,1\nfd,1 10 100 128,256\n",
+        "relation,\"x, y.csv\",4,18446744073709551615\ncolumn,1,\"a,b\"\ncolumn,2,\"say \"\"x\"\"\"\ncolumn,3,\"two\nlines\"\ncolumn,4,\nkey,\nkey,1 10 100 128\nfd,,1\nfd,1 10 100 128,128\n",
     );
     Ok(())
 }
@@ -103,7 +108,7 @@ fn check_mixed_lines(rt: &impl Abort, alloc: Global) -> Result<(), AllocError> {
         (one(98), 98, "key,99\nfd,99,99\n"),
         (one(99), 99, "key,100\nfd,100,100\n"),
         (one(127), 127, "key,128\nfd,128,128\n"),
-        (edges, 255, "key,9 10 99 100 128\nfd,9 10 99 100 128,256\n"),
+        (edges, 0, "key,9 10 99 100 128\nfd,9 10 99 100 128,1\n"),
     ];
     let names = Row::copied(alloc, &[b"a,b"])?;
     let file = name(alloc, "x\"y")?;
@@ -112,7 +117,7 @@ fn check_mixed_lines(rt: &impl Abort, alloc: Global) -> Result<(), AllocError> {
     for (set, right, text) in cases {
         let keys = Vec::from_slice(alloc, &[set])?;
         let fds = Vec::from_slice(alloc, &[Fd { left: set, right }])?;
-        lines.push_report(&file, &names, 7, &Covers::of(keys, fds))?;
+        lines.push_report(&file, &names, 7, &covers(rt, keys, fds))?;
         expected.push_str("relation,\"x\"\"y\",1,7\ncolumn,1,\"a,b\"\n")?;
         expected.push_str(text)?;
     }
@@ -129,28 +134,47 @@ fn keys_and_dependencies_stand_between_quoted_lines(rt: HostRuntime) -> Result<(
     Ok(())
 }
 
+// Lists of dependencies, of which a right side may be any number of its type.
+fn check_far_right_side(rt: &impl Abort, alloc: Global) -> Result<(), AllocError> {
+    let left = one(8).with(9).with(98).with(99).with(127);
+    let mut lines = Lines::new(alloc);
+    lines.push_fds(&[Fd { left, right: 255 }])?;
+    let text = lines.into_text()?;
+    expect_text(rt, &text, "fd,9 10 99 100 128,256\n");
+    Ok(())
+}
+
+#[test]
+fn a_right_side_beyond_the_columns_has_its_number(rt: HostRuntime) -> Result<(), Fail> {
+    if check_far_right_side(&rt, rt.alloc()).is_err() {
+        check_far_right_side(&rt, rt.alloc())?;
+    }
+    Ok(())
+}
+
 // The longest line there is, and after it a short one in the same memory.
 fn check_longest_line(rt: &impl Abort, alloc: Global) -> Result<(), AllocError> {
     let all = ColSet::all(128);
     let fds = [
         Fd {
             left: all,
-            right: 255,
+            right: 126,
         },
         Fd {
             left: one(4),
-            right: 5,
+            right: 127,
         },
     ];
-    let covers = Covers::of(
+    let covers = covers(
+        rt,
         Vec::from_slice(alloc, &[all])?,
         Vec::from_slice(alloc, &fds)?,
     );
     let names = Row::copied(alloc, &[])?;
     let text = report(alloc, &name(alloc, "r")?, &names, 2, &covers)?;
-    let (head, key, fd, short_fd) = (15, 408, 411, 7);
+    let (head, key, fd, short_fd) = (15, 408, 411, 9);
     assert_eq!(rt; text.len(), head + key + fd + short_fd);
-    expect_end(rt, text.as_slice(), b" 126 127 128,256\nfd,5,6\n");
+    expect_end(rt, text.as_slice(), b" 126 127 128,127\nfd,5,128\n");
     Ok(())
 }
 

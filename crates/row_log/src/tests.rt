@@ -59,7 +59,19 @@ fn has_same_cells(log: &RowLog, number: RowNo, row: &Row) -> bool {
     true
 }
 
-// Whether an answer of the log is the plain one, and it has the plain rows afterwards. Where memory ran out, nothing changed.
+// What the log answers to a batch, which is tried once more where memory ran out.
+fn answer_to(rt: &impl Abort, log: &mut RowLog, batch: &Batch) -> Applying {
+    assert!(rt; are_as_wide(batch, log.names().len()));
+    match log.apply(batch) {
+        Applying::NoMemory => {
+            assert!(rt; are_as_wide(batch, log.names().len()));
+            log.apply(batch)
+        }
+        answer => answer,
+    }
+}
+
+// Whether an answer of the log is the plain one, and it has the plain rows afterwards.
 fn is_plain_answer(
     log: &RowLog,
     rows: &PlainRows,
@@ -71,7 +83,6 @@ fn is_plain_answer(
         (Applying::Refused { at, why }, Err((place, cause))) => {
             at == *place as u64 && why == *cause && is_same(log, rows)
         }
-        (Applying::NoMemory, _) => is_same(log, rows),
         _ => false,
     }
 }
@@ -86,8 +97,7 @@ fn answers_the_same(
 ) -> Result<bool, Fail> {
     assert!(rt; are_as_wide(batch, rows.names().len()));
     let outcome = rows.after(alloc, batch)?;
-    assert!(rt; are_as_wide(batch, log.names().len()));
-    let answer = log.apply(batch);
+    let answer = answer_to(rt, log, batch);
     Ok(is_plain_answer(log, rows, answer, &outcome))
 }
 
@@ -387,8 +397,7 @@ fn applied_to_both(
 ) -> Result<Option<PlainRows>, AllocError> {
     assert!(rt; are_as_wide(batch, rows.names().len()));
     let outcome = rows.after(alloc, batch)?;
-    assert!(rt; are_as_wide(batch, log.names().len()));
-    Ok(match (log.apply(batch), outcome) {
+    Ok(match (answer_to(rt, log, batch), outcome) {
         (Applying::Applied { .. }, Ok(after)) => Some(after),
         _ => None,
     })

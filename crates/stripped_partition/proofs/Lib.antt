@@ -19,3 +19,5 @@ pub mod Refining
 pub mod Whole
 pub mod SplitPair
 pub mod PairParts
+pub mod Ways
+pub mod Removing

@@ -8,7 +8,7 @@ use Rattle.col_set.specs.Lists.{Listed}
 use Rattle.col_set.proofs.Places.{Contains-listed, Listed-contained, Listed-get_or}
 use Rattle.rel_base.specs.CodeTable.{CodeTable}
 use Rattle.rel_base.proofs.States.{All-from, All-listed}
-use Rattle.stripped_partition.specs.Stripped.{IsPartitionOf}
+use Rattle.stripped_partition.specs.AnyOrder.{AreGroupsOf}
 use Rattle.stripped_partition.specs.SplitBy.{least, differ, is_split, split_pair, split_by, AgreesOn}
 use Rattle.stripped_partition.proofs.Dependencies.{stripped-parts, split_by-none, none-split_by, together}
 use Rattle.stripped_partition.proofs.Live.{live_within}
@@ -71,7 +71,7 @@ module _ (s : CodeTable) (a : ℕ) where
   split_nowhere groups k pair l none u = none ∙ sym (ap (option_map (split_pair s a)) (u.same ∙ ap (find (is_split s a)) (drop_all k groups l)))
 
   -- nothing is answered exactly where every group agrees on the column
-  pub none_agrees : (groups : List (List ℕ)) (pair : Option (ℕ × ℕ)) → IsPartitionOf s groups → pair ≡ split_by s a groups → IsNone pair ↔ All (AgreesOn s a) groups
+  pub none_agrees : (groups : List (List ℕ)) (pair : Option (ℕ × ℕ)) → AreGroupsOf s groups → pair ≡ split_by s a groups → IsNone pair ↔ All (AgreesOn s a) groups
   none_agrees groups pair of e = (onto, back)
     where
       is_none : (o : Option (ℕ × ℕ)) → is_some o ≡ false → o ≡ None
@@ -79,7 +79,7 @@ module _ (s : CodeTable) (a : ℕ) where
       is_none (Some x) f = absurd (true≢false f)
 
       first : (g : List ℕ) → Listed g groups → Listed (least g) g
-      first g h = let two = (stripped-parts s of.columns g (subst (Listed g) of.is h)).two in Listed-get_or g 0 0 (omega arith)
+      first g h = let two = (stripped-parts s of.columns g (of.are.only g h)).two in Listed-get_or g 0 0 (omega arith)
 
       onto : IsNone pair → All (AgreesOn s a) groups
       onto n = All-from (AgreesOn s a) groups (λ g h i j l m.
@@ -90,8 +90,8 @@ module _ (s : CodeTable) (a : ℕ) where
       back all = ap is_some (e ∙ none-split_by s of.columns a groups (λ g h i l. All-listed (AgreesOn s a) g groups all h (least g) i (Contains-listed (least g) g (first g h)) (Contains-listed i g l)))
 
   -- a row of a group is given
-  pub given : (groups : List (List ℕ)) (k : ℕ) (g : List ℕ) → IsPartitionOf s groups → k < length groups → g ≡ get_or groups k [] → All (λ (row : ℕ). row < s.to) g
+  pub given : (groups : List (List ℕ)) (k : ℕ) (g : List ℕ) → AreGroupsOf s groups → k < length groups → g ≡ get_or groups k [] → All (λ (row : ℕ). row < s.to) g
   given groups k g of l e = All-from (λ (row : ℕ). row < s.to) g (λ i h.
       let m : Listed g groups = subst (λ (x : List ℕ). Listed x groups) (sym e) (Listed-get_or groups k [] l) in
-      let t = together s of.columns g i i (subst (Listed g) of.is m) h h in
+      let t = together s of.columns g i i (of.are.only g m) h h in
       (live_within s i t.0).1)

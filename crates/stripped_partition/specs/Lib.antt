@@ -5,4 +5,7 @@ pub mod Order
 pub mod AnyOrder
 pub mod Splits
 pub mod Codes
+pub mod Removed
+pub mod Standing
+pub mod Paths
 pub mod Laws

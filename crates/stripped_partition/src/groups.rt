@@ -1,7 +1,8 @@
 // Groups of rows by code, by counting.
-ghost use Rattle.std.specs.Prelude.{◌≡◌, ◌<◌, ◌≤◌, ◌+◌, ◌-◌, ◌^◌, ◌==◌, [], ℕ, true, length, slice_index, replicate, count_by, vec_len, List, OnOk, IfOk};
-ghost use Rattle.std.specs.List.{list_any};
+ghost use Rattle.std.specs.Prelude.{◌≡◌, ◌<◌, ◌≤◌, ◌+◌, ◌-◌, ◌^◌, ◌==◌, [], ℕ, true, length, map, slice_index, replicate, count_by, vec_len, List, OnOk, IfOk};
+ghost use Rattle.std.specs.List.{All, list_any};
 ghost use Rattle.stripped_partition.specs.Groups.{start_at, IsCut, IsFlat};
+ghost use Rattle.stripped_partition.specs.Removed.{greatest, largest_part};
 ghost use Rattle.stripped_partition.specs.Splits.{AddsParts, AreSplit, IsReady, Places};
 
 use rel_base::{MOST_ROWS, RowNo};
@@ -80,6 +81,32 @@ fn clear(slots: &mut [u32], codes: &[u32])
             slots[slot] = 0;
         }
     }
+}
+
+// The greatest of what the slots of these codes hold.
+fn greatest_slot(slots: &[u32], codes: &[u32]) -> u32
+    requires { All (λ code. code < length slots.now) codes.now }
+    ensures { result ≡ greatest (map (slice_index slots.now) codes.now) }
+{
+    let mut most = 0;
+    for code in codes {
+        most = most.max(slots[*code as usize]);
+    }
+    most
+}
+
+// How often the code stands among these that stands there most often, where all slots are clear. It leaves them clear.
+pub(crate) fn largest_part(slots: &mut [u32], codes: &[u32]) -> u32
+    requires short { length codes.now < 2 ^ 31 }
+    requires clear { slots.old ≡ replicate (length slots.old) 0 }
+    requires within { All (λ code. code < length slots.old) codes.now }
+    ensures value { result ≡ largest_part codes.now }
+    ensures clear { slots.new ≡ replicate (length slots.old) 0 }
+{
+    count(slots, codes);
+    let most = greatest_slot(slots, codes);
+    clear(slots, codes);
+    most
 }
 
 // Puts a row into the part of its code. The first row of a part makes room for all of it.

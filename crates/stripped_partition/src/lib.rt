@@ -6,9 +6,16 @@ mod groups;
 pub mod laws;
 mod order;
 mod partition;
+mod path;
+mod removed;
 mod scratch;
+mod tally;
 #[cfg(test)]
 mod tests;
+mod weighing;
 
 pub use partition::Partition;
+pub use path::Path;
 pub use scratch::Scratch;
+pub use tally::Tally;
+pub use weighing::weights;

@@ -180,9 +180,9 @@ impl Partition {
     }
 
     /// In the first group that the column splits, its least row and the least row of it that differs from that one; of the
-    /// snapshot of which the partition was made.
+    /// snapshot of which the partition was made. Of groups that were never put in order it is the first as they come.
     pub fn splits_by(&self, snapshot: &Snapshot, column: u8) -> Option<(RowNo, RowNo)>
-        requires of { IsPartitionOf snapshot.now self.now }
+        requires of { AreGroupsOf snapshot.now self.now }
         requires column { column < length snapshot.now.codes }
         ensures value { result ≡ split_by snapshot.now column self.now }
         ensures none { IsNone result ↔ All (AgreesOn snapshot.now column) self.now }

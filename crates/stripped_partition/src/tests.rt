@@ -1,5 +1,7 @@
 // Partitions beside what plainly holds among drawn rows.
-use crate::{Partition, Scratch};
+ghost use Rattle.std.specs.Prelude.{◌≡◌, ◌<◌, ◌^◌, length};
+
+use crate::{Partition, Path, Scratch, Tally, weights};
 use plain_base::{PlainRows, Samples, relation_of};
 use rel_base::{Codes, ColSet, Limits, Nulls, Row, RowNo, Snapshot, Target};
 use std::alloc::{AllocError, Global};
@@ -60,6 +62,7 @@ fn rows_of(alloc: Global, columns: &[Column; 3], bound: u32) -> Result<PlainRows
 }
 
 // Whether the partitions by a column and by one more tell what plainly holds.
+#[tactic(auto, using(crate::proofs::Refining::partition_groups))]
 fn tells(
     alloc: Global,
     snapshot: &Snapshot,
@@ -202,7 +205,56 @@ fn groups_are_the_same_in_any_order(rt: HostRuntime) -> Result<(), Fail> {
     Ok(())
 }
 
+// Sends the path to these columns, and once more where memory ran out on the way.
+fn goes_to(path: &mut Path, columns: ColSet) -> Result<bool, AllocError>
+    requires { columns < 2 ^ length path.old.table.codes }
+    ensures { path.new.table ≡ path.old.table }
+{
+    if path.go_to(columns).is_err() {
+        path.go_to(columns)?;
+    }
+    Ok(path.columns() == columns)
+}
+
+// Whether a path that comes from another column has the groups by two columns.
+#[tactic(auto, using(crate::proofs::Refining::partition_groups))]
+fn is_on_the_way(
+    alloc: Global,
+    snapshot: &Snapshot,
+    left: u8,
+    right: u8,
+) -> Result<bool, AllocError> {
+    if left >= snapshot.columns() || right >= snapshot.columns() {
+        return Ok(false);
+    }
+    let wanted = Partition::of_column(alloc, snapshot, left)?.refine(alloc, snapshot, right)?;
+    let mut path = Path::new(alloc, snapshot, &[2, 0, 7])?;
+    let one = ColSet::empty().with(right);
+    Ok(
+        goes_to(&mut path, one)?
+            && goes_to(&mut path, one.with(left))?
+            && has_same_groups(path.groups(), &wanted),
+    )
+}
+
 #[test]
+fn a_path_has_the_groups_of_each_set_that_it_is_sent_to(rt: HostRuntime) -> Result<(), Fail> {
+    for seed in 0..20u64 {
+        let snapshot = snapshot_of(rt.alloc(), &drawn(seed), 4 + (seed % 4) as usize)?;
+        for left in 0..3 {
+            for right in 0..3 {
+                assert!(rt;
+                    is_on_the_way(rt.alloc(), &snapshot, left, right)?,
+                    "seed {seed}"
+                );
+            }
+        }
+    }
+    Ok(())
+}
+
+#[test]
+#[tactic(auto, using(crate::proofs::Refining::partition_groups))]
 fn groups_by_a_column(rt: HostRuntime) -> Result<(), Fail> {
     let columns = [[1, 1, 2, 2, 2, 3], [7, 8, 8, 8, 9, 9], [0, 0, 0, 0, 0, 0]];
     let snapshot = snapshot_of(rt.alloc(), &columns, 7)?;
@@ -212,5 +264,20 @@ fn groups_by_a_column(rt: HostRuntime) -> Result<(), Fail> {
     assert!(rt; first.group(0) == [RowNo::of(1), RowNo::of(2)].as_slice());
     assert!(rt; first.group(1) == [RowNo::of(3), RowNo::of(4), RowNo::of(5)].as_slice());
     assert!(rt; first.splits_by(&snapshot, 1) == Some((RowNo::of(1), RowNo::of(2))));
+    Ok(())
+}
+
+#[test]
+#[tactic(auto, using(crate::proofs::Refining::partition_groups))]
+fn rows_outside_the_largest_parts(rt: HostRuntime) -> Result<(), Fail> {
+    let columns = [[1, 1, 1, 2, 2, 3], [7, 7, 8, 9, 8, 8], [0, 0, 0, 0, 0, 0]];
+    let snapshot = snapshot_of(rt.alloc(), &columns, 7)?;
+    assert!(rt; snapshot.columns() == 3);
+    let mut tally = Tally::new(rt.alloc(), &snapshot)?;
+    let first = Partition::of_column(rt.alloc(), &snapshot, 0)?;
+    assert!(rt; first.removed_up_to(&snapshot, 1, 2, &mut tally) == Some(2));
+    assert!(rt; first.removed_up_to(&snapshot, 1, 1, &mut tally) == None);
+    assert!(rt; first.removed_up_to(&snapshot, 2, 0, &mut tally) == Some(0));
+    assert!(rt; weights(rt.alloc(), &snapshot)?.as_slice() == [3, 3, 5].as_slice());
     Ok(())
 }

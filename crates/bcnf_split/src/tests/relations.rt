@@ -4,6 +4,7 @@ ghost use Rattle.col_set.specs.Target.{IsColumnTarget};
 
 use rel_base::{ColSet, Covers, Fd, Target};
 use std::alloc::{AllocError, Global};
+use std::process::Abort;
 
 // The columns in which two rows agree.
 fn agree(n: u8, mut one: u32, mut other: u32) -> ColSet
@@ -61,7 +62,12 @@ fn least_sets(
 }
 
 // The covers that these agree sets leave.
-pub fn covers_of(alloc: Global, n: u8, sets: &[ColSet]) -> Result<Covers, AllocError>
+pub fn covers_of(
+    rt: &impl Abort,
+    alloc: Global,
+    n: u8,
+    sets: &[ColSet],
+) -> Result<Covers, AllocError>
     requires { n ≤ 8 }
 {
     let keys = least_sets(alloc, n, sets, Target::RowId)?;
@@ -71,7 +77,7 @@ pub fn covers_of(alloc: Global, n: u8, sets: &[ColSet]) -> Result<Covers, AllocE
             fds.push(Fd { left, right })?;
         }
     }
-    Ok(Covers::of(keys, fds))
+    Ok(Covers::checked(keys, fds).expect(rt, "least sets in order"))
 }
 
 // So many rows of n cells below `values`, by a generator of small numbers.

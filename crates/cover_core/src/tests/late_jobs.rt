@@ -3,12 +3,30 @@ ghost use Rattle.rel_base.specs.JobParts.{JobParts};
 ghost use Rattle.cover_steps.specs.Sound.{Fits};
 
 use super::script::{Step, Told, play};
-use super::{columns, drawn, is_of, letters, mark};
+use super::{columns, drawn, finish, is_of, letters, mark};
 use crate::{Book, Marking, Release};
-use rel_base::{Job, Target};
+use rel_base::{Fd, Job, Target};
 use std::alloc::{AllocError, Global};
 use std::process::Abort;
 use std::test::Fail;
+
+// Finishes, and tells whether this is the one key, and this column, if there is one, determines the first, and nothing else holds.
+fn ends_with(book: &mut Book, key: &[u8], left: Option<u8>) -> Result<bool, AllocError> {
+    let covers = finish(book)?;
+    let fds = covers.fds();
+    let wanted = match left {
+        Some(left) => {
+            fds.len() == 1
+                && fds[0]
+                    == Fd {
+                        left: columns(&[left]),
+                        right: 0,
+                    }
+        }
+        None => fds.is_empty(),
+    };
+    Ok(wanted && covers.keys() == [columns(key)].as_slice())
+}
 
 // Two rows refute the first candidate.
 static BEGIN: [Step; 1] = [Step::Refute(1, 2, Told::News)];
@@ -72,7 +90,9 @@ fn deliver_one(rt: &impl Abort, alloc: Global, book: &mut Book) -> Result<(), Al
 fn play_late(rt: &impl Abort, alloc: Global, book: &mut Book) -> Result<(), AllocError> {
     play(rt, alloc, book, &BEGIN)?;
     deliver_one(rt, alloc, book)?;
-    play(rt, alloc, book, &END)
+    play(rt, alloc, book, &END)?;
+    assert!(rt; ends_with(book, &[1], Some(1))?);
+    Ok(())
 }
 
 #[test]
@@ -158,7 +178,9 @@ fn deliver_two(rt: &impl Abort, alloc: Global, book: &mut Book) -> Result<(), Al
 fn play_both(rt: &impl Abort, alloc: Global, book: &mut Book) -> Result<(), AllocError> {
     play(rt, alloc, book, &DRAW)?;
     deliver_two(rt, alloc, book)?;
-    play(rt, alloc, book, &GO_ON)
+    play(rt, alloc, book, &GO_ON)?;
+    assert!(rt; ends_with(book, &[0, 1], None)?);
+    Ok(())
 }
 
 #[test]

@@ -102,21 +102,22 @@ fn judged_after(rt: &impl Abort, alloc: Global, k: &[u8], v: &[u8]) -> Result<Ju
     judge_drawn::<Brand>(alloc, &mut book, Blank::new(1))
 }
 
-// Whether the answers are the jobs of the key and of the dependency for the fourth row, with this verdict on the key, and that
-// both are held.
+// Whether the answers are the jobs of the key and of the dependency for the fourth row, with this verdict on each, and that both are
+// held.
 fn are_new(judged: &Judged, rows: Option<(u32, u32)>) -> bool {
     let right = columns(&[1]);
     judged.jobs.len() == 2
         && is_of(&judged.jobs[0].0, Target::RowId, right, 4, 5)
         && is_of(&judged.jobs[1].0, Target::Col(0), right, 4, 5)
         && is_judged(judged.jobs[0].1, rows)
+        && is_judged(judged.jobs[1].1, rows)
         && judged
             .last
             .as_ref()
             .is_some_and(|last| is_busy(last, Target::RowId, right))
 }
 
-// Whether the verdict is that these two rows break the key, or, where there are none, that it holds in all four rows.
+// Whether the verdict is that these two rows break it, or, where there are none, that it holds in all four rows.
 fn is_judged(verdict: Verdict, rows: Option<(u32, u32)>) -> bool {
     match verdict {
         Verdict::Holds { to } => rows.is_none() && to.number() == 5,
@@ -124,7 +125,7 @@ fn is_judged(verdict: Verdict, rows: Option<(u32, u32)>) -> bool {
     }
 }
 
-// A fourth row, and the rows that break the key then.
+// A fourth row, and the rows that break both the key and the dependency then.
 static FOURTH: [(&[u8], &[u8], Option<(u32, u32)>); 2] = [
     (b"3", b"w", None),
     (b"3", b"y", Some((2, 4))),

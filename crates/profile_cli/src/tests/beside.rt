@@ -7,6 +7,7 @@ use super::{Case, Outside, SURE, is_whole, run_by};
 use ports::{Gate, OpenGate, Point};
 use rel_base::Limits;
 use std::alloc::{AllocError, Global};
+use std::hint::spin_loop;
 use std::process::Abort;
 use std::sync::Wait;
 use std::sync::atomic::{AtomicBool, AtomicU32, Ordering};
@@ -187,5 +188,100 @@ fn a_report_goes_on_from_what_the_one_before_it_knew(rt: HostRuntime) -> Result<
     for workers in &WORKERS {
         expect_two_since(&rt, rt.alloc(), workers)?;
     }
+    Ok(())
+}
+
+// A held worker takes at most so many turns of the gate's own loop.
+const MOST_TURNS: u32 = 100_000_000;
+
+// A gate that notes the highest number that came, and holds the first two workers at their draws until both have drawn, if it is to.
+#[derive(Drop)]
+struct MeetingGate {
+    holds: bool,
+    first: AtomicBool,
+    second: AtomicBool,
+    most: AtomicU32,
+}
+
+impl MeetingGate {
+    fn new(holds: bool) -> MeetingGate {
+        MeetingGate {
+            holds,
+            first: AtomicBool::new(false),
+            second: AtomicBool::new(false),
+            most: AtomicU32::new(0),
+        }
+    }
+
+    fn have_met(&self) -> bool {
+        self.first.load(Ordering::SeqCst) && self.second.load(Ordering::SeqCst)
+    }
+
+    fn hold(&self) {
+        for _ in 0..MOST_TURNS {
+            if self.have_met() {
+                return;
+            }
+            spin_loop();
+        }
+    }
+}
+
+impl Gate for MeetingGate {
+    fn at(&self, who: u32, point: Point) {
+        self.most.fetch_max(who, Ordering::SeqCst);
+        if point != Point::Drawn {
+            return;
+        }
+        match who {
+            1 => self.first.store(true, Ordering::SeqCst),
+            2 => self.second.store(true, Ordering::SeqCst),
+            _ => {}
+        }
+        if self.holds {
+            self.hold();
+        }
+    }
+}
+
+// One row of 64 equal cells: as many candidates hold.
+static WIDE: Case<'static> = Case {
+    words: &["depprof", "profile", "w.csv"],
+    files: &[(
+        "w.csv",
+        "a,a,a,a,a,a,a,a,a,a,a,a,a,a,a,a,a,a,a,a,a,a,a,a,a,a,a,a,a,a,a,a,a,a,a,a,a,a,a,a,a,a,a,a,a,a,a,a,a,a,a,a,a,a,a,a,a,a,a,a,a,a,a,a\na,a,a,a,a,a,a,a,a,a,a,a,a,a,a,a,a,a,a,a,a,a,a,a,a,a,a,a,a,a,a,a,a,a,a,a,a,a,a,a,a,a,a,a,a,a,a,a,a,a,a,a,a,a,a,a,a,a,a,a,a,a,a,a\n",
+    )],
+    input: "",
+    text: &[],
+    tables: &[],
+    status: 0,
+};
+
+// Asserts that a run beside so many workers is done, by this gate.
+fn expect_done<R: Threads + Wait + Sync + Abort>(
+    rt: &R,
+    alloc: Global,
+    workers: &str,
+    gate: &MeetingGate,
+) -> Result<(), AllocError> {
+    let words = words_with(alloc, WIDE.words, workers)?;
+    let outside = Outside {
+        room: 100_000,
+        ..SURE
+    };
+    let done = run_by(rt, alloc, words, &WIDE, &outside, gate, Limits::standard())?;
+    assert!(rt; done.status() == 0);
+    Ok(())
+}
+
+#[test]
+fn as_many_workers_come_as_are_asked_for(rt: HostRuntime) -> Result<(), Fail> {
+    let alone = MeetingGate::new(false);
+    expect_done(&rt, rt.alloc(), "1", &alone)?;
+    assert!(rt; alone.most.load(Ordering::SeqCst) == 1);
+    let both = MeetingGate::new(true);
+    expect_done(&rt, rt.alloc(), "2", &both)?;
+    assert!(rt; both.have_met());
+    assert!(rt; both.most.load(Ordering::SeqCst) == 2);
     Ok(())
 }

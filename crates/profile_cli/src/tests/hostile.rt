@@ -1,14 +1,15 @@
 // Runs of which one call fails, whichever it is.
 ghost use Rattle.std.specs.Prelude.{◌≡◌, ◌<◌};
 
-use super::sessions::K;
+use super::sessions::{K, K_HEAD};
 use super::tables::{R_TABLE_LINES, R_TABLES};
 use super::words::USAGE;
 use super::{
-    Case, Extent, Outside, R, R_REPORT, Ran, SURE, extent_of, extent_on, is_whole, name_of, run_of,
+    Case, Extent, Outside, R, R_REPORT, Ran, SURE, extent_of, extent_on, is_same, is_whole,
+    name_of, run_of,
 };
 use crate::Outcome;
-use ports::Kind;
+use ports::{Kind, MemShelf};
 use rel_base::{Limits, Why};
 use std::alloc::{AllocError, Global};
 use std::process::Abort;
@@ -52,6 +53,57 @@ fn outside_of(failing: Failing, number: u64, largest: usize) -> Outside
     }
 }
 
+// How many tables are whole after a failed call on the shelf, where a call moves all that there is, and whether the next one is there without bytes.
+#[derive(Clone, Copy)]
+struct Left {
+    whole: usize,
+    begun: bool,
+}
+
+// What the call of this kind and number leaves where it fails. The first close is that of the file that is read.
+fn left_by(kind: Kind, number: u64) -> Left {
+    let before = number.saturating_sub(1) as usize;
+    match kind {
+        Kind::Create | Kind::Close => Left {
+            whole: before,
+            begun: false,
+        },
+        Kind::Write => Left {
+            whole: before,
+            begun: true,
+        },
+        Kind::Open | Kind::Read => Left {
+            whole: 0,
+            begun: false,
+        },
+    }
+}
+
+// Whether the table at a place stands as it is left: whole, there without bytes, or absent.
+fn is_left(left: &Left, place: usize, text: &str, bytes: Option<&[u8]>) -> bool {
+    match bytes {
+        Some(bytes) if place < left.whole => is_same(bytes, text),
+        Some(bytes) => left.begun && place == left.whole && bytes.is_empty(),
+        None => place > left.whole || (place == left.whole && !left.begun),
+    }
+}
+
+// Whether all tables stand as they are left.
+fn are_left(
+    alloc: Global,
+    shelf: &MemShelf,
+    tables: &[(&str, &str)],
+    left: &Left,
+) -> Result<bool, AllocError> {
+    for (place, (name, text)) in tables.iter().enumerate() {
+        let name = name_of(alloc, name)?;
+        if !is_left(left, place, text, shelf.file(&name)) {
+            return Ok(false);
+        }
+    }
+    Ok(true)
+}
+
 // Whether what stands after a failed call on the shelf is as it is to be.
 fn is_cut_at_shelf(hostile: &Hostile, tables: Extent, done: &Ran) -> bool {
     if done.status() == 4 {
@@ -61,11 +113,13 @@ fn is_cut_at_shelf(hostile: &Hostile, tables: Extent, done: &Ran) -> bool {
     done.text().is_empty() && tables != Extent::Other
 }
 
-// Whether what stands after a failed call is as it is to be.
+// Whether what stands after the failed call of this kind and number is as it is to be. Where a call moves a byte, some first bytes of a table may stand.
 fn is_cut(
     alloc: Global,
     hostile: &Hostile,
     failing: Failing,
+    number: u64,
+    largest: usize,
     done: &Ran,
 ) -> Result<bool, AllocError> {
     let tables = extent_on(alloc, done.shelf(), hostile.case.tables)?;
@@ -74,53 +128,71 @@ fn is_cut(
         Failing::Sink => {
             extent_of(done.text(), hostile.case.text) != Extent::Other && tables == Extent::Whole
         }
-        Failing::Shelf(_) => is_cut_at_shelf(hostile, tables, done),
+        Failing::Shelf(kind) => {
+            is_cut_at_shelf(hostile, tables, done)
+                && (largest == 1
+                    || are_left(
+                        alloc,
+                        done.shelf(),
+                        hostile.case.tables,
+                        &left_by(kind, number),
+                    )?)
+        }
     })
 }
 
 // How a run goes of which a call is to fail.
 #[derive(Clone, Copy)]
 enum Course {
-    // There was no such call, and the run wrote all that it is to.
+    // There was no such call, no fault is counted there, and the run wrote all that it is to.
     Whole,
-    // What it wrote, and its status, are those of a run that was cut.
+    // A fault is counted, and what it wrote, and its status, are those of a run that was cut.
     Cut,
     Wrong,
 }
 
-// How this run went, which is to end with this status where it was cut.
-fn course_of(
-    alloc: Global,
-    hostile: &Hostile,
-    failing: Failing,
-    wanted: u8,
-    done: &Ran,
-) -> Result<Course, AllocError> {
-    if is_whole(alloc, &hostile.case, done)? {
-        return Ok(Course::Whole);
+// How many faults are counted where the failing call is: on the shelf, the input or the sink. On another one a fault may stand all the same, as where there
+// is no such file.
+fn faults_at(failing: Failing, done: &Ran) -> u64 {
+    let sides = &done.sides;
+    match failing {
+        Failing::Shelf(_) => sides
+            .shelf
+            .read_faults()
+            .saturating_add(sides.shelf.write_faults()),
+        Failing::Input => sides.input.faults(),
+        Failing::Sink => sides.out.faults(),
     }
-    if done.status() == wanted && is_cut(alloc, hostile, failing, done)? {
-        return Ok(Course::Cut);
-    }
-    Ok(Course::Wrong)
 }
 
-// How the run goes where the call of this kind and number fails.
+// How the run goes where the call of this kind and number fails. It is to end with this status where it was cut.
 fn run_cut<R: Threads + Wait + Sync>(
     rt: &R,
     alloc: Global,
     hostile: &Hostile,
     failing: Failing,
+    number: u64,
     wanted: u8,
-    outside: &Outside,
+    largest: usize,
 ) -> Result<Course, AllocError>
-    requires { 0 < outside.now.largest }
+    requires { 0 < largest }
 {
-    let done = run_of(rt, alloc, &hostile.case, outside, Limits::standard())?;
-    course_of(alloc, hostile, failing, wanted, &done)
+    let outside = outside_of(failing, number, largest);
+    let done = run_of(rt, alloc, &hostile.case, &outside, Limits::standard())?;
+    if faults_at(failing, &done) == 0 {
+        return Ok(if is_whole(alloc, &hostile.case, &done)? {
+            Course::Whole
+        } else {
+            Course::Wrong
+        });
+    }
+    if done.status() == wanted && is_cut(alloc, hostile, failing, number, largest, &done)? {
+        return Ok(Course::Cut);
+    }
+    Ok(Course::Wrong)
 }
 
-// Lets one call of this kind after another fail, until none does. The status is this one at the first call, and that one at later ones.
+// Lets one call of this kind after another fail, until none does. There is one at least. The status is this one at the first call, and that one at later ones.
 fn expect_cuts<R: Threads + Wait + Sync + Abort>(
     rt: &R,
     alloc: Global,
@@ -133,9 +205,11 @@ fn expect_cuts<R: Threads + Wait + Sync + Abort>(
     let (failing, first, later) = end;
     let mut wanted = first;
     for number in 1..10_000u64 {
-        let outside = outside_of(failing, number, largest);
-        match run_cut(rt, alloc, hostile, failing, wanted, &outside)? {
-            Course::Whole => return Ok(()),
+        match run_cut(rt, alloc, hostile, failing, number, wanted, largest)? {
+            Course::Whole => {
+                assert!(rt; number > 1, "no such call of {:?}", hostile.case.words);
+                return Ok(());
+            }
             Course::Cut => wanted = later,
             Course::Wrong => {
                 assert!(rt; false, "call {number} of {:?}", hostile.case.words);
@@ -174,8 +248,14 @@ static HOSTILE: [Hostile; 6] = [
         case: Case {
             words: &["depprof", "session", "k.csv"],
             files: K,
-            input: "-,2\n!\n",
-            text: &["applied,1,0,1,2\n"],
+            input: "?\n-,2\n!\n?\n",
+            text: &[
+                "relation,k.csv,2,3\n",
+                K_HEAD,
+                "key,2\nfd,2,1\napplied,1,0,1,2\nrelation,k.csv,2,2\n",
+                K_HEAD,
+                "key,1\nkey,2\nfd,2,1\nfd,1,2\n",
+            ],
             tables: &[],
             status: 0,
         },

@@ -1,6 +1,6 @@
 // What `normalize` writes, and that `demo` counts it.
 use super::{Case, Outside, R, R_REPORT, Ran, SURE, is_same, run_of};
-use crate::demo_relation;
+use normalize_text::demo_relation;
 use rel_base::Limits;
 use report_text::table_file;
 use std::alloc::{AllocError, Global};

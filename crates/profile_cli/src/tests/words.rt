@@ -1,6 +1,6 @@
 // Words that are a command, in each of their forms, and words that are none.
 use super::{Case, R, R_REPORT, expect, is_same};
-use crate::usage_line;
+use cli_words::usage_line;
 use std::alloc::{AllocError, Global};
 use std::process::Abort;
 use std::sync::Wait;
@@ -8,9 +8,9 @@ use std::test::Fail;
 use std::thread::Threads;
 
 pub const USAGE: &str =
-    "usage: depprof profile [--workers N] [--nulls equal|distinct] FILE.. | normalize [--workers N] --out PREFIX FILE | session [--workers N] [--nulls equal|distinct] FILE | demo [--workers N] SEED\n";
+    "usage: depprof profile [--workers N] [--nulls equal|distinct] FILE.. | normalize [--workers N] --out PREFIX FILE | session [--workers N] [--nulls equal|distinct] FILE | demo [--workers N] SEED | approx --errors E FILE\n";
 
-static NO_COMMAND: [&[&str]; 31] = [
+static NO_COMMAND: [&[&str]; 34] = [
     &[],
     &["depprof"],
     &["depprof", "profile"],
@@ -58,6 +58,17 @@ static NO_COMMAND: [&[&str]; 31] = [
     &["depprof", "session"],
     &["depprof", "session", "r.csv", "r.csv"],
     &["depprof", "session", "--workers", "17", "r.csv"],
+    &["depprof", "approx", "r.csv"],
+    &["depprof", "approx", "--errors", "1000001", "r.csv"],
+    &[
+        "depprof",
+        "approx",
+        "--errors",
+        "1",
+        "--workers",
+        "2",
+        "r.csv",
+    ],
 ];
 
 static OPTIONS: [&[&str]; 8] = [

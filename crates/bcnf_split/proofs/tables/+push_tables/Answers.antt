@@ -4,7 +4,7 @@ use Rattle.bcnf_split.proofs.Tabling.{on_ok, part_table, tables_whole, tables_jo
 use Rattle.bcnf_split.proofs.tables.+push_tables.Goals as goal
 
 pub returns-in_ok-push-in-None : goal.returns-in_ok-push-in-None
-returns-in_ok-push-in-None d c r t = c.in_ok-push-in-None.ensures.items ∙ ap (λ (ts : List Table). c.args.tables.now.items ++ ts) (tables_whole c.args.covers.now r c.args.s t c.shrink_key.result (λ order. c.shrink_key.ensures.told c.args.covers.now.fds (c.requires order)) (c.in-None.ensures.first r t))
+returns-in_ok-push-in-None d c r t = c.in_ok-push-in-None.ensures.items ∙ ap (λ (ts : List Table). c.args.tables.now.items ++ ts) (tables_whole c.args.covers.now r c.args.s t c.shrink_key.result (c.shrink_key.ensures.told c.args.covers.now.fds c.requires) (c.in-None.ensures.first r t))
 
 pub returns-in_ok-push_tables-in-Some : goal.returns-in_ok-push_tables-in-Some
 returns-in_ok-push_tables-in-Some d c = on_ok c.push_tables-in-Some.result

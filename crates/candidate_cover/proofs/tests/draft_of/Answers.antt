@@ -1,7 +1,6 @@
 use Rattle.std.proofs.Common.{◌≡◌, [], ◌∙◌, ℕ, List, sym, ap, subst, rules}
 use Rattle.candidate_cover.specs.Lists.{CandLists}
-use Rattle.candidate_cover.specs.Cands.{width}
-use Rattle.candidate_cover.specs.Drafts.{AreLeast}
+use Rattle.candidate_cover.specs.Cands.{width, AreLeast}
 use Rattle.candidate_cover.proofs.Targets.{opening, width-opening, opening_least}
 use Rattle.candidate_cover.proofs.tests.draft_of.Goals as goal
 

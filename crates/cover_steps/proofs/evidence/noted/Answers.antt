@@ -1,5 +1,5 @@
 use Rattle.std.proofs.Common.{◌≡◌, ◌∙◌, ◌++◌, ◌∷◌, ap, sym, subst, Bool, true, false, [], ℕ, cond}
-use Rattle.candidate_cover.specs.Drafts.{Drafted, is_news}
+use Rattle.least_sets.specs.Drafts.{Drafted, is_news}
 use Rattle.cover_steps.specs.Evidences.{IsNews}
 use Rattle.cover_steps.proofs.Evidences.{news_more, noted_told, noted_kept}
 use Rattle.cover_steps.proofs.evidence.noted.Goals as goal

@@ -3,7 +3,7 @@ use Rattle.std.specs.List.{All}
 use Rattle.std.proofs.lemmas.List.{take_all}
 use Rattle.std.proofs.lemmas.Option.{same_Some}
 use Rattle.std.proofs.lemmas.Bool.{not-false}
-use Rattle.candidate_cover.specs.Drafts.{is_news}
+use Rattle.least_sets.specs.Drafts.{is_news}
 use Rattle.negative_cover.specs.declared.negative_cover.Witness.{Witness}
 use Rattle.cover_steps.specs.Evidences.{IsEvidence}
 use Rattle.cover_steps.specs.declared.evidence.News.{News}

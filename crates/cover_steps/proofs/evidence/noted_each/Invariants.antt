@@ -1,7 +1,7 @@
 use Rattle.std.proofs.Common.{◌≡◌, ℕ, List, false, take, Some}
 use Rattle.std.specs.List.{All}
 use Rattle.rel_base.specs.RowState.{RowState}
-use Rattle.candidate_cover.specs.Drafts.{is_news}
+use Rattle.least_sets.specs.Drafts.{is_news}
 use Rattle.negative_cover.specs.declared.negative_cover.Witness.{Witness}
 use Rattle.cover_steps.specs.Evidences.{IsEvidence, IsNews}
 use Rattle.cover_steps.proofs.evidence.noted_each.Given as goal

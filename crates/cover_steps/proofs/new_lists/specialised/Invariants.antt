@@ -1,6 +1,5 @@
 use Rattle.std.proofs.Common.{ℕ, List, [], ◌∷◌, ◌++◌}
-use Rattle.candidate_cover.specs.Cands.{width}
-use Rattle.candidate_cover.specs.Drafts.{AreLeast}
+use Rattle.candidate_cover.specs.Cands.{width, AreLeast}
 use Rattle.negative_cover.specs.Concerning.{AreConcerned}
 use Rattle.cover_steps.proofs.Putting.{AreNewListsSoFar}
 use Rattle.cover_steps.proofs.new_lists.specialised.Given as goal

@@ -5,5 +5,5 @@ use Rattle.fd_closure.proofs.Grouping.{short-partitioned}
 use Rattle.fd_closure.proofs.group.end_of.Goals as goal
 
 pub returns-clause-place : goal.returns-clause-place
-returns-clause-place c order = IsPartitionPoint-from_clause (is_short c.args.column c.args.size) c.args.fds.now c.partition_point.result c.partition_point.ensures.partitioned
-    (short-partitioned c.args.fds.now order c.args.column c.args.size) (λ a r f' k. search rules)
+returns-clause-place c = IsPartitionPoint-from_clause (is_short c.args.column c.args.size) c.args.fds.now c.partition_point.result c.partition_point.ensures.partitioned
+    (short-partitioned c.args.fds.now c.requires c.args.column c.args.size) (λ a r f' k. search rules)

@@ -4,17 +4,12 @@ use Rattle.fd_closure.specs.Closure.{is_short}
 use Rattle.fd_closure.proofs.Grouping.{inside-at, inside-none}
 use Rattle.fd_closure.proofs.group.has_short_left_inside.Goals as goal
 
-pub returns-then-subset_of-clause-only : goal.returns-then-subset_of-clause-only
-returns-then-subset_of-clause-only c t =
-    let b = c.end_of-end.ensures.bound in let l = c.loop-k-test.true in let inside : c.loop-k.k < length c.args.fds.now = omega arith in
-    inside-at c.args.fds.now c.args.x c.args.column c.loop-k.k c.index-fds-k.result c.index-fds-k.is inside c.if-fd-column.true (sym c.subset_of.ensures ∙ c.if-subset_of.true)
-
-pub returns-then-subset_of-clause-every : goal.returns-then-subset_of-clause-every
-returns-then-subset_of-clause-every c order =
+pub returns-then-subset_of : goal.returns-then-subset_of
+returns-then-subset_of c =
     let b = c.end_of-end.ensures.bound in let l = c.loop-k-test.true in let inside : c.loop-k.k < length c.args.fds.now = omega arith in
     sym (inside-at c.args.fds.now c.args.x c.args.column c.loop-k.k c.index-fds-k.result c.index-fds-k.is inside c.if-fd-column.true (sym c.subset_of.ensures ∙ c.if-subset_of.true))
 
-pub returns-clause-every : goal.returns-clause-every
-returns-clause-every c order = sym (inside-none c.args.fds.now c.args.x c.args.column c.start_of-start.result c.end_of-end.result (c.start_of-start.ensures.place order)
-    (subst (λ (n : ℕ). IsPartitionPoint (λ fd. is_short c.args.column n fd ≡ true) (λ fd. is_short c.args.column n fd ≡ false) c.args.fds.now c.end_of-end.result) c.len.ensures.value (c.end_of-end.ensures.place order))
+pub returns : goal.returns
+returns c = sym (inside-none c.args.fds.now c.args.x c.args.column c.start_of-start.result c.end_of-end.result c.start_of-start.ensures.place
+    (subst (λ (n : ℕ). IsPartitionPoint (λ fd. is_short c.args.column n fd ≡ true) (λ fd. is_short c.args.column n fd ≡ false) c.args.fds.now c.end_of-end.result) c.len.ensures.value c.end_of-end.ensures.place)
     (λ k fd a b i. let l = c.loop-k-test.false in c.loop-k.invariant k fd a (omega arith) i))

@@ -1,7 +1,7 @@
 use Rattle.std.proofs.Common.{rules}
 use Rattle.std.proofs.lemmas.Fn.{always_returns_same}
 use Rattle.rel_base.specs.declared.dependency.Fd.{Fd}
-use Rattle.rel_base.specs.Laws.{fd_cmp}
+use Rattle.rel_base.specs.Covers.{fd_cmp}
 use Rattle.fd_closure.proofs.Reaching.{left_side-inside}
 use Rattle.fd_closure.proofs.group.is_left_side.Goals as goal
 

@@ -5,5 +5,5 @@ use Rattle.fd_closure.proofs.Grouping.{before-partitioned}
 use Rattle.fd_closure.proofs.group.start_of.Goals as goal
 
 pub returns-clause-place : goal.returns-clause-place
-returns-clause-place c order = IsPartitionPoint-from_clause (is_before c.args.column) c.args.fds.now c.partition_point.result c.partition_point.ensures.partitioned
-    (before-partitioned c.args.fds.now order c.args.column) (λ a r f' k. search rules)
+returns-clause-place c = IsPartitionPoint-from_clause (is_before c.args.column) c.args.fds.now c.partition_point.result c.partition_point.ensures.partitioned
+    (before-partitioned c.args.fds.now c.requires c.args.column) (λ a r f' k. search rules)

@@ -13,9 +13,9 @@ loop-column-preserved-then-determines c =
     let e : c.loop-column.column ≡ suc (c.loop-column.column - 1) = omega arith in
     record {
       inside = subst (λ (z : ℕ). IsSubset z c.args.s) (sym c.without-key.ensures) (IsSubset-trans (without-subset c.loop-column.key (c.loop-column.column - 1)) c.loop-column.invariant.inside);
-      every = λ order. shrunk-dropped (λ x. subset c.args.s (closure_of c.args.covers.now.fds x)) c.loop-column.column (c.loop-column.column - 1) c.loop-column.key c.without-key.result e (sym c.has.ensures ∙ c.if-has.true)
-          (ap (λ (z : ℕ). subset c.args.s (closure_of c.args.covers.now.fds z)) (c.without-key.ensures ∙ sym c.without.ensures) ∙ sym (c.determines.ensures.every order) ∙ c.if-determines.true) c.without-key.ensures
-          ∙ c.loop-column.invariant.every order;
+      value = shrunk-dropped (λ x. subset c.args.s (closure_of c.args.covers.now.fds x)) c.loop-column.column (c.loop-column.column - 1) c.loop-column.key c.without-key.result e (sym c.has.ensures ∙ c.if-has.true)
+          (ap (λ (z : ℕ). subset c.args.s (closure_of c.args.covers.now.fds z)) (c.without-key.ensures ∙ sym c.without.ensures) ∙ sym c.determines.ensures ∙ c.if-determines.true) c.without-key.ensures
+          ∙ c.loop-column.invariant.value;
     }
 
 pub loop-column-preserved : goal.loop-column-preserved
@@ -24,14 +24,14 @@ loop-column-preserved c =
     let e : c.loop-column.column ≡ suc (c.loop-column.column - 1) = omega arith in
     record {
       inside = c.loop-column.invariant.inside;
-      every = λ order. shrunk-kept (λ x. subset c.args.s (closure_of c.args.covers.now.fds x)) c.loop-column.column (c.loop-column.column - 1) c.loop-column.key e
+      value = shrunk-kept (λ x. subset c.args.s (closure_of c.args.covers.now.fds x)) c.loop-column.column (c.loop-column.column - 1) c.loop-column.key e
           (elim c.else-has.branch [
             | else-has-via-then-has+else-determines w ↦ and_right (has c.loop-column.key (c.loop-column.column - 1)) _
-                (ap (λ (z : ℕ). subset c.args.s (closure_of c.args.covers.now.fds z)) (sym w.without.ensures) ∙ sym (w.determines.ensures.every order) ∙ w.if-determines.false)
+                (ap (λ (z : ℕ). subset c.args.s (closure_of c.args.covers.now.fds z)) (sym w.without.ensures) ∙ sym w.determines.ensures ∙ w.if-determines.false)
             | else-has-via-else-has w ↦ and_left _ _ (sym c.has.ensures ∙ w.if-has.false)
           ])
-          ∙ c.loop-column.invariant.every order;
+          ∙ c.loop-column.invariant.value;
     }
 
-pub returns-clause-every : goal.returns-clause-every
-returns-clause-every c order = sym (shrunk-end (λ x. subset c.args.s (closure_of c.args.covers.now.fds x)) c.loop-column.column c.loop-column.key c.loop-column-test.false) ∙ c.loop-column.invariant.every order
+pub returns-clause-value : goal.returns-clause-value
+returns-clause-value c = sym (shrunk-end (λ x. subset c.args.s (closure_of c.args.covers.now.fds x)) c.loop-column.column c.loop-column.key c.loop-column-test.false) ∙ c.loop-column.invariant.value

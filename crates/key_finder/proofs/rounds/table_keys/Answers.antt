@@ -22,12 +22,12 @@ judged-requires-clause-keys c = subst (λ (keys : List ℕ). All (λ (key : ℕ)
 
 pub returns-then-is_empty-clause-by_codes : goal.returns-then-is_empty-clause-by_codes
 returns-then-is_empty-clause-by_codes c = finished c.args.snapshot.now c.args.columns c.rounds.agree_sets.items c.rounds.held.items c.as_slice.result.now c.in_ok-keys.keys.items c.as_slice-in-rounds.result.now c.in_ok-round.round.news.items
-    c.requires c.rounds.invariant c.as_slice.ensures.value c.in_ok-keys.ensures c.as_slice-in-rounds.ensures.value c.in_ok-round.ensures.none (none_left _ c.in_ok-round.round.news.items c.in_ok-round.round.news.ok.0 (sym c.if-is_empty.ensures))
+    c.requires c.rounds.invariant.search c.as_slice.ensures.value c.in_ok-keys.ensures c.as_slice-in-rounds.ensures.value c.in_ok-round.ensures.none (none_left _ c.in_ok-round.round.news.items c.in_ok-round.round.news.ok.0 (sym c.if-is_empty.ensures))
 
 pub returns-then-is_empty-clause-keys : goal.returns-then-is_empty-clause-keys
 returns-then-is_empty-clause-keys c r is shows equal =
     finished c.args.snapshot.now c.args.columns c.rounds.agree_sets.items c.rounds.held.items c.as_slice.result.now c.in_ok-keys.keys.items c.as_slice-in-rounds.result.now c.in_ok-round.round.news.items
-    c.requires c.rounds.invariant c.as_slice.ensures.value c.in_ok-keys.ensures c.as_slice-in-rounds.ensures.value c.in_ok-round.ensures.none (none_left _ c.in_ok-round.round.news.items c.in_ok-round.round.news.ok.0 (sym c.if-is_empty.ensures))
+    c.requires c.rounds.invariant.search c.as_slice.ensures.value c.in_ok-keys.ensures c.as_slice-in-rounds.ensures.value c.in_ok-round.ensures.none (none_left _ c.in_ok-round.round.news.items c.in_ok-round.round.news.ok.0 (sym c.if-is_empty.ensures))
     ∙ ap (λ (n : ℕ). keys_within n (code_agree_sets c.args.snapshot.now) c.args.columns) shows.columns
     ∙ sym (Snapshots-tell c.args.snapshot.now r c.args.columns is shows equal (subst (λ (n : ℕ). c.args.columns < 2 ^ n) shows.columns c.requires))
 
@@ -39,6 +39,9 @@ rounds-smaller c = standing-less c.args.snapshot.now (length c.args.snapshot.now
     (c.in_ok-extend_from_slice.ensures.items ∙ ap (λ (more : List ℕ). c.rounds.agree_sets.items ++ more) c.as_slice-in-rounds-3.ensures.value)
 
 pub rounds-preserved : goal.rounds-preserved
-rounds-preserved c = searching_more c.args.snapshot.now c.args.columns c.rounds.agree_sets.items c.rounds.held.items c.as_slice-in-rounds.result.now c.in_ok-round.round.news.items c.in_ok-round.round.held.items c.extend_from_slice.new.self.items
-    c.rounds.invariant c.in_ok-round.ensures.news c.in_ok-round.ensures.held
-    (c.in_ok-extend_from_slice.ensures.items ∙ ap (λ (more : List ℕ). c.rounds.agree_sets.items ++ more) c.as_slice-in-rounds-3.ensures.value)
+rounds-preserved c = record {
+  path = c.judged.ensures.path;
+  search = searching_more c.args.snapshot.now c.args.columns c.rounds.agree_sets.items c.rounds.held.items c.as_slice-in-rounds.result.now c.in_ok-round.round.news.items c.in_ok-round.round.held.items c.extend_from_slice.new.self.items
+      c.rounds.invariant.search c.in_ok-round.ensures.news c.in_ok-round.ensures.held
+      (c.in_ok-extend_from_slice.ensures.items ∙ ap (λ (more : List ℕ). c.rounds.agree_sets.items ++ more) c.as_slice-in-rounds-3.ensures.value);
+}

@@ -1,4 +1,4 @@
-use Rattle.std.proofs.Common.{take, rules, ap, ◌∙◌}
+use Rattle.std.proofs.Common.{take, rules, arith, ap, ◌∙◌}
 use Rattle.std.proofs.lemmas.List.{with_items_is, places}
 use Rattle.ports.proofs.Moving.{Moves-more}
 use Rattle.ports.proofs.Shelves.{ReadsOn-more}
@@ -17,4 +17,5 @@ loop-filled-preserved g c =
       },
       ReadsOn-more shelf.opened _ _ _ _ _ _ _ _ c.loop-filled.invariant.1 read.opened read.content read.reads read.writes,
       read.opens ∙ c.loop-filled.invariant.2,
+      omega (arith, read.taken, c.loop-filled.invariant.3),
     )

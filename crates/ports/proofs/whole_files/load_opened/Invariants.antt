@@ -1,4 +1,4 @@
-use Rattle.std.proofs.Common.{◌≡◌, ◌+◌, ◌-◌}
+use Rattle.std.proofs.Common.{◌≡◌, ◌≤◌, ◌+◌, ◌-◌}
 use Rattle.ports.specs.Files.{left_of}
 use Rattle.ports.proofs.Moving.{Filling}
 use Rattle.ports.proofs.Shelves.{ReadsOn}
@@ -10,6 +10,7 @@ invariant-loop-filled g l =
     Filling l.limit l.filled l.bytes.items (left_of (shelf.opened l.initial.shelf)) (left_of (shelf.opened l.shelf))
     × ReadsOn shelf.opened shelf.content shelf.read_faults shelf.read_last shelf.write_faults shelf.write_last l.initial.shelf l.shelf
     × (shelf.opens l.shelf ≡ shelf.opens l.initial.shelf)
+    × (shelf.taken l.shelf ≤ shelf.taken l.initial.shelf + l.filled)
 
 abbrev pub decreases-loop-filled : goal.decreases-loop-filled
 decreases-loop-filled g l = l.limit + 1 - l.filled

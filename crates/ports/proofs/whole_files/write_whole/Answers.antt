@@ -14,6 +14,7 @@ loop-done-init g c = (
     writes = search rules;
   },
   refl,
+  refl,
 )
 
 pub loop-done-preserved : goal.loop-done-preserved
@@ -21,4 +22,4 @@ loop-done-preserved g c =
     let shelf = g.H.Shelf in
     let write = c.in-Took.ensures in
     let appended = rw take_rest at write.appended in
-    (search rules, WritesOn-more shelf.opened shelf.content _ _ _ _ _ _ _ c.args.bytes.now _ _ c.loop-done.invariant.1 write.opened appended.2 write.reads write.writes, write.opens ∙ c.loop-done.invariant.2)
+    (search rules, WritesOn-more shelf.opened shelf.content _ _ _ _ _ _ _ c.args.bytes.now _ _ c.loop-done.invariant.1 write.opened appended.2 write.reads write.writes, write.opens ∙ c.loop-done.invariant.2, write.taken ∙ c.loop-done.invariant.3)

@@ -1,13 +1,15 @@
-use Rattle.std.proofs.Common.{◌≡◌, ◌∙◌, ◌+◌, ◌≤◌, ◌⊎◌, List, String, Some, sym, ap, subst, false}
+use Rattle.std.proofs.Common.{◌≡◌, ◌∙◌, ◌+◌, ◌≤◌, ◌⊎◌, List, String, Some, sym, ap, subst, false, arith}
 use Rattle.std.specs.Prelude.{IfSome, IsSomeAnd}
 use Rattle.std.specs.declared.alloc.Global.{Global}
-use Rattle.profile_cli.specs.Command.{command, texts}
+use Rattle.cli_words.specs.Command.{command, texts, workers_asked}
+use Rattle.task_base.specs.Task.{AreWorkers}
 use Rattle.profile_cli.specs.Ends.{AreAccepted, IsFileFault, IsFileRefusal, IsInputFault, IsInputRefusal, IsReadThrough, IsUnwritten, IsWhole, OnSources, OnTold, Runs, StopsAtFile, StopsAtSink}
 use Rattle.profile_cli.specs.Outcomes.{IfReadFault}
-use Rattle.profile_cli.specs.Output.{output, refusal}
-use Rattle.profile_cli.specs.Task.{files_read, HasWorkers, task_of}
-use Rattle.profile_cli.specs.declared.request.Request.{Request}
+use Rattle.profile_cli.specs.Output.{SomeOutput, refusal}
+use Rattle.profile_cli.specs.Task.{files_read, task_of}
+use Rattle.cli_words.specs.declared.request.Request.{Request}
 use Rattle.profile_cli.proofs.Ends.{IfReadFault-map, IfRefused-map, OnDone-map, OnWriteFault-map, complete, done, lines, no_usage, none_is_some, not_accepted, sinks, some_same, write_fault}
+use Rattle.profile_cli.proofs.Lossless.{written_tables}
 use Rattle.profile_cli.proofs.top_call.run.Goals as goal
 
 pub returns-in-Ok-Some-clause-done : goal.returns-in-Ok-Some-clause-done
@@ -17,9 +19,9 @@ returns-in-Ok-Some-clause-done g c =
     let O = g.O.Sink in
     let request = c.in-Ok-Some.request in
     let are : Some request ≡ command (texts c.args.words.items) = sym c.in-Ok-Some.field-0-is ∙ c.in-Ok-Some.ensures.command ∙ ap (λ (ws : List (String Global)). command (texts ws)) c.as_slice.ensures.value in
-    OnDone-map c.perform.result (OnSources (task_of request) (H.content c.args.shelf.now) (I.left c.args.input.now) (λ files bytes. ((output (texts c.args.words.items) c.args.limits files bytes).status ≡ 0) × IsWhole (output (texts c.args.words.items) c.args.limits files bytes).written (H.content c.args.shelf.now) (H.content c.perform.new.shelf) (O.held c.args.out.now) (O.held c.perform.new.out)))
-    (IsSomeAnd (command (texts c.args.words.items)) (λ (r : Request). OnSources (task_of r) (H.content c.args.shelf.now) (I.left c.args.input.now) (λ files bytes. ((output (texts c.args.words.items) c.args.limits files bytes).status ≡ 0) × IsWhole (output (texts c.args.words.items) c.args.limits files bytes).written (H.content c.args.shelf.now) (H.content c.perform.new.shelf) (O.held c.args.out.now) (O.held c.perform.new.out))))
-    (subst (λ o. IsSomeAnd o (λ (r : Request). OnSources (task_of r) (H.content c.args.shelf.now) (I.left c.args.input.now) (λ files bytes. ((output (texts c.args.words.items) c.args.limits files bytes).status ≡ 0) × IsWhole (output (texts c.args.words.items) c.args.limits files bytes).written (H.content c.args.shelf.now) (H.content c.perform.new.shelf) (O.held c.args.out.now) (O.held c.perform.new.out)))) are)
+    OnDone-map c.perform.result (OnSources (task_of request) (H.content c.args.shelf.now) (I.left c.args.input.now) (λ files bytes. SomeOutput (texts c.args.words.items) c.args.limits files bytes (λ o. (o.status ≡ 0) × IsWhole o.written (H.content c.args.shelf.now) (H.content c.perform.new.shelf) (O.held c.args.out.now) (O.held c.perform.new.out))))
+    (IsSomeAnd (command (texts c.args.words.items)) (λ (r : Request). OnSources (task_of r) (H.content c.args.shelf.now) (I.left c.args.input.now) (λ files bytes. SomeOutput (texts c.args.words.items) c.args.limits files bytes (λ o. (o.status ≡ 0) × IsWhole o.written (H.content c.args.shelf.now) (H.content c.perform.new.shelf) (O.held c.args.out.now) (O.held c.perform.new.out)))))
+    (subst (λ o. IsSomeAnd o (λ (r : Request). OnSources (task_of r) (H.content c.args.shelf.now) (I.left c.args.input.now) (λ files bytes. SomeOutput (texts c.args.words.items) c.args.limits files bytes (λ o. (o.status ≡ 0) × IsWhole o.written (H.content c.args.shelf.now) (H.content c.perform.new.shelf) (O.held c.args.out.now) (O.held c.perform.new.out))))) are)
     (done (texts c.args.words.items) request c.args.limits (H.content c.args.shelf.now) (I.left c.args.input.now) (sym are) (H.content c.perform.new.shelf) (O.held c.args.out.now) (O.held c.perform.new.out) (O.faults c.args.out.now) (O.faults c.perform.new.out) H.write_faults H.write_last c.args.shelf.now c.perform.new.shelf c.perform.result c.perform.ensures.runs)
 
 pub returns-in-Ok-Some-clause-done_input : goal.returns-in-Ok-Some-clause-done_input
@@ -184,12 +186,12 @@ returns-in-Ok-Some-clause-write_fault g c =
     let O = g.O.Sink in
     let request = c.in-Ok-Some.request in
     let are : Some request ≡ command (texts c.args.words.items) = sym c.in-Ok-Some.field-0-is ∙ c.in-Ok-Some.ensures.command ∙ ap (λ (ws : List (String Global)). command (texts ws)) c.as_slice.ensures.value in
-    OnWriteFault-map c.perform.result (OnSources (task_of request) (H.content c.args.shelf.now) (I.left c.args.input.now) (λ files bytes. ((output (texts c.args.words.items) c.args.limits files bytes).status ≡ 0)
-    × (StopsAtFile (output (texts c.args.words.items) c.args.limits files bytes).written (H.content c.args.shelf.now) (H.content c.perform.new.shelf) (O.held c.args.out.now) (O.held c.perform.new.out) (O.faults c.args.out.now) (O.faults c.perform.new.out) H.write_faults H.write_last c.args.shelf.now c.perform.new.shelf ⊎ StopsAtSink (output (texts c.args.words.items) c.args.limits files bytes).written (H.content c.args.shelf.now) (H.content c.perform.new.shelf) (O.held c.args.out.now) (O.held c.perform.new.out) (O.faults c.args.out.now) (O.faults c.perform.new.out) H.write_faults H.write_last c.args.shelf.now c.perform.new.shelf)))
-    (IsSomeAnd (command (texts c.args.words.items)) (λ (r : Request). OnSources (task_of r) (H.content c.args.shelf.now) (I.left c.args.input.now) (λ files bytes. ((output (texts c.args.words.items) c.args.limits files bytes).status ≡ 0)
-    × (StopsAtFile (output (texts c.args.words.items) c.args.limits files bytes).written (H.content c.args.shelf.now) (H.content c.perform.new.shelf) (O.held c.args.out.now) (O.held c.perform.new.out) (O.faults c.args.out.now) (O.faults c.perform.new.out) H.write_faults H.write_last c.args.shelf.now c.perform.new.shelf ⊎ StopsAtSink (output (texts c.args.words.items) c.args.limits files bytes).written (H.content c.args.shelf.now) (H.content c.perform.new.shelf) (O.held c.args.out.now) (O.held c.perform.new.out) (O.faults c.args.out.now) (O.faults c.perform.new.out) H.write_faults H.write_last c.args.shelf.now c.perform.new.shelf))))
-    (subst (λ o. IsSomeAnd o (λ (r : Request). OnSources (task_of r) (H.content c.args.shelf.now) (I.left c.args.input.now) (λ files bytes. ((output (texts c.args.words.items) c.args.limits files bytes).status ≡ 0)
-    × (StopsAtFile (output (texts c.args.words.items) c.args.limits files bytes).written (H.content c.args.shelf.now) (H.content c.perform.new.shelf) (O.held c.args.out.now) (O.held c.perform.new.out) (O.faults c.args.out.now) (O.faults c.perform.new.out) H.write_faults H.write_last c.args.shelf.now c.perform.new.shelf ⊎ StopsAtSink (output (texts c.args.words.items) c.args.limits files bytes).written (H.content c.args.shelf.now) (H.content c.perform.new.shelf) (O.held c.args.out.now) (O.held c.perform.new.out) (O.faults c.args.out.now) (O.faults c.perform.new.out) H.write_faults H.write_last c.args.shelf.now c.perform.new.shelf)))) are)
+    OnWriteFault-map c.perform.result (OnSources (task_of request) (H.content c.args.shelf.now) (I.left c.args.input.now) (λ files bytes. SomeOutput (texts c.args.words.items) c.args.limits files bytes (λ o. (o.status ≡ 0)
+    × (StopsAtFile o.written (H.content c.args.shelf.now) (H.content c.perform.new.shelf) (O.held c.args.out.now) (O.held c.perform.new.out) (O.faults c.args.out.now) (O.faults c.perform.new.out) H.write_faults H.write_last c.args.shelf.now c.perform.new.shelf ⊎ StopsAtSink o.written (H.content c.args.shelf.now) (H.content c.perform.new.shelf) (O.held c.args.out.now) (O.held c.perform.new.out) (O.faults c.args.out.now) (O.faults c.perform.new.out) H.write_faults H.write_last c.args.shelf.now c.perform.new.shelf))))
+    (IsSomeAnd (command (texts c.args.words.items)) (λ (r : Request). OnSources (task_of r) (H.content c.args.shelf.now) (I.left c.args.input.now) (λ files bytes. SomeOutput (texts c.args.words.items) c.args.limits files bytes (λ o. (o.status ≡ 0)
+    × (StopsAtFile o.written (H.content c.args.shelf.now) (H.content c.perform.new.shelf) (O.held c.args.out.now) (O.held c.perform.new.out) (O.faults c.args.out.now) (O.faults c.perform.new.out) H.write_faults H.write_last c.args.shelf.now c.perform.new.shelf ⊎ StopsAtSink o.written (H.content c.args.shelf.now) (H.content c.perform.new.shelf) (O.held c.args.out.now) (O.held c.perform.new.out) (O.faults c.args.out.now) (O.faults c.perform.new.out) H.write_faults H.write_last c.args.shelf.now c.perform.new.shelf)))))
+    (subst (λ o. IsSomeAnd o (λ (r : Request). OnSources (task_of r) (H.content c.args.shelf.now) (I.left c.args.input.now) (λ files bytes. SomeOutput (texts c.args.words.items) c.args.limits files bytes (λ o. (o.status ≡ 0)
+    × (StopsAtFile o.written (H.content c.args.shelf.now) (H.content c.perform.new.shelf) (O.held c.args.out.now) (O.held c.perform.new.out) (O.faults c.args.out.now) (O.faults c.perform.new.out) H.write_faults H.write_last c.args.shelf.now c.perform.new.shelf ⊎ StopsAtSink o.written (H.content c.args.shelf.now) (H.content c.perform.new.shelf) (O.held c.args.out.now) (O.held c.perform.new.out) (O.faults c.args.out.now) (O.faults c.perform.new.out) H.write_faults H.write_last c.args.shelf.now c.perform.new.shelf))))) are)
     (write_fault (texts c.args.words.items) request c.args.limits (H.content c.args.shelf.now) (I.left c.args.input.now) (sym are) (H.content c.perform.new.shelf) (O.held c.args.out.now) (O.held c.perform.new.out) (O.faults c.args.out.now) (O.faults c.perform.new.out) H.write_faults H.write_last c.args.shelf.now c.perform.new.shelf c.perform.result c.perform.ensures.runs)
 
 pub returns-in-Ok-Some-clause-no_files : goal.returns-in-Ok-Some-clause-no_files
@@ -247,4 +249,17 @@ returns-in-Ok-Some-clause-not_accepted g c other files bytes file rec why words 
     some shelf from
 
 pub perform-requires-clause-workers : goal.perform-requires-clause-workers
-perform-requires-clause-workers g c κs within = subst (λ o. IfSome o (λ (request : Request). HasWorkers (task_of request))) c.in-Ok-Some.field-0-is c.in-Ok-Some.ensures.workers
+perform-requires-clause-workers g c κs within =
+    let asked : AreWorkers (workers_asked c.in-Ok-Some.request) = subst (λ o. IfSome o (λ (request : Request). AreWorkers (workers_asked request))) c.in-Ok-Some.field-0-is c.in-Ok-Some.ensures.workers in
+    let same = c.workers.ensures in
+    let some = asked.some in
+    let few = asked.few in
+    (omega arith, omega arith)
+
+pub returns-in-Ok-Some-clause-tables : goal.returns-in-Ok-Some-clause-tables
+returns-in-Ok-Some-clause-tables g c workers prefix file is =
+    let H = g.H.Shelf in
+    let I = g.I.Source in
+    let O = g.O.Sink in
+    written_tables (texts c.args.words.items) workers prefix file c.args.limits (H.content c.args.shelf.now) (H.content c.perform.new.shelf) (I.left c.args.input.now) (O.held c.args.out.now) (O.held c.perform.new.out) c.perform.result is
+    (returns-in-Ok-Some-clause-done g c)

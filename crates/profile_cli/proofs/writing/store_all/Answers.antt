@@ -9,8 +9,9 @@ use Rattle.ports.specs.Lists.{File, file_at}
 use Rattle.ports.specs.Whole.{Stores}
 use Rattle.ports.specs.declared.whole_files.Storing.TheVariants.{Failed}
 use Rattle.profile_cli.specs.Output.{with_files}
-use Rattle.profile_cli.proofs.Storing.{at_place, stored_more, stored_none}
-use Rattle.profile_cli.proofs.Texts.{SameFaults-refl, SameFaults-trans}
+use Rattle.task_base.proofs.Facts.{at_place}
+use Rattle.profile_cli.proofs.Storing.{stored_more, stored_none}
+use Rattle.task_base.proofs.Facts.{SameFaults-refl, SameFaults-trans}
 use Rattle.profile_cli.proofs.writing.store_all.Goals as goal
 
 pub loop-name-init : goal.loop-name-init

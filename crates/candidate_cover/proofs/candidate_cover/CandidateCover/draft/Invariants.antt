@@ -1,6 +1,6 @@
 use Rattle.std.proofs.Common.{◌≡◌, map}
 use Rattle.col_set.specs.ColSet.{upto}
-use Rattle.candidate_cover.specs.Drafts.{lists_behind}
+use Rattle.least_sets.specs.Drafts.{lists_behind}
 use Rattle.candidate_cover.proofs.Drafted.{column_lefts}
 use Rattle.candidate_cover.proofs.candidate_cover.CandidateCover.draft.Given as goal
 

@@ -3,7 +3,7 @@ use Rattle.std.specs.List.{All}
 use Rattle.negative_cover.specs.declared.negative_cover.Witness.{Witness}
 use Rattle.cover_steps.specs.Core.{Core}
 use Rattle.negative_cover.specs.Witnesses.{sets_of}
-use Rattle.candidate_cover.specs.Drafts.{Drafted, is_news}
+use Rattle.least_sets.specs.Drafts.{Drafted, is_news}
 use Rattle.rel_base.specs.RowState.{RowState, width}
 use Rattle.std.proofs.lemmas.Result.{on_ok_weaker}
 use Rattle.cover_steps.specs.Evidences.{IsEvidence, IsNews}

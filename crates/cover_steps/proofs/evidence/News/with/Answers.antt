@@ -1,7 +1,7 @@
 use Rattle.std.proofs.Common.{◌≡◌, List, false, sym, subst, IsPermutation}
 use Rattle.std.specs.List.{All}
 use Rattle.std.proofs.lemmas.List.Sorted.{IsPermutation-sym}
-use Rattle.candidate_cover.specs.Drafts.{is_news}
+use Rattle.least_sets.specs.Drafts.{is_news}
 use Rattle.negative_cover.specs.declared.negative_cover.Witness.{Witness}
 use Rattle.cover_steps.specs.Evidences.{IsEvidence}
 use Rattle.cover_steps.specs.declared.evidence.News.{News}

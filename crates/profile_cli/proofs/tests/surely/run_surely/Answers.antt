@@ -7,17 +7,16 @@ use Rattle.ports.specs.Files.{Files}
 use Rattle.ports.specs.Lists.{look_up}
 use Rattle.ports.specs.Memory.{SureHeld}
 use Rattle.ports.specs.Shelves.{SureFiles, sure_content}
-use Rattle.profile_cli.specs.Command.{command}
-use Rattle.profile_cli.specs.Contents.{contents_of}
+use Rattle.cli_words.specs.Command.{command}
 use Rattle.profile_cli.specs.Ends.{AreAccepted, IsFileFault, IsInput, IsInputFault, OnInput, OnSources, StopsAtFile, StopsAtSink}
 use Rattle.profile_cli.specs.Outcomes.{IfReadFault, IfRefused, IsDoneOrNoMemory, OnUsage, OnWriteFault}
-use Rattle.profile_cli.specs.Output.{output, refusal}
+use Rattle.profile_cli.specs.Output.{Output, SomeOutput, output, refusal}
 use Rattle.profile_cli.specs.Task.{task_of}
 use Rattle.profile_cli.specs.declared.outcome.Outcome.{Outcome}
 use Rattle.profile_cli.specs.declared.outcome.Outcome.TheVariants.{Done, Usage, Refused, ReadFault, WriteFault, NoMemory}
-use Rattle.profile_cli.specs.declared.request.Request.{Request}
+use Rattle.cli_words.specs.declared.request.Request.{Request}
 use Rattle.profile_cli.proofs.Ends.{accepted_output, none_is_some, some_same}
-use Rattle.profile_cli.proofs.Tasks.{writes_none}
+use Rattle.profile_cli.proofs.Commands.{writes_none}
 use Rattle.profile_cli.proofs.tests.surely.run_surely.Goals as goal
 
 at : (reads : Bool) (input : Option (List ℕ)) (bytes : List ℕ) (Q : List ℕ → Type 0) → IsInput reads input bytes → OnInput reads input Q → Q bytes
@@ -32,21 +31,21 @@ positive a (suc b) e f = omega arith
 module _ (words : List Text) (request : Request) (limits : Limits) (old new : SureFiles) (input input' bytes : List ℕ) (sink sink' : SureHeld)
     (is : command words ≡ Some request) (given : IsInput (task_of request).reads_input (Some input) bytes) (none : refusal (task_of request) limits (look_up old.files) bytes ≡ None)
     (no_files : (task_of request).writes_files ≡ false) (empty : sink.store.held ≡ []) (unfailed : sink.faults ≡ 0) (same : sink'.store.room ≡ sink.store.room)
-    (full : 0 < sink'.faults → length sink'.store.held ≡ sink'.store.room) (room : length (output words limits (look_up old.files) bytes).written.text < sink.store.room) where
+    (full : 0 < sink'.faults → length sink'.store.held ≡ sink'.store.room) (room : (o : Output) → output words limits (look_up old.files) bytes o → length o.written.text < sink.store.room) where
   abbrev Stops : Files → List ℕ → Type 0
-  Stops files all = ((output words limits files all).status ≡ 0)
-      × (StopsAtFile (output words limits files all).written (sure_content old) (sure_content new) (Some sink.store.held) (Some sink'.store.held) sink.faults sink'.faults (λ (s : SureFiles). s.write_faults) (λ (s : SureFiles). s.write_last) old new
-      ⊎ StopsAtSink (output words limits files all).written (sure_content old) (sure_content new) (Some sink.store.held) (Some sink'.store.held) sink.faults sink'.faults (λ (s : SureFiles). s.write_faults) (λ (s : SureFiles). s.write_last) old new)
+  Stops files all = SomeOutput words limits files all (λ o. (o.status ≡ 0)
+      × (StopsAtFile o.written (sure_content old) (sure_content new) (Some sink.store.held) (Some sink'.store.held) sink.faults sink'.faults (λ (s : SureFiles). s.write_faults) (λ (s : SureFiles). s.write_last) old new
+      ⊎ StopsAtSink o.written (sure_content old) (sure_content new) (Some sink.store.held) (Some sink'.store.held) sink.faults sink'.faults (λ (s : SureFiles). s.write_faults) (λ (s : SureFiles). s.write_last) old new))
 
   never : Stops (look_up old.files) bytes → ⊥
-  never (zero_status, inl s) =
-      let files : (output words limits (look_up old.files) bytes).written.files ≡ [] =
-      ap (λ o. o.written.files) (accepted_output words request limits (look_up old.files) bytes is none) ∙ writes_none request limits (contents_of (look_up old.files) (task_of request).reads) bytes no_files in
-      let count : length (output words limits (look_up old.files) bytes).written.files ≡ 0 = ap length files in
+  never (o, is_one, (zero_status, inl s)) =
+      let files : o.written.files ≡ [] = writes_none request limits _ o.written no_files (accepted_output words request limits (look_up old.files) bytes o is none is_one).1 in
+      let count : length o.written.files ≡ 0 = ap length files in
       let within = s.file.within in
       omega arith
-  never (zero_status, inr s) =
-      let text : List ℕ = (output words limits (look_up old.files) bytes).written.text in
+  never (o, is_one, (zero_status, inr s)) =
+      let text : List ℕ = o.written.text in
+      let less : length text < sink.store.room = room o is_one in
       let held : sink'.store.held ≡ take s.count text = some_same sink'.store.held (take s.count text) (s.text ∙ ap (λ (h : List ℕ). Some (h ++ take s.count text)) empty) in
       let long : length sink'.store.held ≡ length (take s.count text) = ap length held in
       let short = length-take s.count text in

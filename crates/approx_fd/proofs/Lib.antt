@@ -1,0 +1,9 @@
+pub mod Sublists
+pub mod Counting
+pub mod Removing
+pub mod Listing
+pub mod Evidence
+pub mod Calls
+pub mod Judging
+pub mod Gathering
+pub mod Joining

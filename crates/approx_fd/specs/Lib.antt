@@ -1,0 +1,4 @@
+pub mod Removal
+pub mod Approximate
+pub mod Search
+pub mod Laws

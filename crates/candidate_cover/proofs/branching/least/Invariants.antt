@@ -1,7 +1,0 @@
-use Rattle.std.proofs.Common.{◌≡◌, not, take}
-use Rattle.std.specs.List.{filter}
-use Rattle.col_set.specs.Target.{has_target}
-use Rattle.candidate_cover.proofs.branching.least.Given as goal
-
-abbrev pub invariant-loop-w : goal.invariant-loop-w
-invariant-loop-w l = l.lacking.items ≡ filter (λ w. not (has_target w l.target)) (take l.w-index l.agree_sets)

@@ -1,8 +1,0 @@
-use Rattle.std.proofs.Common.{◌&&◌, not}
-use Rattle.std.specs.List.{list_any}
-use Rattle.std.proofs.lemmas.List.Filters.{FiltersInPlace}
-use Rattle.col_set.specs.ColSet.{has, inter, subset}
-use Rattle.candidate_cover.proofs.branching.move_kept.Given as goal
-
-abbrev pub invariant-loop-place : goal.invariant-loop-place
-invariant-loop-place l = FiltersInPlace (λ w. not (has w l.column && list_any (λ v. subset (inter w l.free) v) l.others)) l.initial.sets l.sets l.kept l.place

@@ -1,6 +1,0 @@
-use Rattle.std.proofs.Common.{◌≡◌, take}
-use Rattle.candidate_cover.specs.Growth.{having}
-use Rattle.candidate_cover.proofs.growth.fill_having.Given as goal
-
-abbrev pub invariant-loop-x : goal.invariant-loop-x
-invariant-loop-x l = l.found.items ≡ having l.column (take l.x-index l.sets)

@@ -1,6 +1,0 @@
-use Rattle.std.proofs.Common.{◌≡◌, ◌++◌}
-use Rattle.candidate_cover.specs.Growth.{grown}
-use Rattle.candidate_cover.proofs.growth.push_all_grown.Given as goal
-
-abbrev pub invariant-loop-column : goal.invariant-loop-column
-invariant-loop-column l = l.sets.items ≡ l.fn.sets.items ++ grown l.column l.choices l.z l.inside l.near

@@ -1,7 +1,0 @@
-use Rattle.std.proofs.Common.{◌≡◌, ◌++◌, take}
-use Rattle.std.specs.List.{filter, list_any}
-use Rattle.col_set.specs.ColSet.{subset}
-use Rattle.candidate_cover.proofs.new_list.push_containing.Given as goal
-
-abbrev pub invariant-loop-x : goal.invariant-loop-x
-invariant-loop-x l = l.changes.items ≡ l.fn.changes.items ++ filter (λ x. list_any (λ y. subset y x) l.found) (take l.x-index l.sets)

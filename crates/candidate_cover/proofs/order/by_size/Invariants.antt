@@ -1,7 +1,0 @@
-use Rattle.std.proofs.Common.{take}
-use Rattle.candidate_cover.specs.BySize.{AreBySize}
-use Rattle.candidate_cover.specs.Drafts.{lists_behind}
-use Rattle.candidate_cover.proofs.order.by_size.Given as goal
-
-abbrev pub invariant-loop-x : goal.invariant-loop-x
-invariant-loop-x l = AreBySize (take l.x-index l.x-items) (lists_behind l.lists.items)

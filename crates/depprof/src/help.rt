@@ -1,0 +1,118 @@
+// Help, on standard error: behind the usage line that standard output has.
+
+/// The version of the program, as the file VERSION at the top has it.
+pub const VERSION: &str = "0.2.0";
+
+const GENERAL: &str = "\
+depprof finds the keys, functional dependencies and inclusion dependencies of tables in CSV files.
+
+  depprof profile FILE..             every minimal key and dependency of each file, and the inclusions among all columns
+  depprof normalize --out P FILE     the same, and the table split into Boyce-Codd normal form: P1.csv, P2.csv, ..
+  depprof session FILE               reports while rows come and go: batches of changes come on standard input
+  depprof approx --errors E FILE     dependencies that hold but for at most E rows
+  depprof demo SEED                  a drawn relation of 12 columns and 5,000 rows, to try it out
+
+  depprof COMMAND --help             what one of them takes and writes
+
+A file is comma-separated text in UTF-8 with a header line. The answer is on standard output, one record a line; the
+columns in it are numbers from 1. tools/show.py shows a report with names, tools/schema_sql.py makes SQL of it.
+DEPPROF_PROGRESS=1 in the environment shows how far a run has come.
+The status is 0 when it is done, 2 for words that are no command, 3 where a file is refused, 4 where one can't be
+read, 5 where the output can't be written, and 6 where memory ran out.";
+
+const PROFILE: &str = "\
+depprof profile [--workers N] [--nulls equal|distinct] FILE..
+
+Writes a report of each file, in order: `relation,NAME,COLUMNS,ROWS`, its columns, `key,COLS` for each minimal key,
+`fd,COLS,NO` for each minimal dependency (rows that agree on COLS agree on column NO). Behind them `ind,REL.COL,REL.COL`
+for each two columns, of one file or of two, of which the first has no value that the second lacks.
+
+  --workers N      so many threads, 1 to 16 (4)
+  --nulls equal    an empty cell is a value like others (this is so unless told otherwise)
+  --nulls distinct an empty cell agrees with nothing, not even with another";
+
+const NORMALIZE: &str = "\
+depprof normalize [--workers N] --out PREFIX FILE
+
+Writes the report of the file, `table,NO,COLS,KEY` for each table of a split into Boyce-Codd normal form and
+`alternate,NO,COLS` for its other keys. The tables are the files PREFIX1.csv, PREFIX2.csv, ..; they join back to the
+distinct rows of the file.
+
+  --out PREFIX     how the names of the files begin: a folder in it must be there
+  --workers N      so many threads, 1 to 16 (4)";
+
+const SESSION: &str = "\
+depprof session [--workers N] [--nulls equal|distinct] FILE
+
+Reads the file, then changes from standard input, a record each:
+  +,CELLS          a row comes, under the next number (the rows of the file are 1, 2, 3, ..)
+  -,ROW            a row goes
+  =,ROW,CELLS      a row goes and another comes, under the next number
+  !                the batch ends: it is applied as a whole, or not at all
+  ?                a report of the rows as they are now
+Answers in their order: `applied,BATCH,INSERTED,DELETED,LIVE`, `refused,BATCH,RECORD,WHY`, or a report.
+
+  --workers N      so many threads, 1 to 16 (4)
+  --nulls          as for `depprof profile`";
+
+const APPROX: &str = "\
+depprof approx --errors E FILE
+
+Writes `relation,NAME,COLUMNS,ROWS`, the columns, and `afd,COLS,NO,REMOVED` for each minimal dependency that holds once
+at most E rows are removed: REMOVED is the least number of rows without which rows that agree on COLS agree on NO. Two
+rows that are equal break no dependency. With `--errors 0` these are the dependencies of `profile`.
+
+  --errors E       so many rows may be wrong, 0 to 1000000";
+
+const DEMO: &str = "\
+depprof demo [--workers N] SEED
+
+Draws a relation of 12 columns and 5,000 rows from a number from 0 to 18446744073709551615 and counts what `normalize`
+would say of it: `demo,SEED,12,5000,KEYS,FDS,INDS,TABLES`.
+
+  --workers N      so many threads, 1 to 16 (4)";
+
+// Each command that has a page of its own.
+const PAGES: [(&str, &str); 5] = [
+    ("profile", PROFILE),
+    ("normalize", NORMALIZE),
+    ("session", SESSION),
+    ("approx", APPROX),
+    ("demo", DEMO),
+];
+
+/// What words may ask for that are no command.
+#[derive(Clone, Copy, Debug, PartialEq, Eq)]
+pub enum Help {
+    /// This page of explanations.
+    Page(&'static str),
+    /// The version.
+    Version,
+}
+
+/// What the words ask for, the program's own name first: `--help` and `-h` anywhere, `help`, `--version` or `-V` alone.
+pub fn help_asked(words: &[String]) -> Option<Help> {
+    let first = words.get(1)?.as_str();
+    if first == "--version" || first == "-V" {
+        return Some(Help::Version);
+    }
+    if first == "help" {
+        return Some(Help::Page(words.get(2).map_or(GENERAL, |word| page_of(word.as_str()))));
+    }
+    for word in words.iter().skip(1) {
+        if word.as_str() == "--help" || word.as_str() == "-h" {
+            return Some(Help::Page(page_of(first)));
+        }
+    }
+    None
+}
+
+// The page of a command, and the general one for other words.
+fn page_of(word: &str) -> &'static str {
+    for (command, page) in PAGES {
+        if command == word {
+            return page;
+        }
+    }
+    GENERAL
+}

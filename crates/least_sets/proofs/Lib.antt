@@ -1,0 +1,13 @@
+pub mod Branches
+pub mod Drafting
+pub mod Evidence
+pub mod Exploring
+pub mod Filed
+pub mod Firsts
+pub mod Growing
+pub mod Listing
+pub mod Runs
+pub mod Sized
+pub mod Soles
+pub mod Sorting
+pub mod Splitting

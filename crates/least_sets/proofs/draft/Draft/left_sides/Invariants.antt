@@ -1,0 +1,4 @@
+use Rattle.least_sets.proofs.draft.Draft.left_sides.Given as goal
+
+abbrev pub ghosts-uncovered_on_blank : goal.ghosts-uncovered_on_blank
+ghosts-uncovered_on_blank a = record { name = a.blank.name; parts = a.blank.parts }

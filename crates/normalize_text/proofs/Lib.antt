@@ -1,0 +1,4 @@
+pub mod RowParts
+pub mod Tables
+pub mod Drawn
+pub mod Joined

@@ -1,0 +1,4 @@
+pub mod Normalize
+pub mod Joined
+pub mod Demo
+pub mod Tasks

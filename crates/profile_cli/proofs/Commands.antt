@@ -1,0 +1,56 @@
+-- What is known of every command.
+use Rattle.std.proofs.Common.{◌≡◌, ◌∙◌, refl, sym, ap, false, List, [], None, Some, Option, ℕ}
+use Rattle.std.proofs.lemmas.Bool.{false≢true}
+use Rattle.rel_base.specs.declared.limits.Limits.{Limits}
+use Rattle.rel_base.specs.declared.why.Why.{Why}
+use Rattle.clap.specs.Walk.{Text}
+use Rattle.cli_words.specs.Command.{command, workers_asked}
+use Rattle.cli_words.specs.declared.request.Request.{Request}
+use Rattle.cli_words.specs.declared.request.Request.TheVariants.{Profile, Session, Normalize, Demo, Approx}
+use Rattle.ports.specs.Files.{Files}
+use Rattle.profile_cli.specs.Output.{Output, asked, judged, output, refusal, written}
+use Rattle.profile_cli.specs.Task.{task_of}
+use Rattle.task_base.specs.Task.{Sources}
+use Rattle.task_base.specs.Written.{Written}
+
+-- one that writes no files writes none
+pub writes_none : (request : Request) (limits : Limits) (from : Sources) (w : Written) → (task_of request).writes_files ≡ false → (task_of request).writes limits from w → w.files ≡ []
+unfolding task_of
+writes_none (Profile options files) limits from w none may = ap (λ (x : Written). x.files) may
+writes_none (Session options file) limits from w none may = ap (λ (x : Written). x.files) may
+writes_none (Normalize workers prefix file) limits from w none may = absurd (false≢true (sym none))
+writes_none (Demo workers seed) limits from w none may = ap (λ (x : Written). x.files) may
+writes_none (Approx errors file) limits from w none may = ap (λ (x : Written). x.files) may
+
+-- it has the workers that its words ask for
+pub workers_are : (request : Request) → (task_of request).workers ≡ workers_asked request
+unfolding task_of workers_asked
+workers_are (Profile options files) = refl
+workers_are (Session options file) = refl
+workers_are (Normalize workers prefix file) = refl
+workers_are (Demo workers seed) = refl
+workers_are (Approx errors file) = refl
+
+-- it leaves no choice of what is written
+one_written : (request : Request) (limits : Limits) (from : Sources) (v w : Written) → (task_of request).writes limits from v → (task_of request).writes limits from w → v ≡ w
+unfolding task_of
+one_written (Profile options files) limits from v w may can = may ∙ sym can
+one_written (Session options file) limits from v w may can = may ∙ sym can
+one_written (Normalize workers prefix file) limits from v w may can = may ∙ sym can
+one_written (Demo workers seed) limits from v w may can = may ∙ sym can
+one_written (Approx errors file) limits from v w may can = may ∙ sym can
+
+same_output : (a b : Output) → a.status ≡ b.status → a.written ≡ b.written → a ≡ b
+same_output a b status written = λ i. record { status = status i; written = written i }
+
+pub one_output : (words : List Text) (limits : Limits) (files : Files) (input : List ℕ) (a b : Output) → output words limits files input a → output words limits files input b → a ≡ b
+unfolding output
+one_output words limits files input a b is are = by (command words) is are
+  where
+    judged_one : (request : Request) (r : Option (List ℕ × ℕ × Why)) → judged r (written (task_of request) limits files input) a → judged r (written (task_of request) limits files input) b → a ≡ b
+    judged_one request None may can = same_output a b (may.0 ∙ sym can.0) (one_written request limits _ a.written b.written may.1 can.1)
+    judged_one request (Some r) may can = may ∙ sym can
+
+    by : (c : Option Request) → asked c limits files input a → asked c limits files input b → a ≡ b
+    by None may can = may ∙ sym can
+    by (Some request) may can = judged_one request (refusal (task_of request) limits files input) may can

@@ -1,9 +1,0 @@
-use Rattle.std.proofs.Common.{◌∙◌, refl}
-use Rattle.clap.specs.Matches.{found_of}
-use Rattle.profile_cli.proofs.Found.{file_of-word}
-use Rattle.profile_cli.proofs.command.file_of.Goals as goal
-
-pub returns : goal.returns
-returns c =
-    c.of.ensures ∙ c.in_ok-from_str.ensures.ok
-    ∙ file_of-word (found_of c.args.found.now) c.get_str.result c.unwrap_or-word.result _ c.get_str.ensures c.unwrap_or-word.ensures refl
