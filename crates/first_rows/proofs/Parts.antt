@@ -1,7 +1,7 @@
 -- The parts of the first rows are the distinct parts.
 use Rattle.std.proofs.Common.{inl, inr, ◌≡◌, ℕ, ◌<◌, ◌^◌, Bool, true, false, cond, not, ◌&&◌, ◌||◌, ltb, refl, sym, ap, ap₂, ◌∙◌, subst, arith, List, [], ◌∷◌, map}
 use Rattle.std.specs.List.{filter}
-use Rattle.std.proofs.lemmas.Bool.{false≢true, and_parts, and_from, lt-ltb, ltb-true, false_from_ne_true}
+use Rattle.std.proofs.lemmas.Bool.{and_parts, lt-ltb, ltb-true, false_from_ne_true}
 use Rattle.col_set.specs.ColSet.{has, columns, IsSubset}
 use Rattle.col_set.specs.Lists.{Listed, list_any_which}
 use Rattle.col_set.specs.Subsets.{same_test, has_within}
@@ -9,33 +9,19 @@ use Rattle.col_set.proofs.EachColumn.{Listed-columns, columns-listed}
 use Rattle.col_set.proofs.Places.{Climbs, Contains-listed}
 use Rattle.rel_base.specs.declared.nulls.Nulls.{Nulls}
 use Rattle.rel_base.specs.declared.nulls.Nulls.TheVariants as nulls
-use Rattle.rel_base.specs.Agreement.{Agrees, same_cell}
+use Rattle.rel_base.specs.Agreement.{Agrees}
 use Rattle.rel_base.specs.Cells.{Cell, Row, cell}
 use Rattle.rel_base.specs.CodeTable.{CodeTable}
 use Rattle.rel_base.specs.Projection.{part, same_row, distinct, projected, projection}
 use Rattle.rel_base.specs.RowState.{RowState, IsRowState, row, width}
 use Rattle.rel_base.specs.Shows.{Shows, code_agree}
 use Rattle.rel_base.specs.Validity.{agree_of}
-use Rattle.rel_base.proofs.Agree.{same_cell-true, true-same_cell, agree-parts, agree-from}
+use Rattle.rel_base.proofs.Agree.{agree-parts, agree-from}
+use Rattle.rel_base.proofs.Parts.{same_row-true, true-same_row}
 use Rattle.rel_base.proofs.Shown.{Climbs-live_numbers, live_numbers-shown, code_agree-shown}
 use Rattle.stripped_partition.specs.Stripped.{agree_on}
 use Rattle.stripped_partition.proofs.Agreeing.{agree_on-subset, subset-agree_on}
 use Rattle.first_rows.specs.First.{follows, first_rows}
-
--- ---- equal rows
-same_row-true : (a b : Row) → same_row a b ≡ true → a ≡ b
-same_row-true [] [] e = refl
-same_row-true [] (y ∷ ys) e = absurd (false≢true e)
-same_row-true (x ∷ xs) [] e = absurd (false≢true e)
-same_row-true (x ∷ xs) (y ∷ ys) e = let w = and_parts (same_cell x y) (same_row xs ys) e in
-    ap₂ (λ (z : Cell) (zs : Row). z ∷ zs) (same_cell-true x y w.0) (same_row-true xs ys w.1)
-
-true-same_row : (a b : Row) → a ≡ b → same_row a b ≡ true
-true-same_row a b e = subst (λ (c : Row). same_row a c ≡ true) e (itself a)
-  where
-    itself : (c : Row) → same_row c c ≡ true
-    itself [] = refl
-    itself (x ∷ xs) = and_from _ _ (true-same_cell x x refl) (itself xs)
 
 -- ---- lists
 both : (p q : ℕ → Bool) (xs : List ℕ) → filter (λ y. not (p y || q y)) xs ≡ filter (λ y. not (p y)) (filter (λ y. not (q y)) xs)

@@ -11,7 +11,8 @@ use Rattle.col_set.specs.Lists.{Listed, Listed-filter, Listed-filter_parts, list
 use Rattle.col_set.proofs.Places.{Listed-get_or}
 use Rattle.rel_base.specs.Cells.{Row}
 use Rattle.rel_base.specs.Projection.{part, same_row, distinct, projected}
-use Rattle.lossless_join.proofs.Projected.{Apart, same_row-true, same_row-itself}
+use Rattle.rel_base.proofs.Parts.{same_row-true}
+use Rattle.lossless_join.proofs.Projected.{Apart, same_row-itself}
 
 pub same_row-symm : (a b : Row) → same_row a b ≡ true → same_row b a ≡ true
 same_row-symm a b e = subst (λ (c : Row). same_row c a ≡ true) (same_row-true a b e) (same_row-itself a)

@@ -13,12 +13,12 @@ use Rattle.col_set.specs.AllSets.{Listed-upto_within}
 use Rattle.col_set.proofs.Places.{Listed-get_or}
 use Rattle.rel_base.specs.Cells.{Row}
 use Rattle.rel_base.specs.Projection.{part, same_row, distinct}
-use Rattle.rel_base.proofs.Parts.{Listed-distinct}
+use Rattle.rel_base.proofs.Parts.{same_row-true, Listed-distinct}
 use Rattle.lossless_join.specs.NaturalJoin.{TableRows}
 use Rattle.lossless_join.specs.Joining.{places_of, merged_at, matches}
 use Rattle.lossless_join.specs.Indexed.{key_of, places_below, IsIndex}
 use Rattle.lossless_join.proofs.PartCells.{map_same}
-use Rattle.lossless_join.proofs.Projected.{Apart, same_row-true, same_row-itself}
+use Rattle.lossless_join.proofs.Projected.{Apart, same_row-itself}
 use Rattle.lossless_join.proofs.Filling.{upto_more}
 use Rattle.lossless_join.proofs.Distinct.{listed-same, same-listed, distinct-push, Apart-distinct}
 

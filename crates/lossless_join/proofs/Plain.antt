@@ -10,7 +10,8 @@ use Rattle.rel_base.specs.Cells.{Row}
 use Rattle.rel_base.specs.Projection.{part, same_row}
 use Rattle.rel_base.proofs.States.{All-listed, All-from}
 use Rattle.lossless_join.specs.NaturalJoin.{TableRows}
-use Rattle.lossless_join.proofs.Projected.{same_row-true, same_row-itself}
+use Rattle.rel_base.proofs.Parts.{same_row-true}
+use Rattle.lossless_join.proofs.Projected.{same_row-itself}
 use Rattle.lossless_join.proofs.Heath.{all-below}
 
 -- ---- what holds of each of the first elements

@@ -1,7 +1,7 @@
 -- Dependencies and keys of a projection: what the tests mean, and what they have to do with the rows.
 use Rattle.std.proofs.Common.{inl, inr, ◌≡◌, ◌≢◌, ◌⊎◌, ℕ, ◌^◌, ◌<◌, suc, Bool, true, false, ◌&&◌, refl, sym, ap, ap₂, ◌∙◌, subst, arith, List, [], ◌∷◌, map}
 use Rattle.std.specs.List.{Contains, AllPairs}
-use Rattle.std.proofs.lemmas.Bool.{and_parts, and_from, true≢false, false≢true}
+use Rattle.std.proofs.lemmas.Bool.{and_parts, and_from, true≢false}
 use Rattle.col_set.specs.declared.target.Target.{Target}
 use Rattle.col_set.specs.declared.target.Target.TheVariants.{Col, RowId}
 use Rattle.col_set.specs.ColSet.{IsSubset, has, subset, all_sets}
@@ -16,12 +16,12 @@ use Rattle.col_set.proofs.Places.{Contains-listed, Listed-contained}
 use Rattle.rel_base.specs.declared.nulls.Nulls.{Nulls}
 use Rattle.rel_base.specs.declared.nulls.Nulls.TheVariants.{Equal}
 use Rattle.rel_base.specs.Cells.{Cell, Row, cell}
-use Rattle.rel_base.specs.Agreement.{same_cell, Agrees}
+use Rattle.rel_base.specs.Agreement.{Agrees}
 use Rattle.rel_base.specs.RowState.{RowState, IsRowState, width, row}
 use Rattle.rel_base.specs.Validity.{agree_of, pairs, holds, Holds}
 use Rattle.rel_base.specs.Projection.{part, same_row, projection}
-use Rattle.rel_base.proofs.Agree.{agree-parts, agree-from, same_cell-true, true-same_cell, Listed-pairs}
-use Rattle.rel_base.proofs.Parts.{ProjectionMeans-projection}
+use Rattle.rel_base.proofs.Agree.{agree-parts, agree-from, true-same_cell, Listed-pairs}
+use Rattle.rel_base.proofs.Parts.{same_row-true, ProjectionMeans-projection}
 use Rattle.rel_base.proofs.States.{live_climbs}
 use Rattle.rel_base.proofs.Valid.{determined-at, determined-from, Holds-tested, holds-true}
 use Rattle.lossless_join.specs.Parts.{part_agree, part_agree_sets, projection_holds, ProjectionHolds, projection_keys, IsProjectionKey}
@@ -64,13 +64,6 @@ Apart-projection : (r : RowState) (s : ℕ) → Apart (projection r s)
 Apart-projection r s = Apart-from _ (ProjectionMeans-projection r s).once
 
 -- two rows are equal or not
-pub same_row-true : (a b : Row) → same_row a b ≡ true → a ≡ b
-same_row-true [] [] e = refl
-same_row-true [] (y ∷ ys) e = absurd (false≢true e)
-same_row-true (x ∷ xs) [] e = absurd (false≢true e)
-same_row-true (x ∷ xs) (y ∷ ys) e = let w = and_parts (same_cell x y) (same_row xs ys) e in
-    ap₂ (λ (z : Cell) (zs : Row). z ∷ zs) (same_cell-true x y w.0) (same_row-true xs ys w.1)
-
 pub same_row-itself : (a : Row) → same_row a a ≡ true
 same_row-itself [] = refl
 same_row-itself (x ∷ xs) = and_from _ _ (true-same_cell x x refl) (same_row-itself xs)

@@ -12,12 +12,12 @@ use Rattle.col_set.proofs.EachColumn.{Listed-columns, columns-listed, Ascends-co
 use Rattle.col_set.proofs.Places.{Contains-listed, Listed-contained, Listed-get_or}
 use Rattle.rel_base.specs.Cells.{Cell, Row, cell}
 use Rattle.rel_base.specs.Projection.{part, same_row}
-use Rattle.rel_base.proofs.Parts.{distinct-listed, Listed-distinct}
+use Rattle.rel_base.proofs.Parts.{same_row-true, distinct-listed, Listed-distinct}
 use Rattle.lossless_join.specs.NaturalJoin.{TableRows, IsFilled, columns_of, width_of, AreWhole, IsMatched, IsNaturalJoin}
 use Rattle.lossless_join.specs.Parts.{part_cell}
 use Rattle.lossless_join.specs.Joining.{part_within, merged_cell, merged, merged_at, row_at, places_of, matches, joined_with}
 use Rattle.lossless_join.proofs.PartCells.{map_same, map_at, part_cell-part}
-use Rattle.lossless_join.proofs.Projected.{same_row-true, same_row-itself}
+use Rattle.lossless_join.proofs.Projected.{same_row-itself}
 use Rattle.lossless_join.proofs.Heath.{columns_of-append, columns_of-one, all-below, reads}
 use Rattle.lossless_join.proofs.Distinct.{Apart-distinct, AllPairs-apart}
 

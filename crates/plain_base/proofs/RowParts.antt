@@ -1,24 +1,14 @@
 -- Parts of rows, by one more column and one more row.
 use Rattle.std.proofs.Common.{◌≡◌, ◌∙◌, ◌+◌, ◌<◌, ◌^◌, ℕ, Bool, true, false, cond, not, ◌||◌, refl, sym, ap, ap₂, List, [], ◌∷◌, ◌++◌, length, get_or, take, map, filter, append-nil}
 use Rattle.std.specs.List.{list_any}
-use Rattle.std.proofs.lemmas.Bool.{and_parts, true≢false}
 use Rattle.std.proofs.lemmas.List.{map-append, take_more}
 use Rattle.std.proofs.lemmas.List.Elements.{filter-append}
 use Rattle.col_set.specs.ColSet.{Columns, has, upto}
 use Rattle.col_set.specs.Columns.{columns_below}
 use Rattle.rel_base.specs.Cells.{Cell, Row, cell}
-use Rattle.rel_base.specs.Agreement.{same_cell}
 use Rattle.rel_base.specs.Projection.{part, same_row, distinct, projected}
-use Rattle.rel_base.proofs.Agree.{same_cell-true}
+use Rattle.rel_base.proofs.Parts.{same_row-true}
 use Rattle.plain_base.proofs.Pairs.{upto_more}
-
--- ---- the same cells
-same_row-true : (a b : Row) → same_row a b ≡ true → a ≡ b
-same_row-true [] [] e = refl
-same_row-true [] (y ∷ ys) e = absurd (true≢false (sym e))
-same_row-true (x ∷ xs) [] e = absurd (true≢false (sym e))
-same_row-true (x ∷ xs) (y ∷ ys) e = let w = and_parts (same_cell x y) (same_row xs ys) e in
-    ap₂ (λ (z : Cell) (zs : Row). z ∷ zs) (same_cell-true x y w.0) (same_row-true xs ys w.1)
 
 -- ---- one more column
 module _ (f : ℕ → Cell) (p : ℕ → Bool) (n : ℕ) where

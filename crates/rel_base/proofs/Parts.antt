@@ -38,14 +38,14 @@ included-true columns c d h = and_from _ _ (ap not (ne_eqb c d h.other)) (list_a
         (Listed-contained a _ (h.each a (Contains-listed a _ g) (λ e. true≢false (sym (true-same_cell a [] e) ∙ i)))) (true-same_cell a a refl))
 
 -- ---- distinct rows
-same_row-true : (a b : Row) → same_row a b ≡ true → a ≡ b
+pub same_row-true : (a b : Row) → same_row a b ≡ true → a ≡ b
 same_row-true [] [] e = refl
 same_row-true [] (y ∷ ys) e = absurd (false≢true e)
 same_row-true (x ∷ xs) [] e = absurd (false≢true e)
 same_row-true (x ∷ xs) (y ∷ ys) e = let w = and_parts (same_cell x y) (same_row xs ys) e in
     ap₂ (λ (z : Cell) (zs : Row). z ∷ zs) (same_cell-true x y w.0) (same_row-true xs ys w.1)
 
-true-same_row : (a b : Row) → a ≡ b → same_row a b ≡ true
+pub true-same_row : (a b : Row) → a ≡ b → same_row a b ≡ true
 true-same_row a b e = subst (λ (c : Row). same_row a c ≡ true) e (itself a)
   where
     itself : (c : Row) → same_row c c ≡ true
