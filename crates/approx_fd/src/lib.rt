@@ -10,8 +10,6 @@ pub mod laws;
 mod removal;
 mod rounds;
 mod search;
-#[cfg(test)]
-mod tests;
 
 pub use approximate::{approx, near_keys};
 pub use by_workers::approx_by;

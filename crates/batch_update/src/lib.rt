@@ -10,8 +10,6 @@ mod kind;
 pub mod laws;
 mod reading;
 mod row_number;
-#[cfg(test)]
-mod tests;
 
 pub use changes::read_changes;
 pub use item::Item;

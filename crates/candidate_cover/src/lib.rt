@@ -8,8 +8,6 @@ mod candidate_cover;
 mod new_list;
 mod old_list;
 mod place;
-#[cfg(test)]
-mod tests;
 
 pub use cand::{Cand, Marking};
 pub use candidate_cover::CandidateCover;

@@ -4,8 +4,6 @@
 mod dict;
 mod recent;
 mod table;
-#[cfg(test)]
-mod tests;
 mod text;
 
 pub use dict::Dict;

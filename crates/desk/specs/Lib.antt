@@ -1,4 +1,3 @@
 pub mod Turns
 pub mod Desks
 pub mod Laws
-pub mod Tests

@@ -12,8 +12,6 @@
 mod desk;
 pub mod laws;
 mod passes;
-#[cfg(test)]
-mod tests;
 mod turns;
 
 pub use desk::Desk;

@@ -9,8 +9,6 @@ mod live_rows;
 mod negative_cover;
 mod pairing;
 mod rows;
-#[cfg(test)]
-mod tests;
 
 pub use concerned::Concerned;
 pub use ended_rows::ended;

@@ -7,8 +7,6 @@ mod pairwise;
 mod plain_rows;
 mod projection;
 mod samples;
-#[cfg(test)]
-mod tests;
 mod validity;
 
 pub use evidence::{least_sets, minimal_sets, refutes, specialise};

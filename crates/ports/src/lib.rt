@@ -71,6 +71,3 @@ pub use sure::{SureSink, SureSource};
 pub use sure_shelf::SureShelf;
 pub use text::Text;
 pub use whole_files::{Storing, load_file, store_file};
-
-#[cfg(test)]
-mod tests;

@@ -7,8 +7,6 @@ pub mod laws;
 mod outcome;
 mod reading;
 mod tasks;
-#[cfg(test)]
-mod tests;
 mod top_call;
 mod writing;
 

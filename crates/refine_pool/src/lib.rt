@@ -15,8 +15,6 @@ mod feeder;
 mod preparing;
 mod refining;
 mod rounds;
-#[cfg(test)]
-mod tests;
 mod worker;
 
 pub use desk::NoMemory;

@@ -20,8 +20,6 @@ mod row;
 mod row_no;
 mod snapshot;
 mod steps;
-#[cfg(test)]
-mod tests;
 mod why;
 
 pub use batch::{Batch, Change, Cursor, Op, RowPlace};

@@ -17,6 +17,3 @@ pub use lines::Lines;
 pub use outcome_lines::{applied_line, demo_line, fault_line, file_line, refused_line};
 pub use report_lines::report;
 pub use table_lines::{table_file, tables};
-
-#[cfg(test)]
-mod tests;

@@ -7,8 +7,6 @@ mod column;
 mod live;
 mod row_log;
 mod table;
-#[cfg(test)]
-mod tests;
 
 pub use applying::Applying;
 pub use live::LiveCells;

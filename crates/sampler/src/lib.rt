@@ -4,8 +4,6 @@
 
 mod sampling;
 mod spread;
-#[cfg(test)]
-mod tests;
 mod windows;
 mod witnesses;
 

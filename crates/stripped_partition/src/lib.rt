@@ -10,8 +10,6 @@ mod path;
 mod removed;
 mod scratch;
 mod tally;
-#[cfg(test)]
-mod tests;
 mod weighing;
 
 pub use partition::Partition;

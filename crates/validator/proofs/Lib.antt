@@ -5,7 +5,6 @@ pub mod Refinements
 pub mod Exactly
 pub mod KeptLists
 pub mod Weights
-pub mod PlainTests
 pub mod Likeness
 pub mod Chained
 pub mod NewRows

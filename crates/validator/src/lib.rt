@@ -12,8 +12,6 @@ mod order;
 mod refined;
 mod store;
 mod stores;
-#[cfg(test)]
-mod tests;
 mod verdict;
 mod walk;
 mod weighed;

@@ -1,4 +1,0 @@
-use Rattle.validator.proofs.tests.is_determined.Given as goal
-
-abbrev pub ghosts-violations : goal.ghosts-violations
-ghosts-violations g a = record { name = a.blank.name; parts = a.blank.parts }

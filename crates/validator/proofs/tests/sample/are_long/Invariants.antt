@@ -1,5 +1,0 @@
-use Rattle.std.proofs.Common.{◌≡◌, ◌<◌, ◌+◌, ℕ, List, length, get_or}
-use Rattle.validator.proofs.tests.sample.are_long.Given as goal
-
-abbrev pub invariant-loop-list : goal.invariant-loop-list
-invariant-loop-list l = (k : ℕ) (d : List ℕ) → k < l.list-index → length (get_or l.codes k d) + 1 ≡ l.count + 1
