@@ -264,7 +264,7 @@ pub(crate) fn judged_by_parts<J: Judges, G: Gate>(
         let (part, later) = rest.split_at(rest.len().min(PART));
         let judged = judges.judged(alloc, rows, snapshot, part, stores)?;
         all = together(all, judged)?;
-        gate.at(SEEKER, Point::Sought);
+        gate.at(SEEKER, Point::Sought { left: later.len() });
         rest = later;
     }
     Ok(all)

@@ -78,7 +78,7 @@ impl<'r, R: Clock> Progress<'r, R> {
 impl<'r, R: Clock + Eprint> Telling<'r, R> {
     fn count(&self, point: Point) {
         let passed = match point {
-            Point::Sought => &self.sought,
+            Point::Sought { .. } => &self.sought,
             Point::Drawn => &self.drawn,
             Point::Judged => &self.judged,
             Point::Booked => &self.booked,

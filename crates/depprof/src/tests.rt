@@ -237,7 +237,7 @@ fn progress_is_told_as_seconds_go_by(rt: HostRuntime) {
         };
         let progress = Progress::told(&outer);
         for point in [
-            Point::Sought,
+            Point::Sought { left: 1 },
             Point::Drawn,
             Point::Judged,
             Point::Booked,

@@ -3,8 +3,8 @@
 /// What a worker or the feeder has just done.
 #[derive(Clone, Copy, Debug, PartialEq, Eq)]
 pub enum Point {
-    /// It sought evidence before the book was shared.
-    Sought,
+    /// It sought evidence before the book was shared. So many candidates of its pass are left.
+    Sought { left: usize },
     /// It drew a job.
     Drawn,
     /// It judged a job.

@@ -40,7 +40,7 @@ pub struct HoldingGate {
 // The place of a stop's count.
 fn place_of(stop: Stop) -> usize {
     let point = match stop.point {
-        Point::Sought => 0,
+        Point::Sought { .. } => 0,
         Point::Drawn => 1,
         Point::Judged => 2,
         Point::Booked => 3,
