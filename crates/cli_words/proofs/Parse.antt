@@ -18,7 +18,7 @@ use Rattle.clap.specs.declared.error.kind.ErrorKind.TheVariants.{OutOfMemory}
 use Rattle.std.proofs.lemmas.Slice.Eq.{bytes_eq-Decides}
 use Rattle.cli_words.specs.declared.request.Request.{Request}
 use Rattle.cli_words.specs.Words.{IsTheApp, app_with, behind, the_app}
-use Rattle.cli_words.specs.Command.{approx_request, command, demo_request, normalize_request, profile_request, request_of, session_request}
+use Rattle.cli_words.specs.Command.{approx_request, check_request, command, demo_request, normalize_request, profile_request, request_of, session_request}
 use Rattle.cli_words.proofs.Bare.{bare_words, entered-bare, entered_fault-bare}
 
 -- ---- the command, wherever the words of its options stand
@@ -88,10 +88,10 @@ module _ {Z : Type 0} where
       ∙ by (rows_of (found_of (out-SubCommand (box_value b)).matches)) ∙ ap (λ (rs : List Row). Some (make rs)) same
 
   request_elsewhere : (x : Option (Box SubCommand Z)) → (name_in x ≡ Some (codes "profile") → ⊥) → (name_in x ≡ Some (codes "session") → ⊥) → (name_in x ≡ Some (codes "normalize") → ⊥)
-      → (name_in x ≡ Some (codes "demo") → ⊥) → (name_in x ≡ Some (codes "approx") → ⊥) → option_and_then request_of (subcommand_rows x) ≡ None
-  request_elsewhere None profile session normalize demo approx = refl
-  request_elsewhere (Some b) profile session normalize demo approx =
-      rw (other (codes "profile") profile, other (codes "session") session, other (codes "normalize") normalize, other (codes "demo") demo, other (codes "approx") approx) refl
+      → (name_in x ≡ Some (codes "demo") → ⊥) → (name_in x ≡ Some (codes "approx") → ⊥) → (name_in x ≡ Some (codes "check") → ⊥) → option_and_then request_of (subcommand_rows x) ≡ None
+  request_elsewhere None profile session normalize demo approx check = refl
+  request_elsewhere (Some b) profile session normalize demo approx check =
+      rw (other (codes "profile") profile, other (codes "session") session, other (codes "normalize") normalize, other (codes "demo") demo, other (codes "approx") approx, other (codes "check") check) refl
     where
       n : Text
       n = (out-SubCommand (box_value b)).name.now
@@ -131,12 +131,16 @@ module _ (a : App) (words : List Text) (m : ArgMatches) (is : IsTheApp a) (none 
       → Some (approx_request rows) ≡ command words
   command-approx rows named found = command-named approx_request (codes "approx") (λ rs. refl) rows named found
 
+  pub command-check : (rows : List Row) → subcommand_name_of m ≡ Some (codes "check") → option_map (λ p. p.1) (subcommand_rows (out-ArgMatches m).subcommand) ≡ Some rows
+      → Some (check_request rows) ≡ command words
+  command-check rows named found = command-named check_request (codes "check") (λ rs. refl) rows named found
+
   -- a parse that entered none of them
   pub command-other : (subcommand_name_of m ≡ Some (codes "profile") → ⊥) → (subcommand_name_of m ≡ Some (codes "session") → ⊥) → (subcommand_name_of m ≡ Some (codes "normalize") → ⊥)
-      → (subcommand_name_of m ≡ Some (codes "demo") → ⊥) → (subcommand_name_of m ≡ Some (codes "approx") → ⊥) → None ≡ command words
-  command-other profile session normalize demo approx =
+      → (subcommand_name_of m ≡ Some (codes "demo") → ⊥) → (subcommand_name_of m ≡ Some (codes "approx") → ⊥) → (subcommand_name_of m ≡ Some (codes "check") → ⊥) → None ≡ command words
+  command-other profile session normalize demo approx check =
       sym (command-found words (subcommand_rows_of m) None (sym (fault_of-app a words is) ∙ none) (sym (subcommand_of-app a words is) ∙ sym met)
-      (request_elsewhere (out-ArgMatches m).subcommand profile session normalize demo approx))
+      (request_elsewhere (out-ArgMatches m).subcommand profile session normalize demo approx check))
 
 -- a parse that failed, and not for memory
 pub command-none : (a : App) (words : List Text) (k : ErrorKind) → IsTheApp a → (k ≡ OutOfMemory) ⊎ IsAmong k (fault_of a words) → (k ≡ OutOfMemory → ⊥) → None ≡ command words

@@ -12,7 +12,7 @@ use Rattle.clap.specs.ValueTests.{is_unsigned_in}
 use Rattle.clap.specs.Faults.{fault_of}
 use Rattle.cli_words.specs.declared.request.Options.{Options}
 use Rattle.cli_words.specs.declared.request.Request.{Request}
-use Rattle.cli_words.specs.declared.request.Request.TheVariants.{Profile, Session, Normalize, Demo, Approx}
+use Rattle.cli_words.specs.declared.request.Request.TheVariants.{Profile, Session, Normalize, Demo, Approx, Check}
 use Rattle.cli_words.specs.Words.{the_app}
 
 -- the bytes of each word
@@ -55,6 +55,10 @@ file_of rows = unwrap_or (first_of (codes "file") rows) []
 abbrev pub prefix_of : List Row → Text
 prefix_of rows = unwrap_or (first_of (codes "out") rows) []
 
+-- the certificate
+abbrev pub certificate_of : List Row → Text
+certificate_of rows = unwrap_or (first_of (codes "cert") rows) []
+
 abbrev pub options_of : List Row → Options
 options_of rows = record { workers = workers_of rows; nulls = nulls_of rows }
 
@@ -78,6 +82,10 @@ demo_request rows = Demo (workers_of rows) (seed_of rows)
 abbrev pub approx_request : List Row → Request
 approx_request rows = Approx (errors_of rows) (file_of rows)
 
+-- what was found for the arguments of `check`, as a request
+abbrev pub check_request : List Row → Request
+check_request rows = Check (file_of rows) (certificate_of rows)
+
 -- the request of a subcommand, by its name
 abbrev pub request_of : Text × List Row → Option Request
 request_of p =
@@ -86,6 +94,7 @@ request_of p =
     else if bytes_eq p.0 (codes "normalize") then Some (normalize_request p.1)
     else if bytes_eq p.0 (codes "demo") then Some (demo_request p.1)
     else if bytes_eq p.0 (codes "approx") then Some (approx_request p.1)
+    else if bytes_eq p.0 (codes "check") then Some (check_request p.1)
     else None
 
 -- how many workers a request asks for
@@ -95,6 +104,7 @@ workers_asked (Session options file) = options.workers
 workers_asked (Normalize workers prefix file) = workers
 workers_asked (Demo workers seed) = workers
 workers_asked (Approx errors file) = 4
+workers_asked (Check file certificate) = 4
 
 -- what the words ask for, where nothing is wrong with them
 unfoldable pub command : List Text → Option Request

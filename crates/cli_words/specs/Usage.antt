@@ -17,9 +17,12 @@ demo_usage = codes "demo [--workers N] SEED"
 abbrev pub approx_usage : List ℕ
 approx_usage = codes "approx --errors E FILE"
 
+abbrev pub check_usage : List ℕ
+check_usage = codes "check FILE CERT"
+
 -- the pieces, in their order
 abbrev pub usages : List (List ℕ)
-usages = profile_usage ∷ normalize_usage ∷ session_usage ∷ demo_usage ∷ approx_usage ∷ []
+usages = profile_usage ∷ normalize_usage ∷ session_usage ∷ demo_usage ∷ approx_usage ∷ check_usage ∷ []
 
 -- pieces with a bar between each two
 abbrev pub barred : List (List ℕ) → List ℕ

@@ -65,11 +65,19 @@ demo_app = with_rule (with_rule (new_app (codes "demo")) workers_rule) seed_rule
 abbrev pub approx_app : App
 approx_app = with_rule (with_rule (new_app (codes "approx")) errors_rule) file_rule
 
+-- a certificate
+abbrev pub cert_rule : Rule
+cert_rule = record (new_rule (codes "cert")) { required = true }
+
+-- `check FILE CERT`
+abbrev pub check_app : App
+check_app = with_rule (with_rule (new_app (codes "check")) file_rule) cert_rule
+
 -- The program with its subcommands, of which one is required. The words of each one's `--nulls` may stand in another place.
 abbrev pub app_with : Bor (List (Bor Text)) → Bor (List (Bor Text)) → App
 app_with profile_names session_names =
     let named = with_subcommand (with_subcommand (new_app (codes "depprof")) (profile_app profile_names).top) (session_app session_names).top in
-    let a = with_subcommand (with_subcommand (with_subcommand named normalize_app.top) demo_app.top) approx_app.top in
+    let a = with_subcommand (with_subcommand (with_subcommand (with_subcommand named normalize_app.top) demo_app.top) approx_app.top) check_app.top in
     record a { top = record a.top { subcommand_required = true } }
 
 -- the words of `--nulls`

@@ -135,6 +135,23 @@ fn approx_of(alloc: Global, found: &ArgMatches) -> Result<Request, AllocError>
     })
 }
 
+fn certificate_of(alloc: Global, found: &ArgMatches) -> Result<Name, AllocError>
+    ensures { IfOk result (λ certificate. certificate ≡ words_of.certificate_of (rows_of (found_of found.now))) }
+{
+    let word = found.get_str("cert").unwrap_or("");
+    Ok(Name::of(String::from_str(alloc, word)?))
+}
+
+// What was found for the arguments of `check`.
+fn check_of(alloc: Global, found: &ArgMatches) -> Result<Request, AllocError>
+    ensures { IfOk result (λ request. request ≡ words_of.check_request (rows_of (found_of found.now))) }
+{
+    Ok(Request::Check {
+        file: file_of(alloc, found)?,
+        certificate: certificate_of(alloc, found)?,
+    })
+}
+
 /// The request that the words are, if they are one. The first word is the program's own name.
 pub fn request_of(alloc: Global, words: &[String]) -> Result<Option<Request>, AllocError>
     ensures command { IfOk result (λ found. found ≡ words_of.command (texts words.now)) }
@@ -151,7 +168,10 @@ pub fn request_of(alloc: Global, words: &[String]) -> Result<Option<Request>, Al
                         Some(found) => Ok(Some(demo_of(found))),
                         None => match matches.subcommand_matches("approx") {
                             Some(found) => Ok(Some(approx_of(alloc, found)?)),
-                            None => Ok(None),
+                            None => match matches.subcommand_matches("check") {
+                                Some(found) => Ok(Some(check_of(alloc, found)?)),
+                                None => Ok(None),
+                            },
                         },
                     },
                 },

@@ -84,6 +84,11 @@ pub enum Request {
         errors: u32,
         file: Name,
     },
+    /// Whether the second file is a certificate of the covers of the first one.
+    Check {
+        file: Name,
+        certificate: Name,
+    },
 }
 
 // Which number of workers a request asks for.
@@ -100,7 +105,7 @@ impl Request {
             Request::Session { options, .. } => options.workers,
             Request::Normalize { workers, .. } => *workers,
             Request::Demo { workers, .. } => *workers,
-            Request::Approx { .. } => DEFAULT_WORKERS,
+            Request::Approx { .. } | Request::Check { .. } => DEFAULT_WORKERS,
         }
     }
 }

@@ -18,6 +18,8 @@ pub fn usage_line() -> &'static [u8]
         "demo [--workers N] SEED",
         " | ",
         "approx --errors E FILE",
+        " | ",
+        "check FILE CERT",
         "\n"
     )
     .as_bytes()

@@ -1,7 +1,7 @@
 // The words that the program takes.
 ghost use Rattle.std.specs.Prelude.{◌≡◌, IfOk};
 ghost use Rattle.clap.specs.Words.{app_of, rule_of};
-ghost use Rattle.cli_words.specs.Words.{AreNullWords, IsTheApp, approx_app, demo_app, errors_rule, file_rule, files_rule, normalize_app, nulls_rule, out_rule, profile_app, seed_rule, session_app, workers_rule};
+ghost use Rattle.cli_words.specs.Words.{AreNullWords, IsTheApp, approx_app, cert_rule, check_app, demo_app, errors_rule, file_rule, files_rule, normalize_app, nulls_rule, out_rule, profile_app, seed_rule, session_app, workers_rule};
 
 use clap::{Arg, Command, value_parser};
 use std::alloc::{AllocError, Global};
@@ -96,6 +96,20 @@ fn approx_words<'a>(alloc: Global) -> Result<Command<'a>, AllocError>
         .arg(file_word(alloc))
 }
 
+fn certificate_word<'a>(alloc: Global) -> Arg<'a>
+    ensures { rule_of result ≡ cert_rule }
+{
+    Arg::new(alloc, "cert").required(true)
+}
+
+fn check_words<'a>(alloc: Global) -> Result<Command<'a>, AllocError>
+    ensures { IfOk result (λ c. app_of c ≡ check_app) }
+{
+    Command::new(alloc, "check")
+        .arg(file_word(alloc))?
+        .arg(certificate_word(alloc))
+}
+
 fn demo_words<'a>(alloc: Global) -> Result<Command<'a>, AllocError>
     ensures { IfOk result (λ c. app_of c ≡ demo_app) }
 {
@@ -113,6 +127,7 @@ pub(crate) fn depprof_words<'a>(alloc: Global) -> Result<Command<'a>, AllocError
         .subcommand(session_words(alloc)?)?
         .subcommand(normalize_words(alloc)?)?
         .subcommand(demo_words(alloc)?)?
-        .subcommand(approx_words(alloc)?)?;
+        .subcommand(approx_words(alloc)?)?
+        .subcommand(check_words(alloc)?)?;
     Ok(command.subcommand_required(true))
 }

@@ -5,7 +5,7 @@ use Rattle.clap.specs.Matches.{found_of}
 use Rattle.clap.specs.Simple.{app_of}
 use Rattle.cli_words.specs.Command.{texts}
 use Rattle.cli_words.specs.declared.request.Request.{Request}
-use Rattle.cli_words.proofs.Parse.{command-approx, command-demo, command-none, command-normalize, command-other, command-profile, command-session, is_free-app, is_simple-app}
+use Rattle.cli_words.proofs.Parse.{command-approx, command-check, command-demo, command-none, command-normalize, command-other, command-profile, command-session, is_free-app, is_simple-app}
 use Rattle.cli_words.proofs.Workers.{workers-range}
 use Rattle.cli_words.proofs.command.request_of.Goals as goal
 
@@ -42,6 +42,7 @@ returns-in-Ok-clause-command c =
     command-other a (texts c.args.words.now) c.in-Ok.matches is (c.in-Ok.ensures.kinds (is_free-app a is)) (c.in-Ok.ensures.matches (is_simple-app a is)).1
     (λ e. false≢true (c.in-None.ensures.found.1 e)) (λ e. false≢true (c.in-None-subcommand_matches.ensures.found.1 e))
     (λ e. false≢true (c.in-None-subcommand_matches-2.ensures.found.1 e)) (λ e. false≢true (c.in-None-subcommand_matches-3.ensures.found.1 e)) (λ e. false≢true (c.in-None-subcommand_matches-4.ensures.found.1 e))
+    (λ e. false≢true (c.in-None-subcommand_matches-5.ensures.found.1 e))
 
 pub returns-clause-command : goal.returns-clause-command
 returns-clause-command c =
@@ -86,4 +87,17 @@ returns-in-Some-subcommand_matches-4-clause-command c =
 pub returns-in-Some-subcommand_matches-4-clause-workers : goal.returns-in-Some-subcommand_matches-4-clause-workers
 returns-in-Some-subcommand_matches-4-clause-workers c =
     let range = workers-range (texts c.args.words.now) _ (sym (returns-in-Some-subcommand_matches-4-clause-command c)) in
+    record { some = range.0; few = range.1 }
+
+pub returns-in-Some-subcommand_matches-5-clause-command : goal.returns-in-Some-subcommand_matches-5-clause-command
+returns-in-Some-subcommand_matches-5-clause-command c =
+    let a = app_of c.in_ok-depprof_words.field-0 in
+    let is = c.in_ok-depprof_words.ensures in
+    ap (λ (r : Request). Some r) c.in_ok-check_of-in-Some-subcommand_matches-5.ensures
+    ∙ command-check a (texts c.args.words.now) c.in-Ok.matches is (c.in-Ok.ensures.kinds (is_free-app a is)) (c.in-Ok.ensures.matches (is_simple-app a is)).1
+    (rows_of (found_of c.in-Some-subcommand_matches-5.found.now)) (c.in-Some-subcommand_matches-5.ensures.found.0 refl) c.in-Some-subcommand_matches-5.ensures.rows
+
+pub returns-in-Some-subcommand_matches-5-clause-workers : goal.returns-in-Some-subcommand_matches-5-clause-workers
+returns-in-Some-subcommand_matches-5-clause-workers c =
+    let range = workers-range (texts c.args.words.now) _ (sym (returns-in-Some-subcommand_matches-5-clause-command c)) in
     record { some = range.0; few = range.1 }

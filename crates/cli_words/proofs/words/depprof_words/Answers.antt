@@ -1,7 +1,7 @@
 use Rattle.std.proofs.Common.{◌≡◌, ◌∙◌, refl, ap, ap₂, true}
 use Rattle.std.specs.Prelude.{codes}
 use Rattle.clap.specs.Simple.{App, app_of, app_of_fields, new_app, with_subcommand}
-use Rattle.cli_words.specs.Words.{approx_app, demo_app, normalize_app, profile_app, session_app}
+use Rattle.cli_words.specs.Words.{approx_app, check_app, demo_app, normalize_app, profile_app, session_app}
 use Rattle.cli_words.proofs.TheApp.{local_command}
 use Rattle.cli_words.proofs.words.depprof_words.Goals as goal
 
@@ -12,10 +12,12 @@ returns c =
     let n = c.in_ok-normalize_words.ensures in
     let d = c.in_ok-demo_words.ensures in
     let x = c.in_ok-approx_words.ensures in
+    let k = c.in_ok-check_words.ensures in
     let one : App = with_subcommand (new_app (codes "depprof")) (profile_app p.0).top in
     let two : App = with_subcommand one (session_app s.0).top in
     let three : App = with_subcommand two normalize_app.top in
     let four : App = with_subcommand three demo_app.top in
+    let five : App = with_subcommand four approx_app.top in
     let first : app_of c.in_ok-subcommand.field-0 ≡ one =
     c.in_ok-subcommand.ensures.shape (local_command c.in_ok-profile_words.field-0 (profile_app p.0) p.2 refl)
     ∙ ap₂ with_subcommand c.new.ensures.app (ap (λ (a : App). a.top) p.2) in
@@ -28,9 +30,12 @@ returns c =
     let fourth : app_of c.in_ok-subcommand-4.field-0 ≡ four =
     c.in_ok-subcommand-4.ensures.shape (local_command c.in_ok-demo_words.field-0 demo_app d refl)
     ∙ ap₂ with_subcommand third (ap (λ (a : App). a.top) d) in
-    let made : app_of c.in_ok-command.command ≡ with_subcommand four approx_app.top =
-    c.in_ok-command.ensures.shape (local_command c.in_ok-approx_words.field-0 approx_app x refl)
+    let fifth : app_of c.in_ok-subcommand-5.field-0 ≡ five =
+    c.in_ok-subcommand-5.ensures.shape (local_command c.in_ok-approx_words.field-0 approx_app x refl)
     ∙ ap₂ with_subcommand fourth (ap (λ (a : App). a.top) x) in
+    let made : app_of c.in_ok-command.command ≡ with_subcommand five check_app.top =
+    c.in_ok-command.ensures.shape (local_command c.in_ok-check_words.field-0 check_app k refl)
+    ∙ ap₂ with_subcommand fifth (ap (λ (a : App). a.top) k) in
     record {
       profile_names = p.0;
       session_names = s.0;
