@@ -10,6 +10,7 @@ depprof finds the keys, functional dependencies and inclusion dependencies of ta
   depprof normalize --out P FILE     the same, and the table split into Boyce-Codd normal form: P1.csv, P2.csv, ..
   depprof session FILE               reports while rows come and go: batches of changes come on standard input
   depprof approx --errors E FILE     dependencies that hold but for at most E rows
+  depprof check FILE CERT            whether CERT proves what it lists: every minimal key and dependency of FILE
   depprof demo SEED                  a drawn relation of 12 columns and 5,000 rows, to try it out
 
   depprof COMMAND --help             what one of them takes and writes
@@ -64,20 +65,33 @@ rows that are equal break no dependency. With `--errors 0` these are the depende
 
   --errors E       so many rows may be wrong, 0 to 1000000";
 
+const CHECK: &str = "\
+depprof check FILE CERT
+
+Writes `yes` where CERT is a certificate: pairs of rows, and keys and dependencies that are all that the pairs leave and
+that hold in FILE. Then these are all minimal ones, whoever wrote CERT. Else `no,RECORD,FLAW`, by the first of
+  21  a record is out of form, or `end` is missing
+  22  the numbers of columns and rows are not those of FILE
+  23  a pair does not name two rows, the lesser number first
+  24  the keys and dependencies are not those that the pairs leave, in the order of a report
+  25  a key or dependency does not hold
+docs/CERTIFICATES.md has the form, and tools/check_cert.py does the same in Python.";
+
 const DEMO: &str = "\
 depprof demo [--workers N] SEED
 
-Draws a relation of 12 columns and 5,000 rows from a number from 0 to 18446744073709551615 and counts what `normalize`
+Draws a relation of 12 columns and 5,000 rows from a number from 0 to 2147483647 and counts what `normalize`
 would say of it: `demo,SEED,12,5000,KEYS,FDS,INDS,TABLES`.
 
   --workers N      so many threads, 1 to 16 (4)";
 
 // Each command that has a page of its own.
-const PAGES: [(&str, &str); 5] = [
+const PAGES: [(&str, &str); 6] = [
     ("profile", PROFILE),
     ("normalize", NORMALIZE),
     ("session", SESSION),
     ("approx", APPROX),
+    ("check", CHECK),
     ("demo", DEMO),
 ];
 

@@ -6,7 +6,7 @@ use Rattle.rel_base.specs.declared.why.Why.{Why}
 use Rattle.clap.specs.Walk.{Text}
 use Rattle.cli_words.specs.Command.{command, workers_asked}
 use Rattle.cli_words.specs.declared.request.Request.{Request}
-use Rattle.cli_words.specs.declared.request.Request.TheVariants.{Profile, Session, Normalize, Demo, Approx}
+use Rattle.cli_words.specs.declared.request.Request.TheVariants.{Profile, Session, Normalize, Demo, Approx, Check}
 use Rattle.ports.specs.Files.{Files}
 use Rattle.profile_cli.specs.Output.{Output, asked, judged, output, refusal, written}
 use Rattle.profile_cli.specs.Task.{task_of}
@@ -21,6 +21,7 @@ writes_none (Session options file) limits from w none may = ap (λ (x : Written)
 writes_none (Normalize workers prefix file) limits from w none may = absurd (false≢true (sym none))
 writes_none (Demo workers seed) limits from w none may = ap (λ (x : Written). x.files) may
 writes_none (Approx errors file) limits from w none may = ap (λ (x : Written). x.files) may
+writes_none (Check file certificate) limits from w none may = ap (λ (x : Written). x.files) may
 
 -- it has the workers that its words ask for
 pub workers_are : (request : Request) → (task_of request).workers ≡ workers_asked request
@@ -30,6 +31,7 @@ workers_are (Session options file) = refl
 workers_are (Normalize workers prefix file) = refl
 workers_are (Demo workers seed) = refl
 workers_are (Approx errors file) = refl
+workers_are (Check file certificate) = refl
 
 -- it leaves no choice of what is written
 one_written : (request : Request) (limits : Limits) (from : Sources) (v w : Written) → (task_of request).writes limits from v → (task_of request).writes limits from w → v ≡ w
@@ -39,6 +41,7 @@ one_written (Session options file) limits from v w may can = may ∙ sym can
 one_written (Normalize workers prefix file) limits from v w may can = may ∙ sym can
 one_written (Demo workers seed) limits from v w may can = may ∙ sym can
 one_written (Approx errors file) limits from v w may can = may ∙ sym can
+one_written (Check file certificate) limits from v w may can = may ∙ sym can
 
 same_output : (a b : Output) → a.status ≡ b.status → a.written ≡ b.written → a ≡ b
 same_output a b status written = λ i. record { status = status i; written = written i }

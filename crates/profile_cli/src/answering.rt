@@ -13,6 +13,7 @@ use crate::reading::Found;
 use crate::tasks::reads_input;
 use crate::writing::write_made;
 use approx_text::approximate_of;
+use check_text::checked_of;
 use cli_words::Request;
 use normalize_text::{demo_text_of, normalized_of};
 use ports::{Gate, Loading, Shelf, Sink, Source, load};
@@ -36,7 +37,10 @@ fn made_of<R: Threads + Wait + Sync, G: Gate + Sync>(
     requires workers { (0 < means.now.workers) × (means.now.workers ≤ 16) }
     ensures { IfOk result ((task_of request.now).writes means.now.limits (record { relations = found.relations.items; texts = found.texts.items; input = input.now })) }
 {
-    let mut relations = found.relations;
+    let Found {
+        mut relations,
+        texts,
+    } = found;
     match request {
         Request::Profile { options, files } => {
             let text = reports_of(rt, means, options.nulls, files.as_slice(), relations)?;
@@ -56,6 +60,10 @@ fn made_of<R: Threads + Wait + Sync, G: Gate + Sync>(
         }
         Request::Approx { errors, file } => {
             approximate_of(rt, means, *errors, file, relations.swap_remove(0))
+        }
+        Request::Check { .. } => {
+            let relation = relations.swap_remove(0);
+            checked_of(rt, means, relation, texts[0].bytes())
         }
     }
 }

@@ -19,6 +19,9 @@ pub(crate) fn reads_of<'a>(request: &'a Request) -> Reads<'a>
         Request::Normalize { file, .. } => Reads::of(slice::from_ref(file), &[]),
         Request::Demo { .. } => Reads::of(&[], &[]),
         Request::Approx { file, .. } => Reads::of(slice::from_ref(file), &[]),
+        Request::Check { file, certificate } => {
+            Reads::of(slice::from_ref(file), slice::from_ref(certificate))
+        }
     }
 }
 
@@ -42,5 +45,6 @@ pub(crate) fn into_file(request: Request, place: usize) -> Name
         Request::Normalize { file, .. } => file,
         Request::Demo { .. } => unreachable!(),
         Request::Approx { file, .. } => file,
+        Request::Check { file, certificate } => { if place == 0 { file } else { certificate } }
     }
 }

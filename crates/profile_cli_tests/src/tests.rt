@@ -4,6 +4,7 @@ ghost use Rattle.ports.specs.Files.{Nothing};
 
 mod approximate;
 mod beside;
+mod certificates;
 mod hostile;
 mod reports;
 mod sessions;
@@ -13,6 +14,7 @@ mod tables;
 mod words;
 
 use approximate::APPROXIMATE;
+use certificates::CERTIFICATES;
 use ports::{Gate, Kind, MemShelf, MemSink, MemSource, OpenGate, Text};
 use profile_cli::{Outcome, run};
 use rel_base::{Limits, Name};
@@ -313,6 +315,12 @@ fn expect_all<R: Threads + Wait + Sync + Abort>(
 #[test]
 fn dependencies_that_hold_but_for_a_few_rows(rt: HostRuntime) -> Result<(), Fail> {
     expect_all(&rt, rt.alloc(), &APPROXIMATE)?;
+    Ok(())
+}
+
+#[test]
+fn texts_that_are_certificates_and_texts_that_are_none(rt: HostRuntime) -> Result<(), Fail> {
+    expect_all(&rt, rt.alloc(), &CERTIFICATES)?;
     Ok(())
 }
 

@@ -224,7 +224,7 @@ fn expect_cuts<R: Threads + Wait + Sync + Abort>(
 const R_IND: &str =
     "ind,1.1,2.1\nind,1.2,2.2\nind,1.3,2.3\nind,2.1,1.1\nind,2.2,1.2\nind,2.3,1.3\n";
 
-static HOSTILE: [Hostile; 6] = [
+static HOSTILE: [Hostile; 7] = [
     Hostile {
         case: Case {
             words: &["depprof", "normalize", "--out", "t", "r.csv"],
@@ -274,6 +274,23 @@ static HOSTILE: [Hostile; 6] = [
             files: &[("r.csv", R)],
             input: "",
             text: &[R_REPORT, R_REPORT, R_IND],
+            tables: &[],
+            status: 0,
+        },
+        fault: &["fault,read,r.csv\n"],
+        ends: &[
+            (Failing::Shelf(Kind::Open), 4, 4),
+            (Failing::Shelf(Kind::Read), 4, 4),
+            (Failing::Shelf(Kind::Close), 4, 4),
+            (Failing::Sink, 5, 5),
+        ],
+    },
+    Hostile {
+        case: Case {
+            words: &["depprof", "check", "r.csv", "r.csv"],
+            files: &[("r.csv", R)],
+            input: "",
+            text: &["no,1,21\n"],
             tables: &[],
             status: 0,
         },

@@ -8,9 +8,9 @@ use std::test::Fail;
 use std::thread::Threads;
 
 pub const USAGE: &str =
-    "usage: depprof profile [--workers N] [--nulls equal|distinct] FILE.. | normalize [--workers N] --out PREFIX FILE | session [--workers N] [--nulls equal|distinct] FILE | demo [--workers N] SEED | approx --errors E FILE\n";
+    "usage: depprof profile [--workers N] [--nulls equal|distinct] FILE.. | normalize [--workers N] --out PREFIX FILE | session [--workers N] [--nulls equal|distinct] FILE | demo [--workers N] SEED | approx --errors E FILE | check FILE CERT\n";
 
-static NO_COMMAND: [&[&str]; 34] = [
+static NO_COMMAND: [&[&str]; 37] = [
     &[],
     &["depprof"],
     &["depprof", "profile"],
@@ -69,6 +69,9 @@ static NO_COMMAND: [&[&str]; 34] = [
         "2",
         "r.csv",
     ],
+    &["depprof", "check", "r.csv"],
+    &["depprof", "check", "r.csv", "c", "d"],
+    &["depprof", "check", "--workers", "2", "r.csv", "c"],
 ];
 
 static OPTIONS: [&[&str]; 8] = [

@@ -1,14 +1,15 @@
-use Rattle.std.proofs.Common.{◌≡◌, ◌∙◌, ℕ, List, length, map, ap, sym, subst, arith, get_or, []}
+use Rattle.std.proofs.Common.{◌≡◌, ◌∙◌, ℕ, List, length, map, ap, ap₂, sym, subst, arith, get_or, []}
 use Rattle.rel_base.specs.Relation.{Content}
 use Rattle.rel_base.specs.RowState.{opened}
 use Rattle.rel_base.specs.declared.nulls.Nulls.TheVariants.{Equal}
 use Rattle.approx_text.specs.Approximate.{approx_text}
+use Rattle.check_text.specs.Answers.{check_text}
 use Rattle.cli_words.specs.declared.request.Request.{Request}
 use Rattle.normalize_text.specs.Normalize.{normalized}
 use Rattle.profile_text.specs.Reports.{reports}
 use Rattle.profile_text.specs.Session.{session_text}
 use Rattle.profile_cli.specs.Task.{task_of}
-use Rattle.task_base.specs.Reading.{relation_names}
+use Rattle.task_base.specs.Reading.{relation_names, text_names}
 use Rattle.task_base.specs.Task.{Sources, content_of}
 use Rattle.task_base.specs.Written.{text_alone}
 use Rattle.task_base.proofs.Facts.{IfOk-map, at_place}
@@ -41,9 +42,23 @@ swap_remove-requires-in-Approx g c =
     let long = c.args.found.relations.ok.0 in
     omega arith
 
-pub returns-in-Profile : goal.returns-in-Profile
+pub swap_remove-relation-requires-in-Check : goal.swap_remove-relation-requires-in-Check
 unfolding task_of
-returns-in-Profile g c =
+swap_remove-relation-requires-in-Check g c =
+    let one : length c.args.found.relations.items ≡ 1 = c.requires.relations ∙ ap (λ (r : Request). length (relation_names (task_of r).reads)) c.in-Check.is in
+    let long = c.args.found.relations.ok.0 in
+    omega arith
+
+pub index-requires : goal.index-requires
+unfolding task_of
+index-requires g c =
+    let one : length c.args.found.texts.items ≡ 1 = c.requires.texts ∙ ap (λ (r : Request). length (text_names (task_of r).reads)) c.in-Check.is in
+    let long = c.args.found.texts.ok.0 in
+    omega arith
+
+pub returns-in_ok-text-in-Profile : goal.returns-in_ok-text-in-Profile
+unfolding task_of
+returns-in_ok-text-in-Profile g c =
     let limits = c.args.means.now.limits in
     let rs : List Content = c.args.found.relations.items in
     let from : Sources = record { relations = rs; texts = c.args.found.texts.items; input = c.args.input.now } in
@@ -51,9 +66,9 @@ returns-in-Profile g c =
     (c.text_alone.ensures ∙ ap text_alone c.in_ok-text-in-Profile.ensures
     ∙ ap (λ (names : List (List ℕ)). text_alone (reports names (map (opened c.in-Profile.options.nulls limits.rows) rs))) c.as_slice.ensures)
 
-pub returns-in-Session : goal.returns-in-Session
+pub returns-in_ok-text-in-Session : goal.returns-in_ok-text-in-Session
 unfolding task_of
-returns-in-Session g c =
+returns-in_ok-text-in-Session g c =
     let limits = c.args.means.now.limits in
     let rs : List Content = c.args.found.relations.items in
     let from : Sources = record { relations = rs; texts = c.args.found.texts.items; input = c.args.input.now } in
@@ -76,17 +91,17 @@ returns-in-Normalize g c =
     (e ∙ ap (λ (r : Content). normalized c.in-Normalize.prefix c.in-Normalize.file (opened Equal limits.rows r)) first))
     c.normalized_of.ensures
 
-pub returns-in-Demo : goal.returns-in-Demo
+pub returns-in_ok-text-in-Demo : goal.returns-in_ok-text-in-Demo
 unfolding task_of
-returns-in-Demo g c =
+returns-in_ok-text-in-Demo g c =
     let limits = c.args.means.now.limits in
     let from : Sources = record { relations = c.args.found.relations.items; texts = c.args.found.texts.items; input = c.args.input.now } in
     subst (λ (r : Request). (task_of r).writes limits from c.text_alone-in-Demo.result) (sym c.in-Demo.is)
     (c.text_alone-in-Demo.ensures ∙ ap text_alone c.in_ok-text-in-Demo.ensures)
 
-pub returns : goal.returns
+pub returns-in-Approx : goal.returns-in-Approx
 unfolding task_of
-returns g c =
+returns-in-Approx g c =
     let limits = c.args.means.now.limits in
     let rs : List Content = c.args.found.relations.items in
     let from : Sources = record { relations = rs; texts = c.args.found.texts.items; input = c.args.input.now } in
@@ -96,3 +111,16 @@ returns g c =
     (λ made e. subst (λ (r : Request). (task_of r).writes limits from made) (sym c.in-Approx.is)
     (e ∙ ap (λ (r : Content). text_alone (approx_text c.in-Approx.errors c.in-Approx.file (opened Equal limits.rows r))) first))
     c.approximate_of.ensures
+
+pub returns-in-Check : goal.returns-in-Check
+unfolding task_of
+returns-in-Check g c =
+    let limits = c.args.means.now.limits in
+    let rs : List Content = c.args.found.relations.items in
+    let from : Sources = record { relations = rs; texts = c.args.found.texts.items; input = c.args.input.now } in
+    let one : length rs ≡ 1 = c.requires.relations ∙ ap (λ (r : Request). length (relation_names (task_of r).reads)) c.in-Check.is in
+    let first : c.swap_remove-relation-in-Check.result ≡ get_or rs 0 (content_of []) = at_place rs 0 c.swap_remove-relation-in-Check.result (content_of []) (omega arith) c.swap_remove-relation-in-Check.ensures.value in
+    IfOk-map c.checked_of.result
+    (λ made e. subst (λ (r : Request). (task_of r).writes limits from made) (sym c.in-Check.is)
+    (e ∙ ap₂ (λ (r : Content) (bytes : List ℕ). text_alone (check_text (opened Equal limits.rows r) bytes)) first ?))
+    c.checked_of.ensures

@@ -1,0 +1,6 @@
+//! The text of `check`.
+#![tactic(auto)]
+
+mod checking;
+
+pub use checking::checked_of;
