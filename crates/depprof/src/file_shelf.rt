@@ -3,6 +3,7 @@ ghost use Rattle.std.specs.Prelude.{◌≡◌};
 ghost use Rattle.depprof.specs.Faults.{StandsAt};
 
 use crate::causes::{Call, Cause};
+use crate::progress::Counts;
 use crate::streams::{read_some, write_some};
 use end_notes::{Hint, Sample};
 use ports::{Closing, Creating, Opening, Reading, Shelf, Writing};
@@ -34,14 +35,15 @@ pub struct FileShelf<'r, R: Files> {
     cause: Option<Cause>,
     sample: Sample,
     hints: Vec<(Name, Hint)>,
+    counts: Option<&'r Counts>,
 }
 
 impl<'r, R: Files + Alloc<A = Global>> FileShelf<'r, R> {
     ghost use Rattle.ports.specs.Files.{Nothing};
     ghost use Rattle.depprof.specs.Held.{access_of};
 
-    /// The files of the system, with nothing open and no fault counted.
-    pub fn new(rt: &'r R) -> FileShelf<'r, R>
+    /// The files of the system, with nothing open and no fault counted. What is read and written is counted where counts are kept.
+    pub fn new(rt: &'r R, counts: Option<&'r Counts>) -> FileShelf<'r, R>
         ensures { access_of result.held ≡ Nothing }
     {
         FileShelf {
@@ -55,6 +57,7 @@ impl<'r, R: Files + Alloc<A = Global>> FileShelf<'r, R> {
             cause: None,
             sample: Sample::new(),
             hints: Vec::new(rt.alloc()),
+            counts,
         }
     }
 
@@ -74,6 +77,16 @@ impl<'r, R: Files + Alloc<A = Global>> FileShelf<'r, R> {
     /// What the files that were read to their ends look like, where they may be meant otherwise.
     pub fn hints(&self) -> &[(Name, Hint)] {
         self.hints.as_slice()
+    }
+
+    // Counts a file that was opened, with its size where it is a plain one.
+    fn count_open(&self, name: &str) {
+        if let Some(counts) = self.counts {
+            counts.opened(match fs::metadata(self.rt, name) {
+                Ok(found) if found.is_file() => found.len(),
+                _ => 0,
+            });
+        }
     }
 
     // Keeps what the file looks like that was read to its end. Where memory is lacking, that is left out.
@@ -122,6 +135,7 @@ impl<R: Files + Alloc<A = Global>> Shelf for FileShelf<'_, R> {
         self.sample = Sample::new();
         match fs::open(self.rt, name.as_str()) {
             Ok(file) => {
+                self.count_open(name.as_str());
                 self.held = Held::ForReading {
                     name,
                     file,
@@ -147,7 +161,12 @@ impl<R: Files + Alloc<A = Global>> Shelf for FileShelf<'_, R> {
         };
         let answer = read_some(file, buffer, &mut self.cause);
         match answer {
-            Reading::Got(count) => self.sample.note(buffer.get(..count).unwrap_or(&[])),
+            Reading::Got(count) => {
+                self.sample.note(buffer.get(..count).unwrap_or(&[]));
+                if let Some(counts) = self.counts {
+                    counts.got(count);
+                }
+            }
             Reading::End => self.note_hint(),
             Reading::Failed => {
                 *failed = true;
@@ -184,7 +203,12 @@ impl<R: Files + Alloc<A = Global>> Shelf for FileShelf<'_, R> {
             unreachable!()
         };
         match write_some(file, piece) {
-            Ok(count) => Writing::Took(count),
+            Ok(count) => {
+                if let Some(counts) = self.counts {
+                    counts.wrote(count);
+                }
+                Writing::Took(count)
+            }
             Err(error) => {
                 self.cause = Some(Cause {
                     call: Call::Write,
@@ -198,6 +222,9 @@ impl<R: Files + Alloc<A = Global>> Shelf for FileShelf<'_, R> {
     }
 
     fn close(&mut self) -> Closing {
+        if let Some(counts) = self.counts {
+            counts.closed();
+        }
         let held = mem::replace(&mut self.held, Held::Nothing);
         match fault_of(held) {
             Fault::Nowhere => {}

@@ -17,7 +17,7 @@ depprof finds the keys, functional dependencies and inclusion dependencies of ta
 
 A file is comma-separated text in UTF-8 with a header line. The answer is on standard output, one record a line; the
 columns in it are numbers from 1. tools/show.py shows a report with names, tools/schema_sql.py makes SQL of it.
-DEPPROF_PROGRESS=1 in the environment shows how far a run has come.
+A terminal shows how far a run has come; DEPPROF_PROGRESS=1 in the environment shows it anywhere, =0 nowhere.
 The status is 0 when it is done, 2 for words that are no command, 3 where a file is refused, 4 where one can't be
 read, 5 where the output can't be written, and 6 where memory ran out.";
 

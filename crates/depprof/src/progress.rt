@@ -1,130 +1,119 @@
-// How far a run has come, told on standard error to who asks for it.
+// How far a run has come: counted by its files, its streams and its gate, for who tells it.
 use ports::{Gate, Point};
-use std::alloc::Global;
-use std::env;
-use std::env::VarError;
-use std::rt::{Clock, Env};
-use std::sync::atomic::{AtomicU64, Ordering};
-use std::time::Instant;
+use std::sync::atomic::{AtomicBool, AtomicU64, Ordering};
 
-// The variable of the environment that asks for progress, by any value but the empty one.
-const ASKED_BY: &str = "DEPPROF_PROGRESS";
-
-/// A gate that tells on standard error, about once a second, how far a run has come, where the environment asks for it.
-///
-/// It counts who passes it and holds nobody. A line that can't be written is left out, and so are all where the clock can't be read.
-/// Where it isn't asked for, passing it takes one look.
+/// What a run has done so far. Who counts waits for nobody.
 #[derive(Drop)]
-pub struct Progress<'r, R> {
-    telling: Option<Telling<'r, R>>,
-}
-
-// What was counted since the start.
-#[derive(Drop)]
-struct Telling<'r, R> {
-    rt: &'r R,
-    start: Instant,
-    // The second after the start in which the last line was written.
-    last: AtomicU64,
-    sought: AtomicU64,
-    drawn: AtomicU64,
+pub struct Counts {
+    // Bytes of the file that is open, 0 where that is not known, and how many of them were read.
+    size: AtomicU64,
+    read: AtomicU64,
+    is_open: AtomicBool,
+    // Bytes that were written since a candidate was last checked.
+    written: AtomicU64,
+    // Whether candidates were checked, how many the pass has left, how many were checked one by one, and batches fed.
+    passed: AtomicBool,
+    left: AtomicU64,
     judged: AtomicU64,
-    booked: AtomicU64,
     fed: AtomicU64,
 }
 
-// Whether the environment asks for progress. A value that is no text is none that is empty.
-fn is_asked(rt: &(impl Env + Alloc<A = Global>)) -> bool {
-    match env::var(rt, ASKED_BY) {
-        Ok(value) => !value.is_empty(),
-        Err(error) => error == VarError::NotUnicode,
-    }
+/// What a run is at.
+#[derive(Clone, Copy, Debug, PartialEq, Eq)]
+pub enum Phase {
+    /// It reads a file: so many bytes of so many, 0 where their number is not known.
+    Reading { read: u64, size: u64 },
+    /// It numbers the values of each column of what it read, so many bytes.
+    Coding { read: u64 },
+    /// It checks candidates: so many are left in this pass, so many were checked one by one, and so many batches came.
+    Searching { left: u64, judged: u64, fed: u64 },
+    /// It writes what was found, so many bytes so far.
+    Writing { written: u64 },
 }
 
-impl<'r, R: Clock> Progress<'r, R> {
-    /// A gate that tells progress if it is asked for.
-    pub fn asked(rt: &'r R) -> Progress<'r, R>
-    where
-        R: Env + Alloc<A = Global>,
-    {
-        if is_asked(rt) {
-            Progress::told(rt)
-        } else {
-            Progress { telling: None }
-        }
-    }
-
-    // A gate that tells progress, if there is a clock.
-    pub(crate) fn told(rt: &'r R) -> Progress<'r, R> {
-        let Ok(start) = Instant::now(rt) else {
-            return Progress { telling: None };
-        };
-        let telling = Telling {
-            rt,
-            start,
-            last: AtomicU64::new(0),
-            sought: AtomicU64::new(0),
-            drawn: AtomicU64::new(0),
+impl Counts {
+    /// Nothing was done yet.
+    pub fn none() -> Counts {
+        Counts {
+            size: AtomicU64::new(0),
+            read: AtomicU64::new(0),
+            is_open: AtomicBool::new(false),
+            written: AtomicU64::new(0),
+            passed: AtomicBool::new(false),
+            left: AtomicU64::new(0),
             judged: AtomicU64::new(0),
-            booked: AtomicU64::new(0),
             fed: AtomicU64::new(0),
-        };
-        Progress {
-            telling: Some(telling),
+        }
+    }
+
+    /// A file of so many bytes was opened, 0 where that is not known.
+    pub fn opened(&self, size: u64) {
+        self.size.store(size, Ordering::SeqCst);
+        self.read.store(0, Ordering::SeqCst);
+        self.is_open.store(true, Ordering::SeqCst);
+    }
+
+    /// So many bytes more were read.
+    pub fn got(&self, count: usize) {
+        self.read.fetch_add(count as u64, Ordering::SeqCst);
+    }
+
+    /// What was open is at its end.
+    pub fn closed(&self) {
+        self.is_open.store(false, Ordering::SeqCst);
+    }
+
+    /// So many bytes more were written.
+    pub fn wrote(&self, count: usize) {
+        self.written.fetch_add(count as u64, Ordering::SeqCst);
+    }
+
+    /// What the run is at, as far as the counts tell.
+    pub fn phase(&self) -> Phase {
+        let written = self.written.load(Ordering::SeqCst);
+        let read = self.read.load(Ordering::SeqCst);
+        if written > 0 {
+            Phase::Writing { written }
+        } else if self.passed.load(Ordering::SeqCst) {
+            Phase::Searching {
+                left: self.left.load(Ordering::SeqCst),
+                judged: self.judged.load(Ordering::SeqCst),
+                fed: self.fed.load(Ordering::SeqCst),
+            }
+        } else if self.is_open.load(Ordering::SeqCst) {
+            Phase::Reading {
+                read,
+                size: self.size.load(Ordering::SeqCst),
+            }
+        } else {
+            Phase::Coding { read }
+        }
+    }
+
+    fn pass(&self, point: Point) {
+        self.written.store(0, Ordering::SeqCst);
+        self.passed.store(true, Ordering::SeqCst);
+        match point {
+            Point::Sought { left } => self.left.store(left as u64, Ordering::SeqCst),
+            Point::Judged => {
+                self.judged.fetch_add(1, Ordering::SeqCst);
+            }
+            Point::Fed => {
+                self.fed.fetch_add(1, Ordering::SeqCst);
+            }
+            Point::Drawn | Point::Booked => {}
         }
     }
 }
 
-impl<'r, R: Clock + Eprint> Telling<'r, R> {
-    fn count(&self, point: Point) {
-        let passed = match point {
-            Point::Sought { .. } => &self.sought,
-            Point::Drawn => &self.drawn,
-            Point::Judged => &self.judged,
-            Point::Booked => &self.booked,
-            Point::Fed => &self.fed,
-        };
-        passed.fetch_add(1, Ordering::SeqCst);
-    }
+/// A gate that counts who passes it, where counts are kept, and holds nobody.
+#[derive(Clone, Copy)]
+pub struct Counted<'c>(pub Option<&'c Counts>);
 
-    // Whether a line is due. Of several threads one alone is told so.
-    fn is_due(&self, second: u64) -> bool {
-        let last = self.last.load(Ordering::SeqCst);
-        last < second
-            && self
-                .last
-                .compare_exchange(last, second, Ordering::SeqCst, Ordering::SeqCst)
-                .is_ok()
-    }
-
-    // Writes a line, where one is due.
-    fn tell(&self) {
-        let Ok(elapsed) = self.start.elapsed(self.rt) else {
-            return;
-        };
-        let second = elapsed.as_secs();
-        if self.is_due(second) {
-            self.write_line(second);
-        }
-    }
-
-    fn write_line(&self, second: u64) {
-        let sought = self.sought.load(Ordering::SeqCst);
-        let drawn = self.drawn.load(Ordering::SeqCst);
-        let judged = self.judged.load(Ordering::SeqCst);
-        let booked = self.booked.load(Ordering::SeqCst);
-        let fed = self.fed.load(Ordering::SeqCst);
-        let _written = eprintln!(self.rt;
-            "depprof: {second} s, evidence sought {sought} times, candidates drawn {drawn}, judged {judged}, booked {booked}, batches fed {fed}"
-        );
-    }
-}
-
-impl<R: Clock + Eprint> Gate for Progress<'_, R> {
+impl Gate for Counted<'_> {
     fn at(&self, _who: u32, point: Point) {
-        if let Some(telling) = &self.telling {
-            telling.count(point);
-            telling.tell();
+        if let Some(counts) = self.0 {
+            counts.pass(point);
         }
     }
 }

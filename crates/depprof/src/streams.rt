@@ -3,9 +3,11 @@ ghost use Rattle.std.specs.Prelude.{◌<◌, ◌≤◌, None, length, IfOk};
 ghost use Rattle.ports.specs.Answers.{ReadMoves};
 
 use crate::causes::{Call, Cause};
+use crate::teller::Telling;
 use ports::{Reading, Sink, Source, Writing};
 use std::io;
 use std::io::{Read, Write};
+use std::rt::Clock;
 
 /// Standard input.
 #[derive(Drop)]
@@ -70,15 +72,17 @@ impl<I: Input> Source for StandardIn<I> {
 #[derive(Drop)]
 pub struct StandardOut<'r, P> {
     rt: &'r P,
+    telling: Option<&'r Telling>,
     faults: u64,
     cause: Option<Cause>,
 }
 
 impl<'r, P: Print> StandardOut<'r, P> {
-    /// Standard output, with no fault counted.
-    pub fn new(rt: &'r P) -> StandardOut<'r, P> {
+    /// Standard output, with no fault counted, of which progress is told where somebody tells it.
+    pub fn new(rt: &'r P, telling: Option<&'r Telling>) -> StandardOut<'r, P> {
         StandardOut {
             rt,
+            telling,
             faults: 0,
             cause: None,
         }
@@ -104,7 +108,7 @@ pub(crate) fn write_some<W: Write>(writer: &mut W, piece: &[u8]) -> io::Result<u
     }
 }
 
-impl<P: Print> Sink for StandardOut<'_, P> {
+impl<P: Print + Eprint + Clock> Sink for StandardOut<'_, P> {
     ghost held = { λ _. None };
 
     ghost room = { λ _. None };
@@ -112,6 +116,9 @@ impl<P: Print> Sink for StandardOut<'_, P> {
     ghost faults = { λ s. s.faults };
 
     fn write(&mut self, piece: &[u8]) -> Writing {
+        if let Some(telling) = self.telling {
+            telling.before_output(self.rt, piece.len());
+        }
         match write_some(&mut io::writer(self.rt), piece) {
             Ok(count) => Writing::Took(count),
             Err(error) => {

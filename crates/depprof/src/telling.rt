@@ -127,7 +127,7 @@ fn bytes_of<R: Files + Alloc<A = Global>>(rt: &R, file: &str) -> Option<Vec<u8>>
         return None;
     }
     let name = Name::of(String::from_str(rt.alloc(), file).ok()?);
-    let mut again = FileShelf::new(rt);
+    let mut again = FileShelf::new(rt, None);
     match load_file(rt.alloc(), &mut again, name, Limits::standard().bytes) {
         Loading::Loaded(bytes) => Some(bytes),
         _ => None,
