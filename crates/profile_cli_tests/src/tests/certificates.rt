@@ -1,5 +1,7 @@
 // What `check` writes.
-use super::{Case, R};
+use super::{Case, R, SURE, is_same, run_of};
+use rel_base::{Limits, MOST_CELL_BYTES, MOST_COLUMNS, MOST_ROWS};
+use std::test::Fail;
 
 const CHECK: &[&str] = &["depprof", "check", "r.csv", "c"];
 
@@ -84,3 +86,27 @@ pub static CERTIFICATES: [Case<'static>; 8] = [
         status: 3,
     },
 ];
+
+// A certificate of 23 bytes.
+const SHORT: Case<'static> = Case {
+    words: &["depprof", "check", "a.csv", "c"],
+    files: &[("a.csv", "a\n1\n"), ("c", "cert,1,1\nkey,\nfd,,1\nend")],
+    input: "",
+    text: &[],
+    tables: &[],
+    status: 0,
+};
+
+// So many bytes as the limit of a file, and what is to be written.
+static LIMITS: [(u8, u8, &str); 2] = [(23, 0, "yes\n"), (22, 3, "refused,c,0,6\n")];
+
+#[test]
+fn a_certificate_is_refused_by_its_bytes_alone(rt: HostRuntime) -> Result<(), Fail> {
+    for (bytes, status, text) in &LIMITS {
+        let limits = Limits::smaller(MOST_COLUMNS, MOST_ROWS, MOST_CELL_BYTES, u64::from(*bytes));
+        let done = run_of(&rt, rt.alloc(), &SHORT, &SURE, limits)?;
+        assert!(rt; done.status() == *status);
+        assert!(rt; is_same(done.text(), text));
+    }
+    Ok(())
+}

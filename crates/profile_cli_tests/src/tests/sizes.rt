@@ -17,7 +17,7 @@ struct Limited {
 
 const SESSION: &[&str] = &["depprof", "session", "k.csv"];
 
-static LIMITED: [Limited; 16] = [
+static LIMITED: [Limited; 14] = [
     Limited {
         limits: (MOST_COLUMNS, MOST_ROWS, MOST_CELL_BYTES, MOST_BYTES),
         case: Case {
@@ -170,28 +170,6 @@ static LIMITED: [Limited; 16] = [
             text: &["refused,-,0,6\n"],
             tables: &[],
             status: 3,
-        },
-    },
-    Limited {
-        limits: (MOST_COLUMNS, MOST_ROWS, MOST_CELL_BYTES, 13),
-        case: Case {
-            words: &["depprof", "check", "a.csv", "c"],
-            files: &[("a.csv", "a\n1\n"), ("c", "cert,1,1\nkey,\n")],
-            input: "",
-            text: &["refused,c,0,6\n"],
-            tables: &[],
-            status: 3,
-        },
-    },
-    Limited {
-        limits: (MOST_COLUMNS, 1, MOST_CELL_BYTES, 24),
-        case: Case {
-            words: &["depprof", "check", "a.csv", "c"],
-            files: &[("a.csv", "a\n1\n"), ("c", "cert,1,1\nkey,\nfd,,1\nend")],
-            input: "",
-            text: &["yes\n"],
-            tables: &[],
-            status: 0,
         },
     },
 ];
