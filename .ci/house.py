@@ -3,13 +3,14 @@
 
   house.py [--counts]
 
-- A document has at most so many words (`WORDS`).
+- A document has at most so many words (`WORDS`), and a paragraph of a crate's README or of what is proved at most `PARAGRAPH`.
 - Each path in backquotes, and each link to a file, is there: as it is written, or below `crates/`; `specs/Y` and `src/y.rt` are those of
   the crate whose README it is, elsewhere of some crate; `x/specs/Y` is `crates/x/specs/Y.antt`, and names that follow it in a row of the
   map are in the same folder.
 - Each spec file is named in the map's table of definitions or in its crate's README.
 - Each crate has a README, and the map's two lists of layers have each crate and what its code calls.
 - The table of thresholds has the values of the code.
+- In the table of public contracts each call, clause and law is there (a crate's code has a function with such a clause).
 - No file of code or proofs has more than 600 lines, but for those below, which have no more than they have there.
 
 A crate that `crates.txt` names and that is not there yet is passed over, with what the documents say of it.
@@ -21,6 +22,7 @@ import sys
 
 TOP = os.path.dirname(os.path.dirname(os.path.abspath(__file__)))
 WORDS = {"README.md": 1500, "docs/DECISIONS.md": 4000, "docs/ARCHITECTURE.md": 3000}
+PARAGRAPH = 120
 LINES = 600
 LONG = {
     "crates/cover_core/src/book.rt": 802,
@@ -28,6 +30,7 @@ LONG = {
     "crates/least_sets/proofs/Branches.antt": 795,
 }
 MAP = "docs/ARCHITECTURE.md"
+PROVED = "docs/PROVED.md"
 OF_A_CRATE = ("specs", "proofs", "src", "must-fail")
 FOLDERS = OF_A_CRATE + ("tools", "docs", "bench", "examples", "crates", "completions", "more-edits", ".ci")
 MADE = ("out",)  # folders that a build makes
@@ -104,6 +107,14 @@ def check_words():
         count = len(read(document).split())
         if count > most:
             yield f"{document}: {count} words, {most} at most"
+
+
+def check_paragraphs():
+    for document in [PROVED] + found("crates/*/README.md"):
+        for part in read(document).split("\n\n"):
+            count = len(part.split())
+            if count > PARAGRAPH and not part.startswith("|"):
+                yield f"{document}: a paragraph of {count} words, {PARAGRAPH} at most: {' '.join(part.split()[:6])} .."
 
 
 def missing_paths(document):
@@ -206,6 +217,33 @@ def check_thresholds():
                 yield f"{document}: {name} is {const.group(1) if const else 'not'} in crates/{path}, not {value}"
 
 
+def heads_of(code, name):
+    """What stands before the bodies of the functions of this name."""
+    for begin in re.finditer(rf"\bfn {name}\b", code):
+        rest = code[begin.start():]
+        end = re.search(r"^ *\{$", rest, re.MULTILINE)
+        yield rest[: end.start()] if end else rest
+
+
+def check_contracts(gone):
+    for line in read(PROVED).split("\n"):
+        cells = [cell.strip() for cell in line.split("|")]
+        crate = cells[1].strip("`") if len(cells) == 5 and re.fullmatch(r"`\w+`", cells[1]) else None
+        if not crate or crate in gone:
+            continue
+        code = "\n".join(read(path) for path in found(f"crates/{crate}/src/**/*.rt"))
+        for call, clauses in re.findall(r"`([\w:]+)`(?: \(([^)]*)\))?", cells[2]):
+            heads = list(heads_of(code, call.split("::")[-1]))
+            if not heads:
+                yield f"{PROVED}: {crate} has no {call}"
+            for clause in re.findall(r"`(\w+)`", clauses):
+                if not any(re.search(rf"\bensures {clause}\b", head) for head in heads):
+                    yield f"{PROVED}: {call} of {crate} has no clause {clause}"
+        for law in re.findall(r"`(\w+)`", cells[3]):
+            if not re.search(rf"\bfn {law}\b", code):
+                yield f"{PROVED}: {crate} has no law {law}"
+
+
 def check_lines():
     for path in found("crates/**/*.rt") + found("crates/**/*.antt"):
         count = read(path).count("\n")
@@ -233,7 +271,8 @@ def main():
     for document in documents():
         for path, message in missing_paths(document):
             (later if gone else wrong).append(message)
-    wrong += [*check_words(), *check_specs(), *check_layers(all_crates, gone), *check_readmes(all_crates, gone), *check_thresholds(), *check_lines()]
+    wrong += [*check_words(), *check_paragraphs(), *check_specs(), *check_layers(all_crates, gone), *check_readmes(all_crates, gone)]
+    wrong += [*check_thresholds(), *check_contracts(gone), *check_lines()]
     for message in later:
         print(f"house: not here yet, as {', '.join(sorted(gone))}: {message}")
     for message in wrong:
