@@ -4,7 +4,7 @@
   house.py [--counts]
 
 - A document has at most so many words (`WORDS`), and a paragraph of a crate's README or of what is proved at most `PARAGRAPH`.
-- Each path in backquotes, and each link to a file, is there: as it is written, or below `crates/`; `specs/Y` and `src/y.rt` are those of
+- Each path in backquotes, and each link to a file or a head in one, is there: as it is written, or below `crates/`; `specs/Y` and `src/y.rt` are those of
   the crate whose README it is, elsewhere of some crate; `x/specs/Y` is `crates/x/specs/Y.antt`, and names that follow it in a row of the
   map are in the same folder.
 - Each spec file is named in the map's table of definitions or in its crate's README.
@@ -13,7 +13,7 @@
 - In the table of public contracts each call, clause and law is there (a crate's code has a function with such a clause).
 - No file of code or proofs has more than 600 lines, but for those below, which have no more than they have there.
 
-A crate that `crates.txt` names and that is not there yet is passed over, with what the documents say of it.
+A crate that `crates.txt` names and that is not there yet is passed over, with what comes with it (`WITH`).
 """
 import glob
 import os
@@ -22,6 +22,7 @@ import sys
 
 TOP = os.path.dirname(os.path.dirname(os.path.abspath(__file__)))
 WORDS = {"README.md": 1500, "docs/DECISIONS.md": 4000, "docs/ARCHITECTURE.md": 3000}
+WITH = {"cover_cert": ("docs/CERTIFICATES.md", "tools/check_cert.py")}
 PARAGRAPH = 120
 LINES = 600
 LONG = {
@@ -109,9 +110,15 @@ def check_words():
             yield f"{document}: {count} words, {most} at most"
 
 
+def anchors(document):
+    """What links to the heads of a document are called."""
+    heads = re.findall(r"^#+ (.*)$", without_blocks(read(document)), re.MULTILINE)
+    return {re.sub(r"[^\w -]", "", head.lower()).replace(" ", "-") for head in heads}
+
+
 def check_paragraphs():
     for document in [PROVED] + found("crates/*/README.md"):
-        for part in read(document).split("\n\n"):
+        for part in re.split(r"\n\n|\n(?=- )", read(document)):
             count = len(part.split())
             if count > PARAGRAPH and not part.startswith("|"):
                 yield f"{document}: a paragraph of {count} words, {PARAGRAPH} at most: {' '.join(part.split()[:6])} .."
@@ -121,13 +128,16 @@ def missing_paths(document):
     text = without_blocks(read(document))
     for number, line in enumerate(text.split("\n"), 1):
         words = [words.split()[0] for words in re.findall(r"`([^`]+)`", line) if words.split()]
-        links = [link.split("#")[0] for link in re.findall(r"\]\(([^)]+)\)", line) if "://" not in link]
+        links = [link.split("#") for link in re.findall(r"\]\(([^)]+)\)", line) if "://" not in link]
         for path in [word for word in words if is_path(word)]:
             if not is_there(path, document):
                 yield path, f"{document}:{number}: no `{path}`"
-        for path in [link for link in links if link]:
-            if not os.path.exists(os.path.join(TOP, os.path.dirname(document), path)):
-                yield path, f"{document}:{number}: no {path}"
+        for path, *heads in links:
+            target = os.path.normpath(os.path.join(os.path.dirname(document), path)) if path else document
+            if not os.path.exists(os.path.join(TOP, target)):
+                yield target, f"{document}:{number}: no {path}"
+            elif heads and heads[0] not in anchors(target):
+                yield target, f"{document}:{number}: no head #{heads[0]} in {target}"
         folder = None
         for word in re.findall(r"`([^`]+)`", line) if line.startswith("|") else []:
             if re.fullmatch(r"\w+/(specs|proofs)/\w+", word):
@@ -270,11 +280,12 @@ def main():
     wrong, later = [], []
     for document in documents():
         for path, message in missing_paths(document):
-            (later if gone else wrong).append(message)
+            is_later = any(path.startswith((f"{name}/", f"crates/{name}/")) or path in WITH.get(name, ()) for name in gone)
+            (later if is_later else wrong).append(message)
     wrong += [*check_words(), *check_paragraphs(), *check_specs(), *check_layers(all_crates, gone), *check_readmes(all_crates, gone)]
     wrong += [*check_thresholds(), *check_contracts(gone), *check_lines()]
     for message in later:
-        print(f"house: not here yet, as {', '.join(sorted(gone))}: {message}")
+        print(f"house: with {', '.join(sorted(gone))}, which is not there yet: {message}")
     for message in wrong:
         print(f"house: {message}")
     print(f"house: {len(documents())} documents, {len(wrong)} faults")
