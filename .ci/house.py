@@ -1,12 +1,12 @@
 #!/usr/bin/env python3
-"""Checks the documents against the tree, and the length of files. Plain text alone: it takes a second.
+"""Checks the documents against the tree, and the length of files. It reads text alone, for a second or two.
 
-  house.py [--counts]
+  house.py [--counts]        with --counts it only counts words
 
 - A document has at most so many words (`WORDS`), and a paragraph of a crate's README or of what is proved at most `PARAGRAPH`.
-- Each path in backquotes, and each link to a file or a head in one, is there: as it is written, or below `crates/`; `specs/Y` and `src/y.rt` are those of
-  the crate whose README it is, elsewhere of some crate; `x/specs/Y` is `crates/x/specs/Y.antt`, and names that follow it in a row of the
-  map are in the same folder.
+- Each path in backquotes, and each link to a file or a head in one, is there: as it is written, or below `crates/`; `specs/Y` and
+  `src/y.rt` are those of the crate whose README it is, elsewhere of some crate; `x/specs/Y` is `crates/x/specs/Y.antt`, and names that
+  follow it in a row of the map are in the same folder.
 - Each spec file is named in the map's table of definitions or in its crate's README.
 - Each crate has a README, and the map's two lists of layers have each crate and what its code calls.
 - The table of thresholds has the values of the code.
@@ -187,9 +187,9 @@ def check_layers(all_crates, gone):
             continue
         code = called(name, all_crates[name]) - {"rel_base", "col_set"}
         code = {other for other in code if other in ours} - gone
-        told = calls.get(name, set()) - gone
-        if code != told:
-            yield f"{MAP}: {name} calls {' '.join(sorted(code)) or 'none'}, not {' '.join(sorted(told)) or 'none'}"
+        listed = calls.get(name, set()) - gone
+        if code != listed:
+            yield f"{MAP}: {name} calls {' '.join(sorted(code)) or 'none'}, not {' '.join(sorted(listed)) or 'none'}"
         for other in code & set(layers):
             if layers.index(other) < layers.index(name):
                 yield f"{MAP}: {name} calls {other}, which is above it"
@@ -219,7 +219,7 @@ def check_thresholds():
     for names, values, path in rows:
         names, values = re.findall(r"`(\w+)`", names), values.split(", ")
         if not os.path.exists(os.path.join(TOP, "crates", path)):
-            continue  # told as a path
+            continue  # a path that is not there
         code = read(f"crates/{path}")
         for name, value in zip(names, values):
             const = re.search(rf"\bconst {name}: [^=]*= (.*);", code)
@@ -256,6 +256,8 @@ def check_contracts(gone):
 
 def check_lines():
     for path in found("crates/**/*.rt") + found("crates/**/*.antt"):
+        if any(part in MADE for part in path.split("/")):
+            continue
         count = read(path).count("\n")
         most = LONG.get(path, LINES)
         if count > most:
