@@ -1,5 +1,5 @@
 #!/usr/bin/env python3
-"""Checks the documents against the tree, and the length of files. It reads text alone, for a second or two.
+"""Checks the documents against the tree, and the length of files. It reads text alone, for some seconds.
 
   house.py [--counts]        with --counts it only counts words
 
@@ -7,6 +7,7 @@
 - Each path in backquotes, and each link to a file or a head in one, is there: as it is written, or below `crates/`; `specs/Y` and
   `src/y.rt` are those of the crate whose README it is, elsewhere of some crate; `x/specs/Y` is `crates/x/specs/Y.antt`, and names that
   follow it in a row of the map are in the same folder.
+- Each name in backquotes of `NAMING` is in the code, specs or proofs of some crate, in `crates.txt` or in the tools.
 - Each spec file is named in the map's table of definitions or in its crate's README.
 - Each crate has a README, and the map's two lists of layers have each crate and what its code calls.
 - The table of thresholds has the values of the code.
@@ -32,6 +33,8 @@ LONG = {
 }
 MAP = "docs/ARCHITECTURE.md"
 PROVED = "docs/PROVED.md"
+NAMING = [MAP, PROVED, "docs/DECISIONS.md"]  # and the README of each crate
+NO_NAMES = ("unsafe", "NAME_tests")
 OF_A_CRATE = ("specs", "proofs", "src", "must-fail")
 FOLDERS = OF_A_CRATE + ("tools", "docs", "bench", "examples", "crates", "completions", "more-edits", ".ci")
 MADE = ("out",)  # folders that a build makes
@@ -145,6 +148,20 @@ def missing_paths(document):
             elif folder and re.fullmatch(r"[A-Z]\w*", word) and "/specs/" in line.split("|")[-2] and document == MAP:
                 if not is_there(f"{folder}/{word}", document):
                     yield f"{folder}/{word}", f"{document}:{number}: no `{word}` in {folder}"
+
+
+def check_names(gone):
+    names = set()
+    for path in found("crates/*/src/**/*.rt") + found("crates/*/[sp]*/**/*.antt") + found("tools/*.py") + ["crates.txt"]:
+        names |= set(re.findall(r"\w+", read(path)))
+    for document in NAMING + found("crates/*/README.md"):
+        for number, line in enumerate(without_blocks(read(document)).split("\n"), 1):
+            if any(name in line for name in gone):
+                continue
+            for word in re.findall(r"`([A-Za-z_]\w*(?:::\w+)*)`", line):
+                for name in word.split("::"):
+                    if name not in names and name not in NO_NAMES and not is_there(f"specs/{name}", document):
+                        yield f"{document}:{number}: no {word}"
 
 
 def check_specs():
@@ -285,7 +302,7 @@ def main():
             is_later = any(path.startswith((f"{name}/", f"crates/{name}/")) or path in WITH.get(name, ()) for name in gone)
             (later if is_later else wrong).append(message)
     wrong += [*check_words(), *check_paragraphs(), *check_specs(), *check_layers(all_crates, gone), *check_readmes(all_crates, gone)]
-    wrong += [*check_thresholds(), *check_contracts(gone), *check_lines()]
+    wrong += [*check_names(gone), *check_thresholds(), *check_contracts(gone), *check_lines()]
     for message in later:
         print(f"house: with {', '.join(sorted(gone))}, which is not there yet: {message}")
     for message in wrong:
