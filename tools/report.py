@@ -82,7 +82,7 @@ def number_of(text, least, most):
 
 @lru_cache(65536)
 def columns_of(text, width):
-    """A set of columns: numbers in ascending order, parted by one space."""
+    """A set of columns: numbers in ascending order, separated by one space."""
     numbers = tuple(number_of(word, 1, width) for word in text.split(" ")) if text else ()
     if any(a >= b for a, b in zip(numbers, numbers[1:])):
         raise ValueError(f"{shown(text)} is no ascending list")

@@ -127,7 +127,7 @@ class Estimates:
         return self.known[columns]
 
     def clusters_of(self, columns):
-        """The places of drawn rows that agree on these columns, two or more each: those of fewer columns parted by one more."""
+        """The places of drawn rows that agree on these columns, two or more each: those of fewer columns split by one more."""
         if columns in self.clusters:
             return self.clusters[columns]
         parents = [(columns[:k] + columns[k + 1:], c) for k, c in enumerate(columns)]
@@ -143,7 +143,7 @@ class Estimates:
 
 
 def parted(clusters, rows, c):
-    """Clusters parted by one more column, without single rows."""
+    """Clusters split by one more column, without single rows."""
     out = []
     for cluster in clusters:
         groups = {}

@@ -146,8 +146,8 @@ class Refusals(Case):
     def test_each_sentence(self):
         for data, words, why in [
             (b"", [], "in.txt has no header record"), (b"\n\r\n", [], "in.txt has no header record"),
-            (b"a,b\n1,2\n1,2,3\n", [], "in.txt, line 3: 3 fields where the header has 2; cells were taken to be parted by commas (--delimiter)"),
-            (b"a;b\n1;2\n1;2;3\n", [], "in.txt, line 3: 3 fields where the header has 2; cells were taken to be parted by semicolons"),
+            (b"a,b\n1,2\n1,2,3\n", [], "in.txt, line 3: 3 fields where the header has 2; cells were taken to be separated by commas (--delimiter)"),
+            (b"a;b\n1;2\n1;2;3\n", [], "in.txt, line 3: 3 fields where the header has 2; cells were taken to be separated by semicolons"),
             (b'a,b\n1,"x\n2,y\n3,z\n', [], "in.txt, line 2: a quote in the record that begins here is never closed"),
             (b'sep="\na\n', [], "in.txt says that `\"` stands between its cells, which can't be (--delimiter)"),
             (b"sep=\0\na\n", [], "in.txt says that `<00>` stands between its cells"),

@@ -111,7 +111,7 @@ class Cells:
         for line, record in with_first(first, records):
             number += 1
             if len(record) != width:
-                raise Unfit(f"{self.source.name}, line {line}: {fields(len(record))} where the header has {width}; cells were taken to be parted by "
+                raise Unfit(f"{self.source.name}, line {line}: {fields(len(record))} where the header has {width}; cells were taken to be separated by "
                             f"{self.source.form_in_words().split(',')[0]} (--delimiter)")
             if number >= ranges[0][0]:
                 yield self.taken(record, number, line)
