@@ -1,7 +1,7 @@
 -- The plain program's steps.
 use Rattle.std.proofs.Common.{inl, inr, ◌≡◌, ◌⊎◌, ℕ, ◌+◌, ◌-◌, ◌<◌, ◌≤◌, ◌^◌, Bool, true, false, cond, not, ◌||◌, ◌&&◌, eqb, leb, max, refl, sym, ap, ap₂, ◌∙◌, subst, arith, List, [], ◌∷◌, ◌++◌, length, map, append_assoc, append-nil}
 use Rattle.std.specs.List.{All, filter, list_all, range_with_len}
-use Rattle.std.proofs.lemmas.Bool.{and_parts, and_from, true≢false, not_from_false, false_from_ne_true}
+use Rattle.std.proofs.lemmas.Bool.{and_parts, and_from, true≢false, not_from_false, false_from_ne_true, leb-true, le-leb, cases_lt}
 use Rattle.std.proofs.lemmas.List.Elements.{filter-append}
 use Rattle.plain_base.proofs.Folds.{range_more}
 use Rattle.col_set.specs.declared.target.Target.{Target}
@@ -163,22 +163,36 @@ module _ (s : CodeTable) where
   live-not n rows e l = sym (append-nil rows) ∙ ap₂ (λ (xs ys : List ℕ). xs ++ ys) e (sym (alone (n + 1) false l)) ∙ sym (filtered-more n)
 
 -- ---- minimal
+pub below-more : (f : ℕ → Bool) (b : ℕ) → ((y : ℕ) → y < b → f y ≡ false) → f b ≡ false → (y : ℕ) → y < b + 1 → f y ≡ false
+below-more f b all here y l = at (cases_lt y b)
+  where
+    at : (y < b) ⊎ (b ≤ y) → f y ≡ false
+    at (inl m) = all y m
+    at (inr m) = let e : y ≡ b = omega arith in ap f e ∙ here
+
+above-false : (k most : ℕ) → most < k → leb k most ≡ false
+above-false k most l = false_from_ne_true _ (λ e. let m = leb-true k most e in absurd (omega arith))
+
 module _ (n : ℕ) (count : ℕ → ℕ) (most : ℕ) (t : Target) (x : ℕ) where
+  abbrev pub enough : ℕ → Bool
+  enough y = proper_subset y x && leb (count y) most
+
   pub minimal-target : has_target x t ≡ true → false ≡ min_nearly n count most t x
   unfolding min_nearly
   minimal-target e = sym (ap (λ b. not b && is_minimal n (λ y. leb (count y) most) x) e)
 
-  pub minimal-many : leb (count x) most ≡ false → false ≡ min_nearly n count most t x
+  pub minimal-many : (k : ℕ) → k ≡ count x → most < k → false ≡ min_nearly n count most t x
   unfolding min_nearly is_minimal
-  minimal-many e = sym (false_from_ne_true _ (λ f. true≢false (sym (and_parts _ _ (and_parts _ _ f).1).0 ∙ e)))
+  minimal-many k e l = sym (false_from_ne_true _ (λ f. true≢false (sym (and_parts _ _ (and_parts _ _ f).1).0 ∙ above-false (count x) most (subst (λ (c : ℕ). most < c) e l))))
 
-  pub minimal-part : (y : ℕ) → y < 2 ^ n → proper_subset y x ≡ true → leb (count y) most ≡ true → false ≡ min_nearly n count most t x
+  pub minimal-part : (y : ℕ) → y < 2 ^ n → enough y ≡ true → false ≡ min_nearly n count most t x
   unfolding min_nearly is_minimal
-  minimal-part y l p c = sym (false_from_ne_true _ (λ f.
+  minimal-part y l p = sym (false_from_ne_true _ (λ f.
       let each = (and_parts _ _ (and_parts _ _ f).1).1 in
       let h = list_all_at (λ y. not (proper_subset y x && leb (count y) most)) y (all_sets n) each (Listed-all_sets n y l) in
-      true≢false (sym h ∙ ap not (and_from _ _ p c))))
+      true≢false (sym h ∙ ap not p)))
 
-  pub minimal-all : has_target x t ≡ false → leb (count x) most ≡ true → ((y : ℕ) → y < 2 ^ n → (proper_subset y x && leb (count y) most) ≡ false) → true ≡ min_nearly n count most t x
+  pub minimal-all : (k bits : ℕ) → has_target x t ≡ false → k ≡ count x → k ≤ most → ((y : ℕ) → y < bits → enough y ≡ false) → 2 ^ n ≤ bits → true ≡ min_nearly n count most t x
   unfolding min_nearly is_minimal
-  minimal-all a b f = sym (and_from _ _ (not_from_false _ a) (and_from _ _ b (list_all_from (λ y. not (proper_subset y x && leb (count y) most)) (all_sets n) (λ y h. not_from_false _ (f y (all_sets_below n y h))))))
+  minimal-all k bits a e l f m = sym (and_from _ _ (not_from_false _ a) (and_from _ _ (le-leb _ _ (subst (λ (c : ℕ). c ≤ most) e l))
+      (list_all_from (λ y. not (proper_subset y x && leb (count y) most)) (all_sets n) (λ y h. not_from_false _ (f y (let b = all_sets_below n y h in omega (arith, b, m)))))))
