@@ -1,8 +1,9 @@
 -- Lists that several threads made.
 use Rattle.std.proofs.Common.{◌≡◌, ℕ, ◌+◌, ◌<◌, ◌≤◌, refl, sym, ap, ap₂, ◌∙◌, subst, List, [], ◌∷◌, ◌++◌, length, get_or, map, take, take_all, append-nil, Result, Ok, Err, IfOk, MatchResult, Vec, Global}
-use Rattle.std.specs.List.{AllZip, Contains, flat_map}
+use Rattle.std.specs.List.{All, AllZip, Contains, flat_map}
 use Rattle.std.specs.declared.alloc.AllocError.{AllocError}
 use Rattle.std.proofs.lemmas.List.{take_more}
+use Rattle.std.proofs.lemmas.List.Elements.{All-cons, All-nil}
 use Rattle.std.proofs.lemmas.List.Concat.{flat_map-append}
 use Rattle.approx_fd.specs.declared.found.Approx.{Approx}
 
@@ -34,3 +35,18 @@ module _ (f : ℕ → List Approx) where
       → MatchResult r (λ v. (lists : List (Vec Approx Global)) × (made ≡ oks lists) × (v.items ≡ lists)) (λ e. Contains made (Err e)) → IfOk r (λ v. flat_map items v.items ≡ flat_map f columns)
   lists_made columns made (Ok v) all h = ap (flat_map items) h.2 ∙ same_lists columns h.0 (subst (λ (rs : List (Result (Vec Approx Global) AllocError)). AllZip (λ column r. IfOk r (λ list. list.items ≡ f column)) columns rs) h.1 all)
   lists_made columns made (Err e) all h = tt
+
+-- ---- what each thread gave
+module _ {X Y : Type 0} (P : Y → Type 0) where
+  zipped : (xs : List X) (ys : List Y) → AllZip (λ (x : X) (r : Result Y AllocError). IfOk r P) xs (map (λ y. Ok y) ys) → All P ys
+  zipped [] [] h = All-nil P
+  zipped [] (y ∷ ys) h = absurd h
+  zipped (x ∷ xs) [] h = absurd h
+  zipped (x ∷ xs) (y ∷ ys) h = All-cons P y ys h.0 (zipped xs ys h.1)
+
+  -- all that was made has the property, where all was made
+  pub all_made : (xs : List X) (made : List (Result Y AllocError)) (r : Result (Vec Y Global) AllocError)
+      → AllZip (λ (x : X) (r : Result Y AllocError). IfOk r P) xs made
+      → MatchResult r (λ v. (ys : List Y) × (made ≡ map (λ y. Ok y) ys) × (v.items ≡ ys)) (λ e. Contains made (Err e)) → IfOk r (λ v. All P v.items)
+  all_made xs made (Ok v) all h = subst (All P) (sym h.2) (zipped xs h.0 (subst (λ (rs : List (Result Y AllocError)). AllZip (λ (x : X) (r : Result Y AllocError). IfOk r P) xs rs) h.1 all))
+  all_made xs made (Err e) all h = tt

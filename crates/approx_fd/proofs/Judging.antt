@@ -22,7 +22,7 @@ use Rattle.approx_fd.proofs.Evidence.{least-nearly}
 pub none-yet : {X : Type 0} (P : X → Type 0) (xs : List X) → xs ≡ [] → All P xs
 none-yet P xs e = subst (All P) (sym e) (λ k d l. absurd (omega arith))
 
-one-more : {X : Type 0} (P : X → Type 0) (xs : List X) (x : X) → All P xs → P x → All P (xs ++ x ∷ [])
+pub one-more : {X : Type 0} (P : X → Type 0) (xs : List X) (x : X) → All P xs → P x → All P (xs ++ x ∷ [])
 one-more {X = X} P xs x a p = All-from P (xs ++ x ∷ []) (λ y l. at y (Listed-append_cases y xs (x ∷ []) l))
   where
     at : (y : X) → Listed y xs ⊎ Listed y (x ∷ []) → P y

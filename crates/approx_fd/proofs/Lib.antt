@@ -7,3 +7,4 @@ pub mod Calls
 pub mod Judging
 pub mod Gathering
 pub mod Joining
+pub mod Sweeping

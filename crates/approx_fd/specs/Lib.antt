@@ -1,4 +1,5 @@
 pub mod Removal
 pub mod Approximate
 pub mod Search
+pub mod Sweeps
 pub mod Laws

@@ -32,10 +32,11 @@ pub(crate) fn order_of(alloc: Global, snapshot: &Snapshot) -> Result<Vec<u8>, Al
 /// with how many these are (approximate dependencies by the error g3; TANE, Huhtala, Kärkkäinen, Porkka and Toivonen, 1999). Where no row
 /// may be removed they are the minimal dependencies of the rows.
 ///
-/// Column by column it goes by rounds: left sides that evidence leaves are counted, and each that fails is grown to a greatest set that
-/// fails, which is further evidence (dualize and advance, Gunopulos, Khardon, Mannila and Toivonen, 1997). A count takes a step for each
-/// row that stands in a group, a left side that fails a refinement for each column. It takes what `Path` and `Tally` of
-/// `stripped_partition` take, and 20 bytes or so for each set that is found, a few times over.
+/// Left sides that evidence leaves are counted, and each that fails is grown to a greatest set that fails, which is further evidence
+/// (dualize and advance, Gunopulos, Khardon, Mannila and Toivonen, 1997). That goes by size, in sweeps over the left sides of all columns,
+/// and then by rounds over those of each column, in which little is left to count. A count takes a step for each row that stands in a
+/// group, a left side that fails a refinement for each column. It takes what `Path` and `Tally` of `stripped_partition` take, and 32 bytes
+/// or so for each set that is found, a few times over.
 ///
 /// An `AllocError` comes where memory is refused.
 pub fn approx(alloc: Global, snapshot: &Snapshot, errors: u32) -> Result<Vec<Approx>, AllocError>
@@ -44,10 +45,10 @@ pub fn approx(alloc: Global, snapshot: &Snapshot, errors: u32) -> Result<Vec<App
 {
     let order = order_of(alloc, snapshot)?;
     let mut search = Search::new(alloc, snapshot, order.as_slice(), errors)?;
+    let known = search.swept()?;
     let mut found = Vec::new(alloc);
     for column in 0..snapshot.columns() {
-        let target = Target::Col(column);
-        let lefts = search.settled(target, Vec::new(alloc), Vec::new(alloc))?;
+        let lefts = search.settled_by(column, &known)?;
         push_all(&mut found, column, lefts.as_slice())?;
     }
     Ok(found)

@@ -11,7 +11,7 @@ use crate::search::Search;
 use rel_base::{ColSet, Target};
 use std::alloc::{AllocError, Global};
 use std::mem;
-use stripped_partition::{Partition, Scratch};
+use stripped_partition::{Partition, Path, Scratch};
 
 // A left side that fails, and its groups, if they are not those that the search has at hand.
 #[derive(Drop)]
@@ -22,8 +22,6 @@ pub(crate) struct Climb {
 
 impl<'a> Search<'a> {
     // A set that contains a left side which fails, and fails too, as no set does that has one column more besides the target.
-    //
-    // Columns are tried one after another, those first that leave most rows together. It takes a refinement for each column.
     pub(crate) fn grown(&mut self, left: ColSet, target: Target) -> Result<ColSet, AllocError>
         requires left { left < 2 ^ length self.old.table.codes }
         requires target { IsColumnTarget (length self.old.table.codes) target }
@@ -32,6 +30,22 @@ impl<'a> Search<'a> {
         ensures most { self.new.most ≡ self.old.most }
         ensures failing { IfOk result (IsFailing self.old.table self.old.most target) }
         ensures inside { IfOk result (IsSubset left) }
+    {
+        let climb = self.climb_from(left, target)?;
+        Ok(climb.columns)
+    }
+
+    // The same with the groups by that set.
+    //
+    // Columns are tried one after another, those first that leave most rows together. It takes a refinement for each column.
+    pub(crate) fn climb_from(&mut self, left: ColSet, target: Target) -> Result<Climb, AllocError>
+        requires left { left < 2 ^ length self.old.table.codes }
+        requires target { IsColumnTarget (length self.old.table.codes) target }
+        requires failing { IsFailing self.old.table self.old.most target left }
+        ensures table { self.new.table ≡ self.old.table }
+        ensures most { self.new.most ≡ self.old.most }
+        ensures climb { IfOk result (IsClimb self.new target) }
+        ensures inside { IfOk result (λ climb. IsSubset left climb.columns) }
     {
         self.path.go_to(left)?;
         let mut climb = Climb {
@@ -42,7 +56,7 @@ impl<'a> Search<'a> {
         for column in order.iter().rev() {
             climb = self.climbed(climb, *column, target)?;
         }
-        Ok(climb.columns)
+        Ok(climb)
     }
 
     // The climb with a column more, if it still fails then.
@@ -66,18 +80,6 @@ impl<'a> Search<'a> {
         Ok(climb)
     }
 
-    // The groups of a climb.
-    fn groups_of<'b>(&'b self, climb: &'b Climb) -> &'b Partition
-        requires { AreOwn self.now.table self.now.at climb.now.columns climb.now.own }
-        ensures by { AreGroupsBy self.now.table climb.now.columns result.now }
-        ensures of { AreGroupsOf self.now.table result.now }
-    {
-        match &climb.own {
-            Some(groups) => groups,
-            None => self.path.groups(),
-        }
-    }
-
     // The groups by one column more.
     fn refined(&mut self, climb: &Climb, column: u8) -> Result<Partition, AllocError>
         requires column { column < length self.old.table.codes }
@@ -91,11 +93,23 @@ impl<'a> Search<'a> {
         // After want of memory some slots may hold counts, so they go with it.
         let mut slots = mem::replace(&mut self.slots, Vec::new(alloc));
         let mut scratch = mem::replace(&mut self.scratch, Scratch::new(alloc));
-        let groups = self.groups_of(climb);
+        let groups = groups_of(&self.path, climb);
         let finer = groups.refine_unordered(alloc, snapshot, column, &mut slots, &mut scratch)?;
         self.slots = slots;
         self.scratch = scratch;
         Ok(finer)
+    }
+}
+
+// The groups of a climb: its own, or those of the path.
+pub(crate) fn groups_of<'b>(path: &'b Path<'_>, climb: &'b Climb) -> &'b Partition
+    requires { AreOwn path.now.table path.now.columns climb.now.columns climb.now.own }
+    ensures by { AreGroupsBy path.now.table climb.now.columns result.now }
+    ensures of { AreGroupsOf path.now.table result.now }
+{
+    match &climb.own {
+        Some(groups) => groups,
+        None => path.groups(),
     }
 }
 

@@ -10,7 +10,7 @@ pub struct Approx {
 }
 
 /// Columns that are unique where a few rows are removed, and how many these are at least.
-#[derive(Clone, Copy, PartialEq, Eq)]
+#[derive(Clone, Copy, PartialEq, Eq, PartialOrd, Ord)]
 pub struct NearKey {
     pub columns: ColSet,
     pub removed: u32,

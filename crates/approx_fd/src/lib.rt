@@ -4,12 +4,15 @@
 
 mod approximate;
 mod by_workers;
+mod candidates;
 mod climb;
 mod found;
 pub mod laws;
 mod removal;
 mod rounds;
 mod search;
+mod seen;
+mod sweeps;
 
 pub use approximate::{approx, near_keys};
 pub use by_workers::approx_by;

@@ -1,3 +1,7 @@
+mod compared;
+mod drawn;
+mod large;
+
 use approx_fd::{Approx, NearKey, approx, approx_by, near_keys, removed};
 use rel_base::{Codes, ColSet, Fd, RowNo, Snapshot};
 use std::alloc::{AllocError, Global};

@@ -1,12 +1,18 @@
-use Rattle.std.proofs.Common.{◌∙◌, ◌<◌, ℕ, sym, subst, length, le_antisymm}
+use Rattle.std.proofs.Common.{◌∙◌, ◌<◌, ℕ, ap, sym, subst, length, le_antisymm}
 use Rattle.rel_base.specs.CodeTable.{CodeTable}
+use Rattle.approx_fd.specs.Search.{Searching}
 use Rattle.approx_fd.proofs.Gathering.{gathered-more, gathered-all}
+use Rattle.approx_fd.proofs.Sweeping.{found-in}
 use Rattle.approx_fd.proofs.Listing.{approximate-shown}
 use Rattle.approx_fd.proofs.approximate.approx.Goals as goal
 
-pub settled-requires-clause-target : goal.settled-requires-clause-target
-settled-requires-clause-target c = subst (λ (s : CodeTable). c.loop-column.column < length s.codes) (sym c.loop-column.invariant.table)
+pub settled_by-requires-clause-column : goal.settled_by-requires-clause-column
+settled_by-requires-clause-column c = subst (λ (s : CodeTable). c.loop-column.column < length s.codes) (sym c.loop-column.invariant.table)
     (subst (λ (n : ℕ). c.loop-column.column < n) c.columns-column-end.ensures.value c.loop-column-test.true)
+
+pub settled_by-requires-clause-found : goal.settled_by-requires-clause-found
+settled_by-requires-clause-found c = found-in c.loop-column.search.table c.in_ok-search.search.table c.loop-column.search.most c.in_ok-search.search.most c.in_ok-known.known
+    (ap (λ (s : Searching). s.table) c.in_ok-search.ensures ∙ sym c.loop-column.invariant.table) (ap (λ (s : Searching). s.most) c.in_ok-search.ensures ∙ sym c.loop-column.invariant.most) c.in_ok-known.ensures.found
 
 pub loop-column-preserved : goal.loop-column-preserved
 loop-column-preserved c = record {

@@ -1,7 +1,7 @@
 use Rattle.std.proofs.Common.{◌≡◌}
 use Rattle.col_set.specs.ColSet.{IsSubset}
 use Rattle.approx_fd.specs.Search.{IsClimb}
-use Rattle.approx_fd.proofs.search.Search.grown.Given as goal
+use Rattle.approx_fd.proofs.search.Search.climb_from.Given as goal
 
 abbrev pub invariant-loop-column : goal.invariant-loop-column
 invariant-loop-column l = record {
