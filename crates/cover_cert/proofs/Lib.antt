@@ -5,3 +5,5 @@ pub mod Held
 pub mod Forms
 pub mod Judged
 pub mod Gathered
+pub mod Cells
+pub mod Certified

@@ -113,10 +113,10 @@ module _ (field : Cell) (columns least : ℕ) (rest word : Cell) (others : List 
             by false e = e
 
     pub taken : least ≤ c → columns_of field ≡ option_map (λ cs. union (with columns c) (set_of cs)) (ascending (c + 1) others)
+    unfolding set_of
     taken l = next true (le-leb least c l) ∙ both (ascending (c + 1) others)
       where
         both : (o : Option (List ℕ)) → option_map set_from (option_map (λ cs. c ∷ cs) o) ≡ option_map (λ cs. union (with columns c) (set_of cs)) o
-        unfolding set_of
         both None = refl
         both (Some cs) = ap Some (reordered columns (set_of cs) c)
 

@@ -5,3 +5,4 @@ pub mod Answers
 pub mod Comparing
 pub mod Holding
 pub mod Certificates
+pub mod Laws

@@ -29,9 +29,9 @@ fn is_claim(claim: Claim, left: ColSet, target: Target) -> bool
 fn same_target(one: Target, other: Target) -> bool
     ensures { result ≡ spec.same_target one other }
 {
-    match other {
-        Target::Col(column) => one.is_column(column),
-        Target::RowId => matches!(one, Target::RowId),
+    match one {
+        Target::Col(column) => other.is_column(column),
+        Target::RowId => matches!(other, Target::RowId),
     }
 }
 

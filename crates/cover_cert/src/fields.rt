@@ -8,6 +8,7 @@ use col_set::{ColSet, MOST_COLUMNS};
 const MOST_DIGITS: usize = 10;
 
 /// The number that these bytes write in decimal digits without leading zeros, if they do and it is at most 4294967295.
+#[tactic(auto, unfolding(crate::specs::Fields::number))]
 pub(crate) fn number(field: &[u8]) -> Option<u32>
     ensures { result ≡ spec.number field.now }
 {

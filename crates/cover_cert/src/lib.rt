@@ -11,6 +11,7 @@ mod checking;
 mod comparing;
 mod fields;
 mod holding;
+pub mod laws;
 mod line;
 mod listing;
 mod part;

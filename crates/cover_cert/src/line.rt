@@ -63,6 +63,7 @@ impl Kind {
 }
 
 // The kind of a record with this first field, if it has one.
+#[tactic(auto, unfolding(crate::specs::Lines::kind_of))]
 fn kind_of(word: &[u8]) -> Option<Kind>
     ensures { result ≡ spec.kind_of word.now }
 {
@@ -92,6 +93,7 @@ fn cell(fields: &ByteRecord, place: usize) -> &[u8]
 }
 
 /// What this record says, if it is one that a certificate may have.
+#[tactic(auto, unfolding(crate::specs::Lines::line_of))]
 pub(crate) fn line_of(fields: &ByteRecord) -> Option<Line>
     ensures { result ≡ spec.line_of (fields_of fields.now) }
 {
