@@ -1,17 +1,15 @@
 -- A text of which yes is said is a certificate, yes is said of each certificate, and it lists the covers.
-use Rattle.std.proofs.Common.{inl, inr, ◌≡◌, ◌≢◌, ◌⊎◌, ℕ, zero, suc, ◌+◌, ◌<◌, ◌≤◌, Bool, true, false, cond, not, ◌&&◌, eqb, ltb, leb, refl, sym, ap, ap₂, ◌∙◌, subst, arith, List, [], ◌∷◌, ◌++◌, length, get_or, map, map-append, Option, Some, None}
-use Rattle.std.specs.List.{All, list_any, list_all, Contains, flat_map, range_with_len}
+use Rattle.std.proofs.Common.{inl, inr, ◌≡◌, ◌≢◌, ◌⊎◌, ℕ, zero, suc, ◌+◌, ◌<◌, ◌≤◌, Bool, true, false, cond, not, eqb, refl, sym, ap, ap₂, ◌∙◌, subst, arith, List, [], ◌∷◌, ◌++◌, length, get_or, map, Option, Some, None}
+use Rattle.std.specs.List.{All, list_any, list_all, Contains, range_with_len}
 use Rattle.std.proofs.lemmas.Bool.{false≢true, true≢false, and_parts, and_from, le-leb, leb-true, lt-ltb, ltb-true, cases_eq, eqb-true, eq-eqb, not-false}
-use Rattle.std.proofs.lemmas.Option.{none-some, same_Some}
+use Rattle.std.proofs.lemmas.Option.{none-some}
 use Rattle.col_set.specs.declared.target.Target.{Target}
 use Rattle.col_set.specs.declared.target.Target.TheVariants.{Col, RowId}
 use Rattle.col_set.specs.Lists.{Listed, Listed-append_left, Listed-append_right, Listed-append_cases, Listed-map, Listed-map_which, list_any_at, list_any_which}
 use Rattle.col_set.specs.AllSets.{Ascends-range, Ascends_within}
 use Rattle.col_set.proofs.Places.{Contains-listed, Listed-contained, Listed-get_or}
 use Rattle.rel_base.specs.declared.dependency.Fd.{Fd}
-use Rattle.rel_base.specs.declared.nulls.Nulls.{Nulls}
-use Rattle.rel_base.specs.Relation.{Content}
-use Rattle.rel_base.specs.RowState.{RowState, IsRowState, width, opened}
+use Rattle.rel_base.specs.RowState.{RowState, IsRowState, width}
 use Rattle.rel_base.specs.Validity.{agree_of, holds, Holds}
 use Rattle.rel_base.specs.Covers.{CoverLists, covers, least_covers}
 use Rattle.rel_base.specs.Laws.{IsAgreeSet, AllHold}
@@ -25,13 +23,13 @@ use Rattle.cover_cert.specs.declared.line.RowPair.{RowPair}
 use Rattle.cover_cert.specs.declared.line.Claim.{Claim}
 use Rattle.cover_cert.specs.declared.part.Part.TheVariants as part
 use Rattle.cover_cert.specs.declared.answer.Answer.{Answer}
-use Rattle.cover_cert.specs.declared.answer.Answer.TheVariants.{Yes, No}
+use Rattle.cover_cert.specs.declared.answer.Answer.TheVariants.{Yes}
 use Rattle.cover_cert.specs.declared.answer.Flaw.{Flaw}
 use Rattle.cover_cert.specs.declared.answer.Flaw.TheVariants as flaw
-use Rattle.cover_cert.specs.Form.{Said, said, form_flaw, shape_in, pair_in, claim_in, shapes_in, pairs_in, claims_in, same_shape}
-use Rattle.cover_cert.specs.Comparing.{claims_to, claim_of, claims_of, departs_at, first_where}
-use Rattle.cover_cert.specs.Certificates.{Rows, rows_of, shape_of, shape_flaw, names_rows, pair_flaw, agree_sets_of, first_claim, least_flaw, fails, fails_flaw, no_or, judged, answer_by, answer}
-use Rattle.cover_cert.specs.Laws.{NamesRows, RowsHaveTheirNumbers, lines_of, left_by, IsCertificate, YesIsSaidOfCertificates, CertificatesListCovers}
+use Rattle.cover_cert.specs.Form.{Said, said, form_flaw, shapes_in, pairs_in, claims_in, same_shape}
+use Rattle.cover_cert.specs.Comparing.{claims_to, claim_of, claims_of, departs_at}
+use Rattle.cover_cert.specs.Certificates.{rows_of, shape_of, shape_flaw, names_rows, pair_flaw, agree_sets_of, first_claim, least_flaw, fails, fails_flaw, no_or, judged, answer_by}
+use Rattle.cover_cert.specs.Laws.{NamesRows, RowsHaveTheirNumbers, lines_of, left_by, YesIsSaidOfCertificates, CertificatesListCovers}
 use Rattle.cover_cert.proofs.Firsts.{first_where-none, none-first_where, departs-none, none-departs}
 
 -- ---- the lines of a text in form
@@ -243,11 +241,11 @@ module _ (r : RowState) (is : IsRowState r) (text : Said) where
 
   named : (p : RowPair) → names_rows (rows_of r) p ≡ true → NamesRows r p
   named p e =
-      let u = and_parts _ _ e in let v = and_parts _ _ u.1 in let w = and_parts _ _ v.1 in
-      record { positive = leb-true 1 p.first u.0; rising = ltb-true p.first p.second v.0; first = live_at p.first w.0; second = live_at p.second w.1 }
+      let u = and_parts _ _ e in let v = and_parts _ _ u.0 in let w = and_parts _ _ v.0 in
+      record { positive = leb-true 1 p.first w.0; rising = ltb-true p.first p.second w.1; first = live_at p.first v.1; second = live_at p.second u.1 }
 
   names : (p : RowPair) → NamesRows r p → names_rows (rows_of r) p ≡ true
-  names p h = and_from _ _ (le-leb 1 p.first h.positive) (and_from _ _ (lt-ltb p.first p.second h.rising) (and_from _ _ (at_live p.first h.first) (at_live p.second h.second)))
+  names p h = and_from _ _ (and_from _ _ (and_from _ _ (le-leb 1 p.first h.positive) (lt-ltb p.first p.second h.rising)) (at_live p.first h.first)) (at_live p.second h.second)
 
   -- its agree sets are some of the rows'
   all_agree : (pairs : List RowPair) → All (NamesRows r) pairs → (w : ℕ) → Listed w (agree_sets_of (rows_of r) pairs) → IsAgreeSet r w
@@ -259,7 +257,7 @@ module _ (r : RowState) (is : IsRowState r) (text : Said) where
       apart : (i j : ℕ) → i < j → i ≢ j
       apart i j l e = omega arith
 
-  pub left_is_covers : (pairs : List RowPair) → All (NamesRows r) pairs → AllHold r (left_by r pairs) → left_by r pairs ≡ covers r
+  left_is_covers : (pairs : List RowPair) → All (NamesRows r) pairs → AllHold r (left_by r pairs) → left_by r pairs ≡ covers r
   left_is_covers pairs a h = least_covers-whole r is (agree_sets_of (rows_of r) pairs) (all_agree pairs a) h
 
   -- what holds of all claims of some lists holds of the lists
@@ -295,7 +293,7 @@ module _ (r : RowState) (is : IsRowState r) (text : Said) where
     claims_are = departs-none (first_claim text) (claims_of (least_covers (width r) (agree_sets_of (rows_of r) (pairs_in text)))) (claims_in text) s.least
         ∙ ap (λ (ps : List RowPair). claims_of (left_by r ps)) pairs_are
 
-    pub shape_is : form.shape ≡ shape_of (rows_of r)
+    shape_is : form.shape ≡ shape_of (rows_of r)
     shape_is =
         let b : list_all (same_shape (shape_of (rows_of r))) (form.shape ∷ []) ≡ true = sym (ap (list_all (same_shape (shape_of (rows_of r)))) shapes_are) ∙ if_none (list_all (same_shape (shape_of (rows_of r))) (shapes_in text)) s.shape in
         let both = and_parts (same_shape (shape_of (rows_of r)) form.shape) true b in
@@ -322,7 +320,7 @@ module _ (r : RowState) (is : IsRowState r) (text : Said) where
     held : AllHold r (left_by r form.pairs)
     held = all_hold (left_by r form.pairs) (λ c h. claims_hold c (subst (Listed c) (sym claims_are) h))
 
-    pub lists_covers : claims_in text ≡ claims_of (covers r)
+    lists_covers : claims_in text ≡ claims_of (covers r)
     lists_covers = claims_are ∙ ap claims_of (left_is_covers form.pairs all_named held)
 
   -- a text that has these lines
@@ -337,7 +335,7 @@ module _ (r : RowState) (is : IsRowState r) (text : Said) where
     same_size = ap (list_all (same_shape (shape_of (rows_of r)))) (ap shapes_in e ∙ ap (λ (ss : List Shape). shape_of (rows_of r) ∷ ss) (no_shapes pairs (left_by r pairs).keys (left_by r pairs).fds))
         ∙ and_from (same_shape (shape_of (rows_of r)) (shape_of (rows_of r))) true (and_from _ _ (eq-eqb (width r) (width r) refl) (eq-eqb (length r.live) (length r.live) refl)) refl
 
-    pub certified : Sound
+    certified : Sound
     certified = record {
       form = ap (form_flaw part.Start 1) e ∙ lines_end (shape_of (rows_of r)) pairs (left_by r pairs).keys (left_by r pairs).fds;
       shape = ap (λ b. let o : Option ℕ = cond b None (Some 1) in o) same_size;

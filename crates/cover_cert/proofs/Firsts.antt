@@ -1,14 +1,13 @@
 -- The first element that passes a test, and the first place where two sequences part.
-use Rattle.std.proofs.Common.{inl, inr, ◌≡◌, ◌≢◌, ◌⊎◌, ℕ, zero, suc, ◌+◌, ◌<◌, ◌≤◌, Bool, true, false, cond, not, ◌&&◌, eqb, refl, sym, ap, ap₂, ◌∙◌, subst, arith, List, [], ◌∷◌, ◌++◌, length, get_or, drop, map, append-nil, append_assoc, Option, Some, None}
-use Rattle.std.specs.List.{All}
-use Rattle.std.proofs.lemmas.Bool.{false≢true, true≢false, and_parts, eqb-true, eq-eqb}
+use Rattle.std.proofs.Common.{◌≡◌, ℕ, zero, suc, ◌+◌, ◌<◌, ◌≤◌, Bool, true, false, cond, ◌&&◌, eqb, refl, sym, ap, ap₂, ◌∙◌, arith, List, [], ◌∷◌, length, get_or, drop, Option, Some, None}
+use Rattle.std.proofs.lemmas.Bool.{false≢true, and_parts, eqb-true, eq-eqb}
 use Rattle.std.proofs.lemmas.Option.{none-some}
 use Rattle.std.proofs.lemmas.List.{drop_more, drop_all}
 use Rattle.col_set.specs.declared.target.Target.{Target}
 use Rattle.col_set.specs.declared.target.Target.TheVariants.{Col, RowId}
 use Rattle.cover_cert.specs.declared.line.Claim.{Claim}
 use Rattle.cover_cert.specs.declared.comparing.Compared.{Compared}
-use Rattle.cover_cert.specs.Comparing.{same_target, same_claim, departs_at, departs_then, claims_to, first_where}
+use Rattle.cover_cert.specs.Comparing.{same_target, same_claim, departs_at, departs_then, first_where}
 
 -- ---- the first that passes
 module _ {A : Type 0} (p : A → Bool) where

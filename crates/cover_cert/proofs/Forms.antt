@@ -1,5 +1,6 @@
 -- Lines one after another, and giant records.
-use Rattle.std.proofs.Common.{inl, inr, ◌≡◌, ◌≢◌, ℕ, zero, suc, ◌+◌, ◌<◌, ◌≤◌, Bool, true, false, cond, ◌&&◌, eqb, refl, sym, ap, ap₂, ◌∙◌, subst, arith, List, [], ◌∷◌, ◌++◌, length, map, map-append, append_assoc, Option, Some, None}
+use Rattle.std.proofs.Common.{◌≡◌, ◌≢◌, ℕ, suc, ◌+◌, ◌<◌, ◌≤◌, Bool, true, false, cond, ◌&&◌, eqb, refl, sym, ap, ◌∙◌, subst, arith, List, [], ◌∷◌, ◌++◌, length, map, append_assoc, append-nil, Option, Some, None}
+use Rattle.std.proofs.lemmas.List.{map-append}
 use Rattle.std.specs.List.{list_all}
 use Rattle.std.proofs.lemmas.Bool.{ne_eqb}
 use Rattle.rel_base.specs.Cells.{Row, cell}
@@ -16,7 +17,8 @@ use Rattle.cover_cert.specs.declared.part.Part.{Part}
 use Rattle.cover_cert.specs.declared.part.Part.TheVariants as part
 use Rattle.cover_cert.specs.declared.answer.Flaw.TheVariants as flaw
 use Rattle.cover_cert.specs.Lines.{kind_of, fields_in, line_by, line_where, line_of}
-use Rattle.cover_cert.specs.Form.{Said, said, place_of, after, out_or, form_flaw, shape_in, pair_in, claim_in, shapes_in, pairs_in, claims_in, same_shape}
+use Rattle.cover_cert.specs.declared.listing.Listing.{Listing}
+use Rattle.cover_cert.specs.Form.{Said, IsListing, said, place_of, after, out_or, form_flaw, shape_in, pair_in, claim_in, shapes_in, pairs_in, claims_in, same_shape}
 use Rattle.cover_cert.specs.Certificates.{Rows, no_or, judged, answer_by}
 
 -- ---- one record more
@@ -68,7 +70,7 @@ one_at_most (line.Fd f) = omega arith
 one_at_most line.End = omega arith
 
 length-both : {A : Type 0} (xs ys : List A) → length (xs ++ ys) ≡ length xs + length ys
-length-both [] ys = refl
+length-both [] ys = omega arith
 length-both (x ∷ xs) ys = let e = length-both xs ys in omega arith
 
 module _ (wanted : Shape) (text : Said) where
@@ -101,9 +103,9 @@ module _ (wanted : Shape) (text : Said) where
 -- ---- giant records
 long_row : (row : Row) (o : Option Kind) → 3 < length row → line_where o row ≡ None
 long_row row None l = refl
-long_row row (Some kind) l = ap (λ b. cond b (line_by kind (cell row 1) (cell row 2)) None) (ne_eqb (length row) (fields_in kind) (other kind))
+long_row row (Some k) l = ap (λ b. cond b (line_by k (cell row 1) (cell row 2)) None) (ne_eqb (length row) (fields_in k) (other k))
   where
-    other : (kind : Kind) → length row ≢ fields_in kind
+    other : (k : Kind) → length row ≢ fields_in k
     other kind.Cert e = omega arith
     other kind.Pair e = omega arith
     other kind.Key e = omega arith
@@ -121,11 +123,11 @@ record EndsAt (before : Part) (number : ℕ) (earlier : Said) : Type 0 where
 
 ends : (before : Part) (number : ℕ) (earlier : Said) → EndsAt before number earlier
 ends before number [] = record { at = number; is = λ left. flaw-out before number None left refl }
-ends before number (one ∷ others) = by (after before one) refl
+ends before number (one ∷ others) = by (after before one) refl (λ next. ends next (number + 1) others)
   where
-    by : (o : Option Part) → after before one ≡ o → EndsAt before number (one ∷ others)
-    by None e = record { at = number; is = λ left. flaw-out before number one (others ++ None ∷ left) e }
-    by (Some next) e = let rest = ends next (number + 1) others in record { at = rest.at; is = λ left. flaw-next before next number one (others ++ None ∷ left) e ∙ rest.is left }
+    by : (o : Option Part) → after before one ≡ o → ((next : Part) → EndsAt next (number + 1) others) → EndsAt before number (one ∷ others)
+    by None e more = record { at = number; is = λ left. flaw-out before number one (others ++ None ∷ left) e }
+    by (Some next) e more = let rest = more next in record { at = rest.at; is = λ left. flaw-next before next number one (others ++ None ∷ left) e ∙ rest.is left }
 
 said_parts : (earlier : List Row) (row : Row) (left : List Row) → 3 < length row → map line_of (earlier ++ row ∷ left) ≡ map line_of earlier ++ None ∷ map line_of left
 said_parts earlier row left l = map-append line_of earlier (row ∷ left) ∙ ap (λ (o : Option Line). map line_of earlier ++ o ∷ map line_of left) (no_line row l)
@@ -141,3 +143,39 @@ giant-same bytes upto behind is rows =
     let this = ap (form_flaw part.Start 1) (ap (map line_of) is.upto_are ∙ said_parts is.earlier (is.fields ++ is.field ∷ []) [] one) ∙ end.is [] in
     let that = ap (form_flaw part.Start 1) (ap (map line_of) is.records_are ∙ said_parts is.earlier (is.fields ++ is.others) (records_of behind) other) ∙ end.is (map line_of (records_of behind)) in
     ap (λ (o : Option ℕ). no_or flaw.Form o (judged rows (said upto))) this ∙ sym (ap (λ (o : Option ℕ). no_or flaw.Form o (judged rows (said bytes))) that)
+
+-- ---- record by record
+module _ (wanted : Shape) (text : Said) (at : Part) (number : ℕ) (b : Bool) (pairs : List RowPair) (claims : List Claim) (rows : List Row) (read : ReadTo wanted text at number b pairs claims (map line_of rows)) where
+  module _ (row : Row) (left : List Row) (found : rows ≡ row ∷ left) (o : Option Line) (said_is : o ≡ line_of row) where
+    opened : ReadTo wanted text at number b pairs claims (o ∷ map line_of left)
+    opened = subst (λ (one : Option Line). ReadTo wanted text at number b pairs claims (one ∷ map line_of left)) (sym said_is)
+        (subst (λ (rs : List Row). ReadTo wanted text at number b pairs claims (map line_of rs)) found read)
+
+    pub row-out : o ≡ None → form_flaw part.Start 1 text ≡ Some number
+    row-out e = read-out wanted text at number b pairs claims o (map line_of left) opened (ap (after at) e)
+
+    module _ (one : Line) (is : o ≡ Some one) (p : Option Part) (next_is : p ≡ after at (Some one)) where
+      pub row-misplaced : p ≡ None → form_flaw part.Start 1 text ≡ Some number
+      row-misplaced e = read-out wanted text at number b pairs claims o (map line_of left) opened (ap (after at) is ∙ sym next_is ∙ e)
+
+      pub row-more : (next : Part) (c : Bool) (more_pairs : List RowPair) (more_claims : List Claim) → p ≡ Some next
+          → c ≡ (b && list_all (same_shape wanted) (shape_in (Some one))) → more_pairs ≡ pairs ++ pair_in (Some one) → more_claims ≡ claims ++ claim_in (Some one)
+          → ReadTo wanted text next (number + 1) c more_pairs more_claims (map line_of left)
+      row-more next c more_pairs more_claims e i j k = read-more wanted text at number b pairs claims one (map line_of left) next c more_pairs more_claims
+          (subst (λ (one : Option Line). ReadTo wanted text at number b pairs claims (one ∷ map line_of left)) is opened) (sym next_is ∙ e) i j k
+
+  module _ (none : rows ≡ []) where
+    pub text-open : eqb (place_of at) 4 ≡ false → form_flaw part.Start 1 text ≡ Some number
+    text-open e = read.form ∙ ap (form_flaw at number) (ap (map line_of) none) ∙ flaw-open at number e
+
+    pub text-listed : (listing : Listing) → listing.is_shaped ≡ b → listing.pairs.items ≡ pairs → listing.claims.items ≡ claims → eqb (place_of at) 4 ≡ true → IsListing wanted text listing
+    text-listed listing e f g h = record {
+      form = read.form ∙ ap (form_flaw at number) (ap (map line_of) none) ∙ flaw-end at number h;
+      shaped = e ∙ sym (read.shaped ∙ ap (λ (rest : Said). b && list_all (same_shape wanted) (shapes_in rest)) (ap (map line_of) none) ∙ and_true b);
+      pairs = f ∙ sym (read.pairs_are ∙ ap (λ (rest : Said). pairs ++ pairs_in rest) (ap (map line_of) none) ∙ append-nil pairs);
+      claims = g ∙ sym (read.claims_are ∙ ap (λ (rest : Said). claims ++ claims_in rest) (ap (map line_of) none) ∙ append-nil claims);
+    }
+      where
+        and_true : (c : Bool) → (c && true) ≡ c
+        and_true true = refl
+        and_true false = refl

@@ -1,7 +1,6 @@
 -- What partitions tell of claims, and which claim is the first that fails.
-use Rattle.std.proofs.Common.{inl, inr, ◌≡◌, ◌≢◌, ◌⊎◌, ℕ, zero, suc, ◌+◌, ◌<◌, ◌≤◌, Bool, true, false, cond, not, eqb, refl, sym, ap, ◌∙◌, subst, arith, List, [], ◌∷◌, length, get_or, Option, Some, None, is_none}
-use Rattle.std.specs.List.{All, Contains}
-use Rattle.std.proofs.lemmas.Bool.{false≢true, eqb-true, eq-eqb, cases_eq, not-false}
+use Rattle.std.proofs.Common.{inl, ◌≡◌, ℕ, ◌+◌, ◌<◌, ◌≤◌, Bool, true, false, not, eqb, refl, sym, ap, subst, arith, List, [], ◌∷◌, length, Option, Some, None, is_none, is_some}
+use Rattle.std.proofs.lemmas.Bool.{false≢true, true≢false, eqb-true, eq-eqb}
 use Rattle.col_set.specs.declared.target.Target.TheVariants.{Col, RowId}
 use Rattle.col_set.specs.Lists.{Listed}
 use Rattle.col_set.specs.Subsets.{same_test}
@@ -12,7 +11,7 @@ use Rattle.stripped_partition.specs.SplitBy.{split_by}
 use Rattle.stripped_partition.specs.AnyOrder.{AreGroupsBy}
 use Rattle.stripped_partition.proofs.Dependencies.{no_groups-unique, unique-no_groups, held-split, split-held, split_by-none, none-split_by}
 use Rattle.cover_cert.specs.declared.line.Claim.{Claim}
-use Rattle.cover_cert.specs.Holding.{HoldsAt, FailsAt, IsLeastFailing}
+use Rattle.cover_cert.specs.Holding.{IsLeastFailing}
 use Rattle.cover_cert.specs.Comparing.{first_where}
 use Rattle.cover_cert.specs.Certificates.{rows_in, fails}
 use Rattle.cover_cert.proofs.Firsts.{first_where-none, first_where-at}
@@ -44,6 +43,12 @@ module _ (s : CodeTable) (x : ℕ) (groups : List (List ℕ)) (are : AreGroupsBy
       held-split s x a l (none-split_by s x a (stripped s x) (λ g h i m. none g (are.kept g h) i m)))
       (λ e. let none = split_by-none s x a (stripped s x) (split-held s x a e) in
       ap is_none (none-split_by s x a groups (λ g h i m. none g (are.only g h) i m)))
+
+pub flipped : {A : Type 0} (o : Option A) (b : Bool) → is_some o ≡ not b → b ≡ is_none o
+flipped None true e = refl
+flipped None false e = absurd (false≢true e)
+flipped (Some a) true e = absurd (true≢false e)
+flipped (Some a) false e = refl
 
 -- ---- the first claim that fails
 module _ (s : CodeTable) (claims : List Claim) where

@@ -7,3 +7,6 @@ pub mod Judged
 pub mod Gathered
 pub mod Cells
 pub mod Certified
+pub mod Past
+pub mod Pairs
+pub mod Visits

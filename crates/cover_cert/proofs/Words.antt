@@ -1,11 +1,10 @@
 -- Words between spaces, and columns that they name.
-use Rattle.std.proofs.Common.{inl, inr, ◌≡◌, ◌≢◌, ℕ, zero, suc, ◌+◌, ◌<◌, ◌≤◌, Bool, true, false, cond, ◌||◌, eqb, leb, refl, sym, ap, ap₂, ◌∙◌, subst, arith, List, [], ◌∷◌, length, get_or, take, drop, Option, Some, None, option_map}
+use Rattle.std.proofs.Common.{inl, inr, ◌≡◌, ◌≢◌, ℕ, zero, suc, ◌+◌, ◌<◌, ◌≤◌, Bool, true, false, cond, ◌||◌, eqb, leb, refl, sym, ap, ◌∙◌, arith, List, [], ◌∷◌, length, get_or, take, drop, Option, Some, None, option_map}
 use Rattle.std.proofs.lemmas.Bool.{eq-eqb, ne_eqb, le-leb, leb-true, cases_eq}
-use Rattle.std.proofs.lemmas.List.{take_all, drop_all}
 use Rattle.col_set.specs.ColSet.{empty, has, with, union, set_of}
 use Rattle.col_set.specs.Members.{has-empty, has-union, has-with, same_set}
 use Rattle.rel_base.specs.Cells.{Cell}
-use Rattle.cover_cert.specs.Fields.{before_words, words, column_of, ascending_with, ascending, columns_of}
+use Rattle.cover_cert.specs.Fields.{before_words, words, words_after, column_of, ascending_with, ascending, columns_of}
 
 -- ---- words
 abbrev pub NoSpace : Cell → ℕ → Type 0
@@ -14,36 +13,22 @@ NoSpace xs n = (k : ℕ) → k < n → get_or xs k 0 ≢ 32
 abbrev step : ℕ → List Cell → Bool → List Cell
 step x ws b = cond b ([] ∷ ws) (before_words x ws)
 
-words-none : (xs : Cell) → NoSpace xs (length xs) → words xs ≡ xs ∷ []
+pub words-to : (xs : Cell) (n : ℕ) → n ≤ length xs → (n < length xs → get_or xs n 0 ≡ 32) → NoSpace xs n → words xs ≡ take n xs ∷ words_after (drop n xs)
 unfolding words
-words-none [] f = refl
-words-none (x ∷ xs) f =
+words-to [] zero l e f = refl
+words-to [] (suc n) l e f = absurd (omega arith)
+words-to (x ∷ xs) zero l e f = ap (step x (words xs)) (eq-eqb x 32 (e (omega arith)))
+words-to (x ∷ xs) (suc n) l e f =
     ap (step x (words xs)) (ne_eqb x 32 (f 0 (omega arith)))
-    ∙ ap (before_words x) (words-none xs (λ k l. f (suc k) (omega arith)))
+    ∙ ap (before_words x) (words-to xs n (omega arith) (λ m. e (omega arith)) (λ k m. f (suc k) (omega arith)))
 
-words-space : (xs : Cell) (n : ℕ) → n < length xs → get_or xs n 0 ≡ 32 → NoSpace xs n → words xs ≡ take n xs ∷ words (drop (suc n) xs)
-unfolding words
-words-space [] n l e f = absurd (omega arith)
-words-space (x ∷ xs) zero l e f = ap (step x (words xs)) (eq-eqb x 32 e)
-words-space (x ∷ xs) (suc n) l e f =
-    ap (step x (words xs)) (ne_eqb x 32 (f 0 (omega arith)))
-    ∙ ap (before_words x) (words-space xs n (omega arith) e (λ k m. f (suc k) (omega arith)))
+pub after-none : (xs : Cell) → length xs ≡ 0 → words_after xs ≡ []
+after-none [] e = refl
+after-none (x ∷ xs) e = absurd (omega arith)
 
--- what stands behind a word that ends at a place
-abbrev pub words_behind : Cell → ℕ → List Cell
-words_behind xs n = cond (eqb n (length xs)) [] (words (drop (n + 1) xs))
-
-pub words-at : (xs : Cell) (n : ℕ) → n < length xs → get_or xs n 0 ≡ 32 → NoSpace xs n → words xs ≡ take n xs ∷ words_behind xs n
-words-at xs n l e f =
-    let d : n ≢ length xs = λ i. (let j : n ≡ length xs = i in omega arith) in
-    let s : suc n ≡ n + 1 = omega arith in
-    words-space xs n l e f ∙ ap (λ (ws : List Cell). take n xs ∷ ws)
-    (ap (λ (m : ℕ). words (drop m xs)) s ∙ sym (ap (λ (b : Bool). let ws : List Cell = cond b [] (words (drop (n + 1) xs)) in ws) (ne_eqb n (length xs) d)))
-
-pub words-all : (xs : Cell) (n : ℕ) → n ≡ length xs → NoSpace xs n → words xs ≡ take n xs ∷ words_behind xs n
-words-all xs n e f =
-    words-none xs (λ k l. f k (omega arith))
-    ∙ ap₂ (λ (w : Cell) (ws : List Cell). w ∷ ws) (sym (take_all n xs (omega arith))) (sym (ap (λ (b : Bool). let ws : List Cell = cond b [] (words (drop (n + 1) xs)) in ws) (eq-eqb n (length xs) e)))
+pub after-some : (xs rest : Cell) → length xs ≢ 0 → rest ≡ drop 1 xs → words_after xs ≡ words rest
+after-some [] rest e f = absurd (e refl)
+after-some (x ∷ xs) rest e f = ap words (sym f)
 
 pub NoSpace-more : (xs : Cell) (n : ℕ) (x : ℕ) → NoSpace xs n → x ≡ get_or xs n 0 → x ≢ 32 → NoSpace xs (n + 1)
 NoSpace-more xs n x f e ne k l = elim (cases_eq k n) as (λ _. get_or xs k 0 ≢ 32) [
@@ -85,7 +70,7 @@ reordered x s c = same_set _ _ (λ k. has-union x (with s c) k ∙ ap (λ b. has
 
 -- the words that are left begin with this one
 module _ (field : Cell) (columns least : ℕ) (rest word : Cell) (others : List Cell) (from : ColumnsFrom field columns least rest) (is : words rest ≡ word ∷ others) where
-  set_from : List ℕ → ℕ
+  abbrev set_from : List ℕ → ℕ
   set_from cs = union columns (set_of cs)
 
   first : columns_of field ≡ option_map set_from (ascending_with least (column_of word) (λ next. ascending next others))
@@ -96,7 +81,7 @@ module _ (field : Cell) (columns least : ℕ) (rest word : Cell) (others : List 
   no_column e = sym (first ∙ ap (λ (o : Option ℕ). option_map set_from (ascending_with least o (λ next. ascending next others))) e)
 
   module _ (c : ℕ) (column : column_of word ≡ Some c) where
-    tested : Bool → Option (List ℕ)
+    abbrev tested : Bool → Option (List ℕ)
     tested b = cond b (option_map (λ cs. c ∷ cs) (ascending (c + 1) others)) None
 
     next : (b : Bool) → leb least c ≡ b → columns_of field ≡ option_map set_from (tested b)

@@ -1,16 +1,13 @@
 -- When a text is a certificate of the covers of some rows, and its first flaw where it is none.
-use Rattle.std.specs.Prelude.{◌≡◌, ◌<◌, ◌+◌, ◌&&◌, if◌then◌else◌, not, nat_le, nat_lt, nat_eq, ℕ, Bool, true, List, [], ◌∷◌, ◌++◌, length, map, Option, Some, None}
-use Rattle.std.specs.List.{All, list_any, list_all}
+use Rattle.std.specs.Prelude.{◌+◌, ◌&&◌, if◌then◌else◌, not, nat_le, nat_lt, nat_eq, ℕ, Bool, List, length, map, Option, Some, None}
+use Rattle.std.specs.List.{list_any, list_all}
 use Rattle.col_set.specs.declared.target.Target.{Target}
 use Rattle.col_set.specs.ColSet.{Columns}
 use Rattle.rel_base.specs.CodeTable.{CodeTable, live_at}
 use Rattle.rel_base.specs.RowState.{RowState, width}
 use Rattle.rel_base.specs.Validity.{agree_of, holds}
 use Rattle.rel_base.specs.Shows.{code_agree, live_numbers, holds_in}
-use Rattle.rel_base.specs.Covers.{CoverLists, least_covers}
-use Rattle.rel_base.specs.Laws.{AllHold}
-use Rattle.cover_cert.specs.declared.line.Line.{Line}
-use Rattle.cover_cert.specs.declared.line.Line.TheVariants as line
+use Rattle.rel_base.specs.Covers.{least_covers}
 use Rattle.cover_cert.specs.declared.line.Shape.{Shape}
 use Rattle.cover_cert.specs.declared.line.RowPair.{RowPair}
 use Rattle.cover_cert.specs.declared.line.Claim.{Claim}

@@ -44,6 +44,11 @@ unfoldable pub words : Cell → List Cell
 words [] = [] ∷ []
 words (byte ∷ bytes) = if byte == 32 then [] ∷ words bytes else before_words byte (words bytes)
 
+-- the words behind one: none at the end, or those behind the space that stands there
+abbrev pub words_after : Cell → List Cell
+words_after [] = []
+words_after (byte ∷ bytes) = words bytes
+
 -- a column that is at least so great, before the columns from the next one on
 abbrev pub ascending_with : ℕ → Option ℕ → (ℕ → Option (List ℕ)) → Option (List ℕ)
 ascending_with least None rest = None

@@ -2,7 +2,7 @@
 use Rattle.std.specs.Prelude.{◌≡◌, ◌<◌, ◌≤◌, ◌↔◌, ◌++◌, ℕ, List, [], ◌∷◌, length, map, Some}
 use Rattle.std.specs.List.{All, Contains}
 use Rattle.rel_base.specs.declared.nulls.Nulls.{Nulls}
-use Rattle.rel_base.specs.Relation.{Content, IsContent}
+use Rattle.rel_base.specs.Relation.{Content}
 use Rattle.rel_base.specs.RowState.{RowState, IsRowState, width, opened}
 use Rattle.rel_base.specs.Covers.{CoverLists, covers, least_covers}
 use Rattle.rel_base.specs.Laws.{AllHold}

@@ -1,15 +1,11 @@
 -- What one record of a certificate says.
-use Rattle.std.specs.Prelude.{if◌then◌else◌, ◌==◌, ℕ, Bool, List, [], ◌∷◌, length, Option, Some, None, option_map}
-use Rattle.col_set.specs.ColSet.{Columns}
+use Rattle.std.specs.Prelude.{if◌then◌else◌, ◌==◌, ℕ, [], ◌∷◌, length, Option, Some, None, option_map}
 use Rattle.rel_base.specs.Cells.{Cell, Row, cell}
 use Rattle.rel_base.specs.Agreement.{same_cell}
-use Rattle.rel_base.specs.declared.dependency.Fd.{Fd}
 use Rattle.cover_cert.specs.declared.line.Kind.{Kind}
 use Rattle.cover_cert.specs.declared.line.Kind.TheVariants as kind
 use Rattle.cover_cert.specs.declared.line.Line.{Line}
 use Rattle.cover_cert.specs.declared.line.Line.TheVariants as line
-use Rattle.cover_cert.specs.declared.line.Shape.{Shape}
-use Rattle.cover_cert.specs.declared.line.RowPair.{RowPair}
 use Rattle.cover_cert.specs.Fields.{number, column_of, columns_of}
 
 -- ---- the first field

@@ -60,6 +60,8 @@ pub(crate) fn agree_sets(
     requires { All (λ pair. spec.names_rows (rows_in snapshot.now) pair ≡ true) pairs.now }
     ensures { IfOk result (λ sets. sets.items ≡ agree_sets_of (rows_in snapshot.now) pairs.now) }
 {
+    // `columns` is called for its clause that each live row has its codes.
+    let _bounds = snapshot.columns();
     let mut sets = Vec::with_capacity(alloc, pairs.len())?;
     for pair in pairs {
         let (first, second) = (RowNo::of(pair.first), RowNo::of(pair.second));

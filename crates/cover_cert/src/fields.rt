@@ -1,5 +1,5 @@
 // Numbers and columns in the fields of a certificate.
-ghost use Rattle.std.specs.Prelude.{if◌then◌else◌, ◌≡◌, ◌<◌, ◌≤◌, ◌==◌, ◌+◌, ◌∷◌, [], length, take, drop, IfSome};
+ghost use Rattle.std.specs.Prelude.{◌≡◌, ◌<◌, ◌≤◌, ◌∷◌, length, take, drop, Some, IfSome};
 ghost use Rattle.cover_cert.specs.Fields as spec;
 
 use col_set::{ColSet, MOST_COLUMNS};
@@ -68,7 +68,7 @@ pub(crate) fn column_of(word: &[u8]) -> Option<u8>
 // How many bytes stand before the first space.
 fn end_of_word(bytes: &[u8]) -> usize
     ensures bound { result ≤ length bytes.now }
-    ensures words { spec.words bytes.now ≡ take result bytes.now ∷ (if result == length bytes.now then [] else spec.words (drop (result + 1) bytes.now)) }
+    ensures words { spec.words bytes.now ≡ take result bytes.now ∷ spec.words_after (drop result bytes.now) }
 {
     for place in 0..bytes.len() {
         if bytes[place] == b' ' {
@@ -89,16 +89,19 @@ pub(crate) fn columns_of(field: &[u8]) -> Option<ColSet>
     let mut rest = field;
     let mut least = 0;
     'words: loop {
-        let end = end_of_word(rest);
-        let column = column_of(&rest[..end])?;
+        let (word, behind) = rest.split_at(end_of_word(rest));
+        let Some(column) = column_of(word) else {
+            return None;
+        };
         if column < least {
             return None;
         }
         columns = columns.with(column);
-        if end == rest.len() {
+        if behind.is_empty() {
             return Some(columns);
         }
+        let (_, others) = behind.split_at(1);
         least = column + 1;
-        rest = &rest[end + 1..];
+        rest = others;
     }
 }

@@ -7,7 +7,7 @@ ghost use Rattle.rel_base.specs.Shows.{holds_in};
 ghost use Rattle.stripped_partition.specs.AnyOrder.{AreGroupsBy, AreGroupsOf};
 ghost use Rattle.cover_cert.specs.Certificates.{rows_in, fails};
 ghost use Rattle.cover_cert.specs.Comparing.{first_where};
-ghost use Rattle.cover_cert.specs.Holding.{IsWithin, AreVisits, IsLeastFailing};
+ghost use Rattle.cover_cert.specs.Holding.{IsWithin, AreVisits, HoldsAt, FailsAt, IsLeastFailing};
 
 use crate::line::Claim;
 use rel_base::{ColSet, MOST_COLUMNS, Snapshot, Target};
@@ -103,6 +103,32 @@ fn holds(path: &mut Path, snapshot: &Snapshot, claim: Claim) -> Result<bool, All
     Ok(determine(groups, snapshot, claim.target))
 }
 
+// The least place that fails once a further one is visited. A place that is not before the least so far is not looked at.
+fn least_with(
+    path: &mut Path,
+    snapshot: &Snapshot,
+    claims: &[Claim],
+    least: usize,
+    place: usize,
+) -> Result<usize, AllocError>
+    requires path { path.old.table ≡ snapshot.now }
+    requires within { All (IsWithin (length snapshot.now.codes)) claims.now }
+    requires bound { least ≤ length claims.now }
+    ensures path { path.new.table ≡ snapshot.now }
+    ensures less { IfOk result (λ next. next ≤ least) }
+    ensures fails { IfOk result (λ next. FailsAt snapshot.now claims.now least → FailsAt snapshot.now claims.now next) }
+    ensures held { IfOk result (λ next. place < next → HoldsAt snapshot.now claims.now place) }
+{
+    if place >= least {
+        return Ok(least);
+    }
+    let held = holds(path, snapshot, claims[place])?;
+    if held {
+        return Ok(least);
+    }
+    Ok(place)
+}
+
 // The place of the first claim that fails, or how many there are. Once one fails, only those before it are looked at.
 fn least_failing(
     alloc: Global,
@@ -118,10 +144,8 @@ fn least_failing(
     let mut path = Path::new(alloc, snapshot, order)?;
     let mut least = claims.len();
     for visit in visits {
-        let place = visit.1;
-        if place < least && !holds(&mut path, snapshot, claims[place])? {
-            least = place;
-        }
+        let next = least_with(&mut path, snapshot, claims, least, visit.1)?;
+        least = next;
     }
     Ok(least)
 }

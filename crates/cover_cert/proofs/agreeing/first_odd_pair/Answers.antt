@@ -1,15 +1,12 @@
-use Rattle.std.proofs.Common.{ap, sym, ◌∙◌, not, arith}
-use Rattle.std.proofs.lemmas.List.{get_or_read}
-use Rattle.cover_cert.specs.declared.line.RowPair.{RowPair}
-use Rattle.cover_cert.specs.Certificates.{rows_in, names_rows}
-use Rattle.cover_cert.proofs.Firsts.{first_where-at, first_where-none}
+use Rattle.std.proofs.Common.{sym, ◌∙◌}
+use Rattle.cover_cert.proofs.Pairs.{odd-at, odd-none, all-more}
 use Rattle.cover_cert.proofs.agreeing.first_odd_pair.Goals as goal
 
 pub returns-then-not-names_rows : goal.returns-then-not-names_rows
-returns-then-not-names_rows c = ?
+returns-then-not-names_rows c = odd-at c.args.snapshot.now c.args.pairs.now c.loop-place.place _ c.loop-place-test.true (sym c.names_rows.ensures ∙ c.if-not-names_rows.true) c.loop-place.invariant
 
 pub returns : goal.returns
-returns c = ?
+returns c = odd-none c.args.snapshot.now c.args.pairs.now c.loop-place.place c.loop-place-test.false c.loop-place.invariant
 
 pub loop-place-preserved : goal.loop-place-preserved
-loop-place-preserved c = ?
+loop-place-preserved c = all-more c.args.snapshot.now c.args.pairs.now c.loop-place.place _ c.loop-place-test.true (sym c.names_rows.ensures ∙ c.if-not-names_rows.false) c.loop-place.invariant

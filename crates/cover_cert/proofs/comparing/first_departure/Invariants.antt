@@ -1,6 +1,4 @@
-use Rattle.std.proofs.Common.{◌≡◌, ◌≤◌, ◌++◌, ℕ, List, length}
-use Rattle.std.specs.List.{flat_map}
-use Rattle.col_set.specs.ColSet.{upto}
+use Rattle.std.proofs.Common.{◌≡◌, ◌≤◌, ◌++◌, List, length}
 use Rattle.cover_cert.specs.declared.line.Claim.{Claim}
 use Rattle.cover_cert.specs.Comparing.{departs_at, departs_then}
 use Rattle.cover_cert.proofs.Gathered.{gathered}

@@ -1,4 +1,3 @@
-use Rattle.std.proofs.Common.{◌≡◌, ◌≤◌, length}
 use Rattle.cover_cert.specs.Holding.{AreVisits}
 use Rattle.cover_cert.proofs.holding.ranked.Given as goal
 
