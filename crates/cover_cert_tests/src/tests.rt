@@ -34,8 +34,7 @@ fn says(
     Ok(answer == wanted)
 }
 
-const WHOLE: &[u8] =
-    b"cert,3,3\npair,1,2\npair,1,3\nkey,1\nfd,1,2\nfd,3,2\nfd,1,3\nfd,2,3\nend\n";
+const WHOLE: &[u8] = b"cert,3,3\npair,1,2\npair,1,3\nkey,1\nfd,1,2\nfd,3,2\nfd,1,3\nfd,2,3\nend\n";
 
 #[test]
 fn the_worked_certificate_is_one(rt: HostRuntime) -> Result<(), Fail> {
@@ -73,7 +72,14 @@ fn a_row_that_is_not_there(rt: HostRuntime) -> Result<(), Fail> {
 fn another_size(rt: HostRuntime) -> Result<(), Fail> {
     let alloc = rt.alloc();
     let rows = cities(alloc, &rt)?;
-    assert!(rt; says(alloc, &rows, b"cert,3,2\npair,1,4\nend\n", no(1, Flaw::Shape))?);
+    assert!(rt;
+        says(
+            alloc,
+            &rows,
+            b"cert,3,2\npair,1,4\nend\n",
+            no(1, Flaw::Shape)
+        )?
+    );
     assert!(rt; says(alloc, &rows, b"cert,2,3\nend\n", no(1, Flaw::Shape))?);
     Ok(())
 }
@@ -91,7 +97,8 @@ fn without_an_end(rt: HostRuntime) -> Result<(), Fail> {
 fn a_pair_may_stand_twice(rt: HostRuntime) -> Result<(), Fail> {
     let alloc = rt.alloc();
     let rows = cities(alloc, &rt)?;
-    let text = b"cert,3,3\npair,1,2\npair,2,3\npair,1,2\nkey,1\nfd,1,2\nfd,3,2\nfd,1,3\nfd,2,3\nend\n";
+    let text =
+        b"cert,3,3\npair,1,2\npair,2,3\npair,1,2\nkey,1\nfd,1,2\nfd,3,2\nfd,1,3\nfd,2,3\nend\n";
     assert!(rt; says(alloc, &rows, text, Answer::Yes)?);
     Ok(())
 }
@@ -102,11 +109,13 @@ fn the_lines_are_one_sequence(rt: HostRuntime) -> Result<(), Fail> {
     let rows = cities(alloc, &rt)?;
     let swapped = b"cert,3,3\npair,1,2\npair,1,3\nkey,1\nfd,3,2\nfd,1,2\nfd,1,3\nfd,2,3\nend\n";
     assert!(rt; says(alloc, &rows, swapped, no(5, Flaw::Least))?);
-    let doubled = b"cert,3,3\npair,1,2\npair,1,3\nkey,1\nfd,1,2\nfd,1,2\nfd,3,2\nfd,1,3\nfd,2,3\nend\n";
+    let doubled =
+        b"cert,3,3\npair,1,2\npair,1,3\nkey,1\nfd,1,2\nfd,1,2\nfd,3,2\nfd,1,3\nfd,2,3\nend\n";
     assert!(rt; says(alloc, &rows, doubled, no(6, Flaw::Least))?);
     let short = b"cert,3,3\npair,1,2\npair,1,3\nkey,1\nfd,1,2\nfd,3,2\nfd,1,3\nend\n";
     assert!(rt; says(alloc, &rows, short, no(8, Flaw::Least))?);
-    let long = b"cert,3,3\npair,1,2\npair,1,3\nkey,1\nfd,1,2\nfd,3,2\nfd,1,3\nfd,2,3\nfd,2,3\nend\n";
+    let long =
+        b"cert,3,3\npair,1,2\npair,1,3\nkey,1\nfd,1,2\nfd,3,2\nfd,1,3\nfd,2,3\nfd,2,3\nend\n";
     assert!(rt; says(alloc, &rows, long, no(9, Flaw::Least))?);
     Ok(())
 }

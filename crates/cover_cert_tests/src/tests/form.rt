@@ -6,12 +6,7 @@ use std::alloc::{AllocError, Global};
 use std::test::Fail;
 
 // Whether the first record out of form is this one.
-fn out_at(
-    alloc: Global,
-    rows: &Snapshot,
-    text: &[u8],
-    record: u64,
-) -> Result<bool, AllocError> {
+fn out_at(alloc: Global, rows: &Snapshot, text: &[u8], record: u64) -> Result<bool, AllocError> {
     says(alloc, rows, text, no(record, Flaw::Form))
 }
 
@@ -90,9 +85,11 @@ fn records_have_their_fields(rt: HostRuntime) -> Result<(), Fail> {
 fn bytes_are_read_as_a_file_is(rt: HostRuntime) -> Result<(), Fail> {
     let alloc = rt.alloc();
     let rows = cities(alloc, &rt)?;
-    let returns = b"cert,3,3\r\npair,1,2\r\npair,1,3\r\nkey,1\r\nfd,1,2\r\nfd,3,2\r\nfd,1,3\r\nfd,2,3\r\nend\r\n";
+    let returns =
+        b"cert,3,3\r\npair,1,2\r\npair,1,3\r\nkey,1\r\nfd,1,2\r\nfd,3,2\r\nfd,1,3\r\nfd,2,3\r\nend\r\n";
     assert!(rt; says(alloc, &rows, returns, Answer::Yes)?);
-    let marked = b"\xef\xbb\xbf\"cert\",3,\"3\"\npair,1,2\n\n\npair,1,3\nkey,\"1\"\nfd,1,2\nfd,3,2\nfd,1,3\nfd,2,3\n\"end\"";
+    let marked =
+        b"\xef\xbb\xbf\"cert\",3,\"3\"\npair,1,2\n\n\npair,1,3\nkey,\"1\"\nfd,1,2\nfd,3,2\nfd,1,3\nfd,2,3\n\"end\"";
     assert!(rt; says(alloc, &rows, marked, Answer::Yes)?);
     Ok(())
 }

@@ -60,7 +60,14 @@ fn no_rows_and_one_column(rt: HostRuntime) -> Result<(), Fail> {
     let rows = no_rows(alloc, &rt)?;
     let right = b"cert,1,0\nkey,\nfd,,1\nend\n";
     assert!(rt; says(alloc, &rows, right, Answer::Yes)?);
-    assert!(rt; says(alloc, &rows, b"cert,1,0\npair,1,2\nend\n", no(2, Flaw::Pair))?);
+    assert!(rt;
+        says(
+            alloc,
+            &rows,
+            b"cert,1,0\npair,1,2\nend\n",
+            no(2, Flaw::Pair)
+        )?
+    );
     assert!(rt; says(alloc, &rows, b"cert,1,0\nkey,\nend\n", no(3, Flaw::Least))?);
     Ok(())
 }
