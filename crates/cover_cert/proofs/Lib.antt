@@ -1,0 +1,12 @@
+pub mod Words
+pub mod Agreed
+pub mod Firsts
+pub mod Held
+pub mod Forms
+pub mod Judged
+pub mod Gathered
+pub mod Cells
+pub mod Certified
+pub mod Past
+pub mod Pairs
+pub mod Visits
