@@ -9,7 +9,7 @@ use Rattle.cover_cert.specs.declared.answer.Answer.TheVariants.{Yes, No}
 -- the words of an answer: a flaw has the record that it stands at, and its number
 abbrev pub answer_words : Answer → List ℕ
 answer_words Yes = codes "yes"
-answer_words (No record flaw) = codes "no," ++ decimal record ++ codes "," ++ decimal (code_of flaw)
+answer_words (No number flaw) = codes "no," ++ decimal number ++ codes "," ++ decimal (code_of flaw)
 
 -- one line, ended by a line feed
 abbrev pub answer_line : Answer → List ℕ
