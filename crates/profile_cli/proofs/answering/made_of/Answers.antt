@@ -120,7 +120,10 @@ returns-in-Check g c =
     let from : Sources = record { relations = rs; texts = c.args.found.texts.items; input = c.args.input.now } in
     let one : length rs ≡ 1 = c.requires.relations ∙ ap (λ (r : Request). length (relation_names (task_of r).reads)) c.in-Check.is in
     let first : c.swap_remove-relation-in-Check.result ≡ get_or rs 0 (content_of []) = at_place rs 0 c.swap_remove-relation-in-Check.result (content_of []) (omega arith) c.swap_remove-relation-in-Check.ensures.value in
+    let texts : List (List ℕ) = c.args.found.texts.items in
+    let one_text : length texts ≡ 1 = c.requires.texts ∙ ap (λ (r : Request). length (text_names (task_of r).reads)) c.in-Check.is in
+    let second : c.bytes.result.now ≡ get_or texts 0 [] = c.bytes.ensures ∙ at_place texts 0 c.index.result.now [] (omega arith) c.index.ensures in
     IfOk-map c.checked_of.result
     (λ made e. subst (λ (r : Request). (task_of r).writes limits from made) (sym c.in-Check.is)
-    (e ∙ ap₂ (λ (r : Content) (bytes : List ℕ). text_alone (check_text (opened Equal limits.rows r) bytes)) first ?))
+    (e ∙ ap₂ (λ (r : Content) (bytes : List ℕ). text_alone (check_text (opened Equal limits.rows r) bytes)) first second))
     c.checked_of.ensures
