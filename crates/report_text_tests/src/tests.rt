@@ -134,16 +134,13 @@ fn keys_and_dependencies_stand_between_quoted_lines(rt: HostRuntime) -> Result<(
     Ok(())
 }
 
-// Lists of dependencies, of which a right side may be any number of its type.
+// A dependency whose right side is beyond the columns: no covers have one, but a line takes any number of its type.
 fn check_far_right_side(rt: &impl Abort, alloc: Global) -> Result<(), AllocError> {
     let left = one(8).with(9).with(98).with(99).with(127);
-    let fds = Vec::from_slice(alloc, &[Fd { left, right: 255 }])?;
-    let names = Row::copied(alloc, &[b"a"])?;
-    let file = name(alloc, "f")?;
     let mut lines = Lines::new(alloc);
-    lines.push_report(&file, &names, 0, &covers(rt, Vec::new(alloc), fds))?;
+    lines.push_approx_line(&Fd { left, right: 255 }, 7)?;
     let text = lines.into_text()?;
-    expect_end(rt, text.as_slice(), b"column,1,a\nfd,9 10 99 100 128,256\n");
+    expect_text(rt, &text, "afd,9 10 99 100 128,256,7\n");
     Ok(())
 }
 
