@@ -1,5 +1,5 @@
 // Approximate dependencies by their definition: all lists that leave out some live rows are tried, and all column sets.
-ghost use Rattle.std.specs.Prelude.{◌≡◌, ◌<◌, ◌≤◌, nat_le, not, ◌||◌, ◌&&◌, [], IfOk, length};
+ghost use Rattle.std.specs.Prelude.{◌≡◌, ◌<◌, ◌≤◌, ◌^◌, nat_le, not, ◌||◌, ◌&&◌, [], IfOk, length};
 ghost use Rattle.std.specs.List.{All, list_all};
 ghost use Rattle.col_set.specs.ColSet.{subset};
 ghost use Rattle.col_set.specs.Minimal.{proper_subset};
@@ -168,6 +168,14 @@ fn is_enough(
     Ok(count <= most)
 }
 
+// How many sets of so many columns there are.
+fn number_of_sets(columns: u8) -> u32
+    requires { columns ≤ 8 }
+    ensures { result ≡ 2 ^ columns }
+{
+    1 << columns
+}
+
 /// Whether the columns are one of the minimal left sides of the target for which at most so many rows are to be removed. It tries all
 /// sets of columns.
 pub fn is_minimal(
@@ -188,7 +196,7 @@ pub fn is_minimal(
     if count > most {
         return Ok(false);
     }
-    for bits in 0..1u32 << snapshot.columns() {
+    for bits in 0..number_of_sets(snapshot.columns()) {
         let part = ColSet::of_bits(u128::from(bits));
         let is_smaller = is_enough(alloc, snapshot, part, columns, target, most)?;
         if is_smaller {

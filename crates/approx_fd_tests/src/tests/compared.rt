@@ -10,6 +10,7 @@ use rel_base::{ColSet, Snapshot, Target};
 use std::alloc::{AllocError, Global};
 use std::process::Abort;
 use std::test::Fail;
+use std::thread::Threads;
 
 // A left side with how many rows are to be removed.
 type Counted = (ColSet, u32);
@@ -25,21 +26,16 @@ fn are_as_defined(
     requires target { IsColumnTarget MOST_COLUMNS target }
     requires few { length snapshot.now.codes ≤ 8 }
 {
-    if !found.is_sorted() {
-        return Ok(false);
-    }
-    let mut count = 0;
+    let mut wanted = Vec::new(alloc);
     for bits in 0..1u32 << snapshot.columns() {
         let left = ColSet::of_bits(u128::from(bits));
         if plain::is_minimal(alloc, snapshot, left, target, most as usize)? {
             let removed = plain::removed(alloc, snapshot, left, target)?;
-            if !found.contains(&(left, u32::try_from(removed).unwrap_or(u32::MAX))) {
-                return Ok(false);
-            }
-            count += 1;
+            wanted.push((left, u32::try_from(removed).unwrap_or(u32::MAX)))?;
         }
     }
-    Ok(found.len() == count)
+    wanted.sort_unstable();
+    Ok(wanted.as_slice() == found)
 }
 
 // The left sides of a column.
@@ -84,7 +80,7 @@ fn relation(
 ) -> Result<Snapshot, AllocError> {
     let mut codes = Vec::new(alloc);
     for _ in 0..4 {
-        let values = draw.below(5) + 1;
+        let values = draw.below(6);
         codes.push(draw.codes(alloc, rows, values)?)?;
     }
     let mut live = Vec::new(alloc);
@@ -95,9 +91,9 @@ fn relation(
 }
 
 // Whether the answers on a relation, by one thread and by four, are the definition's.
-fn agree(
+fn agree<R: Threads + Sync + Abort>(
     alloc: Global,
-    rt: &HostRuntime,
+    rt: &R,
     snapshot: &Snapshot,
     most: u32,
 ) -> Result<bool, AllocError> {

@@ -1,5 +1,5 @@
 use Rattle.std.proofs.Common.{◌∙◌, ◌<◌, ℕ, sym}
-use Rattle.approx_fd_tests.proofs.Plain.{none-left, determined-more, determined-not, determined-end, first-of, rest-of}
+use Rattle.approx_fd_tests.proofs.PlainSteps.{none-left, determined-more, determined-not, determined-end, first-of, rest-of}
 use Rattle.approx_fd_tests.proofs.plain.determine.Goals as goal
 
 pub go_with-requires-clause-row : goal.go_with-requires-clause-row

@@ -1,5 +1,5 @@
 use Rattle.std.proofs.Common.{◌∙◌, ◌<◌, ℕ, sym}
-use Rattle.approx_fd_tests.proofs.Plain.{none-left, goes, all-more, all-not, all-none, first-of, rest-of}
+use Rattle.approx_fd_tests.proofs.PlainSteps.{none-left, goes, all-more, all-not, all-none, first-of, rest-of}
 use Rattle.approx_fd_tests.proofs.plain.go_with.Goals as goal
 
 pub goes_with-requires-clause-other : goal.goes_with-requires-clause-other

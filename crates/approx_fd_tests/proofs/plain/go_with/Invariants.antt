@@ -1,6 +1,6 @@
 use Rattle.std.proofs.Common.{◌≡◌, ◌<◌, length}
 use Rattle.std.specs.List.{All, list_all}
-use Rattle.approx_fd_tests.proofs.Plain.{goes}
+use Rattle.approx_fd_tests.proofs.PlainSteps.{goes}
 use Rattle.approx_fd_tests.proofs.plain.go_with.Given as goal
 
 abbrev pub invariant-loop-other : goal.invariant-loop-other

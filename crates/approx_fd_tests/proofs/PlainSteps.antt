@@ -1,8 +1,8 @@
 -- The plain program's steps.
-use Rattle.std.proofs.Common.{inl, inr, ◌≡◌, ◌⊎◌, ℕ, ◌+◌, ◌-◌, ◌<◌, ◌≤◌, ◌^◌, Bool, true, false, cond, not, ◌||◌, ◌&&◌, eqb, leb, max, refl, sym, ap, ap₂, ◌∙◌, subst, arith, List, [], ◌∷◌, ◌++◌, length, map, append_assoc, append-nil}
+use Rattle.std.proofs.Common.{inl, inr, ◌≡◌, ◌⊎◌, ℕ, ◌+◌, ◌-◌, ◌<◌, ◌≤◌, ◌^◌, Bool, true, false, cond, not, ◌||◌, ◌&&◌, eqb, leb, max, refl, sym, ap, ap₂, ◌∙◌, subst, arith, List, [], ◌∷◌, ◌++◌, length, map, append_assoc, append-nil, le_antisymm}
 use Rattle.std.specs.List.{All, filter, list_all, range_with_len}
 use Rattle.std.proofs.lemmas.Bool.{and_parts, and_from, true≢false, not_from_false, false_from_ne_true, leb-true, le-leb, cases_lt}
-use Rattle.std.proofs.lemmas.List.Elements.{filter-append}
+use Rattle.std.proofs.lemmas.List.Elements.{filter-append, All-append, All-cons, All-nil}
 use Rattle.plain_base.proofs.Folds.{range_more}
 use Rattle.col_set.specs.declared.target.Target.{Target}
 use Rattle.col_set.specs.ColSet.{subset, all_sets}
@@ -15,6 +15,7 @@ use Rattle.rel_base.specs.Shows.{code_agree, code_sets, live_numbers}
 use Rattle.rel_base.specs.Validity.{determined, pairs}
 use Rattle.rel_base.proofs.States.{All-listed, All-from}
 use Rattle.stripped_partition.specs.Removed.{greatest}
+use Rattle.stripped_partition.proofs.Live.{live_within}
 use Rattle.approx_fd.specs.Removal.{sublists, least_removed, removed_in}
 use Rattle.approx_fd.specs.Approximate.{min_nearly}
 use Rattle.approx_fd_tests.specs.Plain.{most_of}
@@ -41,6 +42,9 @@ first-of P x xs whole e a = All-listed P x whole a (subst (Listed x) (sym e) (in
 
 pub rest-of : (P : ℕ → Type 0) (x : ℕ) (xs whole : List ℕ) → whole ≡ x ∷ xs → All P whole → All P xs
 rest-of P x xs whole e a = All-from P xs (λ y h. All-listed P y whole a (subst (Listed y) (sym e) (inr h)))
+
+pub shorter : (x : ℕ) (xs whole : List ℕ) → whole ≡ x ∷ xs → length xs < length whole
+shorter x xs whole e = let l : length whole ≡ length (x ∷ xs) = ap length e in omega (arith, l)
 
 pub none-left : (xs : List ℕ) → length xs ≡ 0 → xs ≡ []
 none-left [] e = refl
@@ -135,13 +139,24 @@ module _ (passes : List ℕ → Bool) where
   unfolding least_removed G
   least-removed rows = ap (λ n. length rows - n) (most-of [] rows ∙ ap G (same (sublists rows)))
 
-  pub most_of-none : (kept : List ℕ) → most_of passes kept [] ≡ cond (passes kept) (length kept) 0
+  none-more : (kept : List ℕ) → most_of passes kept [] ≡ cond (passes kept) (length kept) 0
   unfolding most_of
-  most_of-none kept = refl
+  none-more kept = refl
 
-  pub most_of-cons : (kept : List ℕ) (row : ℕ) (rows : List ℕ) → most_of passes kept (row ∷ rows) ≡ max (most_of passes (kept ++ row ∷ []) rows) (most_of passes kept rows)
+  one-more : (kept : List ℕ) (row : ℕ) (rows : List ℕ) → most_of passes kept (row ∷ rows) ≡ max (most_of passes (kept ++ row ∷ []) rows) (most_of passes kept rows)
   unfolding most_of
-  most_of-cons kept row rows = refl
+  one-more kept row rows = refl
+
+  pub kept-all : (kept rest : List ℕ) → rest ≡ [] → passes kept ≡ true → length kept ≡ most_of passes kept rest
+  kept-all kept rest e t = sym (ap (most_of passes kept) e ∙ none-more kept ∙ ap (λ b. cond b (length kept) 0) t)
+
+  pub kept-none : (kept rest : List ℕ) → rest ≡ [] → passes kept ≡ false → 0 ≡ most_of passes kept rest
+  kept-none kept rest e t = sym (ap (most_of passes kept) e ∙ none-more kept ∙ ap (λ b. cond b (length kept) 0) t)
+
+  pub kept-either : (kept longer others rest : List ℕ) (row with without most : ℕ) → rest ≡ row ∷ others → longer ≡ kept ++ row ∷ [] → with ≡ most_of passes longer others → without ≡ most_of passes kept others
+      → most ≡ max with without → most ≡ most_of passes kept rest
+  kept-either kept longer others rest row with without most e m a b h =
+      h ∙ ap₂ max (a ∙ ap (λ (k : List ℕ). most_of passes k others) m) b ∙ sym (one-more kept row others) ∙ sym (ap (most_of passes kept) e)
 
 pub removed-least : (s : CodeTable) (x : ℕ) (t : Target) (live : List ℕ) (most : ℕ) → live ≡ live_numbers s → most ≡ most_of (λ rows. determined (code_sets s rows) x t) [] live → length live - most ≡ removed_in s x t
 unfolding removed_in
@@ -149,12 +164,25 @@ removed-least s x t live most e m =
     ap (λ n. length live - n) m ∙ least-removed (λ rows. determined (code_sets s rows) x t) live ∙ ap (least_removed (λ rows. determined (code_sets s rows) x t)) e
 
 -- ---- live rows
+pub live-given : (s : CodeTable) (rows : List ℕ) → rows ≡ live_numbers s → All (λ row. row < s.to) rows
+live-given s rows e = All-from (λ (row : ℕ). row < s.to) rows (λ i h. (live_within s i (subst (Listed i) e h)).1)
+
+pub none-given : (s : CodeTable) (rows : List ℕ) → rows ≡ [] → All (λ row. row < s.to) rows
+none-given s rows e = subst (All (λ row. row < s.to)) (sym e) (λ k d l. absurd (omega (arith, l)))
+
+pub more-given : (s : CodeTable) (kept more : List ℕ) (row : ℕ) → All (λ row. row < s.to) kept → row < s.to → more ≡ kept ++ row ∷ [] → All (λ row. row < s.to) more
+more-given s kept more row a l e = subst (All (λ row. row < s.to)) (sym e) (All-append (λ (row : ℕ). row < s.to) kept (row ∷ []) a (All-cons (λ (row : ℕ). row < s.to) row [] l (All-nil (λ (row : ℕ). row < s.to))))
+
 module _ (s : CodeTable) where
   filtered-more : (n : ℕ) → filter (live_at s) (range_with_len 1 (n + 1)) ≡ filter (live_at s) (range_with_len 1 n) ++ filter (live_at s) ((n + 1) ∷ [])
   filtered-more n = ap (filter (live_at s)) (range_more n 1 ∙ ap (λ (i : ℕ). range_with_len 1 n ++ i ∷ []) (let e : 1 + n ≡ n + 1 = omega arith in e)) ∙ filter-append (live_at s) (range_with_len 1 n) ((n + 1) ∷ [])
 
   alone : (row : ℕ) (b : Bool) → live_at s row ≡ b → filter (live_at s) (row ∷ []) ≡ cond b (row ∷ []) []
   alone row b e = ap (λ c. cond c (row ∷ []) []) e
+
+  pub live-end : (rows : List ℕ) (place last : ℕ) → rows ≡ filter (live_at s) (range_with_len 1 place) → place ≤ last - 1 → last - 1 ≤ place → last ≡ s.to → rows ≡ live_numbers s
+  unfolding live_numbers
+  live-end rows place last e l m t = e ∙ ap (λ (k : ℕ). filter (live_at s) (range_with_len 1 k)) (le_antisymm l m ∙ ap (λ (k : ℕ). k - 1) t)
 
   pub live-more : (n : ℕ) (rows more : List ℕ) → rows ≡ filter (live_at s) (range_with_len 1 n) → live_at s (n + 1) ≡ true → more ≡ rows ++ (n + 1) ∷ [] → more ≡ filter (live_at s) (range_with_len 1 (n + 1))
   live-more n rows more e l m = m ∙ ap₂ (λ (xs ys : List ℕ). xs ++ ys) e (sym (alone (n + 1) true l)) ∙ sym (filtered-more n)
@@ -169,6 +197,12 @@ below-more f b all here y l = at (cases_lt y b)
     at : (y < b) ⊎ (b ≤ y) → f y ≡ false
     at (inl m) = all y m
     at (inr m) = let e : y ≡ b = omega arith in ap f e ∙ here
+
+pub below-end : (y bits end m n : ℕ) → y ≡ bits → bits < end → end ≡ 2 ^ m → m ≡ n → y < 2 ^ n
+below-end y bits end m n a l e f = let g : end ≡ 2 ^ n = e ∙ ap (λ (k : ℕ). 2 ^ k) f in omega (arith, a, l, g)
+
+pub end-below : (bits end m n : ℕ) → end ≤ bits → end ≡ 2 ^ m → m ≡ n → 2 ^ n ≤ bits
+end-below bits end m n l e f = let g : end ≡ 2 ^ n = e ∙ ap (λ (k : ℕ). 2 ^ k) f in omega (arith, l, g)
 
 above-false : (k most : ℕ) → most < k → leb k most ≡ false
 above-false k most l = false_from_ne_true _ (λ e. let m = leb-true k most e in absurd (omega arith))
