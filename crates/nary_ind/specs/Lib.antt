@@ -1,0 +1,2 @@
+pub mod ListInclusions
+pub mod Laws
