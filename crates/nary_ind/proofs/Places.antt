@@ -82,7 +82,7 @@ module _ (rs : List RowState) (d i : Side) where
       (λ x. without-map (cell x) d.columns k) (λ y. without-map (cell y) i.columns k) (λ t _ n. all-without (λ a. same_cell a []) t k n) w.1)
 
 -- ---- one place alone
-differ-at : (cs ds : List ℕ) (k : ℕ) → k < length cs → k < length ds → differ_by_place cs ds ≡ true → not (eqb (get_or cs k 0) (get_or ds k 0)) ≡ true
+pub differ-at : (cs ds : List ℕ) (k : ℕ) → k < length cs → k < length ds → differ_by_place cs ds ≡ true → not (eqb (get_or cs k 0) (get_or ds k 0)) ≡ true
 differ-at [] ds k l m e = absurd (omega arith)
 differ-at (c ∷ cs) [] k l m e = absurd (omega arith)
 differ-at (c ∷ cs) (d ∷ ds) zero l m e = (and_parts (not (eqb c d)) _ e).0

@@ -1,11 +1,16 @@
 -- Laws of inclusions of lists.
-use Rattle.std.specs.Prelude.{◌≡◌, ◌<◌, ◌+◌, ◌↔◌, ℕ, zero, suc, Bool, true, List, [], ◌∷◌, length, map, slice_index_or}
+use Rattle.std.specs.Prelude.{◌≡◌, ◌<◌, ◌≤◌, ◌+◌, ◌↔◌, ℕ, zero, suc, Bool, true, List, [], ◌∷◌, length, map, slice_index_or}
+use Rattle.std.specs.List.{AllPairs, Contains}
+use Rattle.std.specs.declared.cmp.Ordering.{Ordering}
+use Rattle.std.specs.declared.cmp.Ordering.TheVariants.{Less}
+use Rattle.std.specs.Ordering.{nat_cmp, on, ordering_then, then_cmp}
+use Rattle.std.specs.Cmp.Lexicographic.{slice_cmp}
 use Rattle.rel_base.specs.RowState.{RowState, width}
 use Rattle.rel_base.specs.Inclusion.{all_columns, included}
 use Rattle.rel_base.specs.Cells.{Row, Cell}
 use Rattle.nary_ind.specs.declared.found.ListInd.{ListInd}
 use Rattle.nary_ind.specs.declared.found.Side.{Side}
-use Rattle.nary_ind.specs.ListInclusions.{from_to, width_at, is_list_inclusion, tuples_at, are_among, is_null}
+use Rattle.nary_ind.specs.ListInclusions.{IsListInclusion, are_among, from_to, is_list_inclusion, is_null, list_inclusions, tuples_at, width_at}
 
 -- ---- width 1
 -- where the columns of the relation at a place begin among the columns of all, by the relations' widths
@@ -50,3 +55,18 @@ abbrev pub CodesTellInclusions : Type 0
 CodesTellInclusions = (rs : List RowState) (d i : Side) (n : ℕ) (code : Row → Cell) → length d.columns ≡ n → length i.columns ≡ n → IsTupleCode n code
     → included (map code (tuples_at rs d.rel d.columns) ∷ map code (tuples_at rs i.rel i.columns) ∷ []) 0 1
     ≡ are_among (tuples_at rs d.rel d.columns) (tuples_at rs i.rel i.columns)
+
+-- ---- what is listed
+-- the order of inclusions of lists: by width, dependent relation, dependent list, referenced relation and referenced list, lists compared from the left
+abbrev pub side_cmp : Side → Side → Ordering
+side_cmp = then_cmp (on (λ s. s.rel) nat_cmp) (on (λ s. s.columns) (slice_cmp nat_cmp))
+
+abbrev pub ind_cmp : ListInd → ListInd → Ordering
+ind_cmp i j = ordering_then (nat_cmp (length i.dep_cols) (length j.dep_cols))
+    (ordering_then (side_cmp (record { rel = i.dep_rel; columns = i.dep_cols }) (record { rel = j.dep_rel; columns = j.dep_cols }))
+    (side_cmp (record { rel = i.into_rel; columns = i.into_cols }) (record { rel = j.into_rel; columns = j.into_cols })))
+
+-- The list has each inclusion of 1 up to w columns, once, in order, and nothing else.
+pub record InclusionsListed (w : ℕ) (rs : List RowState) : Type 0 where
+  pub each : (i : ListInd) → Contains (list_inclusions w rs) i ↔ ((0 < length i.dep_cols) × (length i.dep_cols ≤ w) × IsListInclusion rs i)
+  pub in_order : AllPairs (λ i j. ind_cmp i j ≡ Less) (list_inclusions w rs)

@@ -3,7 +3,16 @@
 
 mod column_list;
 mod found;
-mod laws;
+mod holding;
+mod keys;
+mod known;
+pub mod laws;
+mod level;
+mod numbering;
+mod search;
+mod table;
+mod unary;
 
 pub use column_list::{ColumnList, MOST_WIDTH};
 pub use found::ListInd;
+pub use search::included_lists;

@@ -1,4 +1,4 @@
-use Rattle.nary_ind.proofs.Unary.{width-one}
+use Rattle.nary_ind.proofs.OneColumn.{width-one}
 use Rattle.nary_ind.proofs.laws.width_one_is_unary.Goals as goal
 
 pub returns : goal.returns

@@ -23,10 +23,10 @@ start-apart (w ∷ ws) zero (suc q) c d l m i j e = absurd (omega arith)
 start-apart (w ∷ ws) (suc p) zero c d l m i j e = absurd (omega arith)
 start-apart (w ∷ ws) (suc p) (suc q) c d l m i j e = let r = start-apart ws p q c d (omega arith) (omega arith) i j (omega arith) in let f = r.0 in (omega arith, r.1)
 
-columns-long : (r : RowState) → length (map (column_cells r) (upto (width r))) ≡ width r
+pub columns-long : (r : RowState) → length (map (column_cells r) (upto (width r))) ≡ width r
 columns-long r = length-map-range_with_len (column_cells r) 0 (width r)
 
-get_or-range : {A : Type 0} (f : ℕ → A) (n a k : ℕ) (d : A) → k < n → get_or (map f (range_with_len a n)) k d ≡ f (a + k)
+pub get_or-range : {A : Type 0} (f : ℕ → A) (n a k : ℕ) (d : A) → k < n → get_or (map f (range_with_len a n)) k d ≡ f (a + k)
 get_or-range f zero a k d l = absurd (omega arith)
 get_or-range f (suc n) a zero d l = ap f (omega arith)
 get_or-range f (suc n) a (suc k) d l = get_or-range f n (a + 1) k d (omega arith) ∙ ap f (omega arith)
@@ -79,7 +79,7 @@ single-tuples : (c : ℕ) (rows : List Row) → map (tuple (c ∷ [])) rows ≡ 
 single-tuples c rows = sym (map-twice (λ (a : Cell). a ∷ []) (λ (x : Row). cell x c) rows)
 
 -- ---- the law
-width-at-length : (rs : List RowState) (p : ℕ) → p < length rs → p < length (map width rs)
+pub width-at-length : (rs : List RowState) (p : ℕ) → p < length rs → p < length (map width rs)
 width-at-length [] p l = absurd (omega arith)
 width-at-length (r ∷ rs) zero l = omega arith
 width-at-length (r ∷ rs) (suc p) l = let h = width-at-length rs p (omega arith) in omega arith
