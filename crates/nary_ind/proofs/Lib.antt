@@ -1,0 +1,13 @@
+pub mod Among
+pub mod Candidates
+pub mod Held
+pub mod Keying
+pub mod Levels
+pub mod Live
+pub mod Listing
+pub mod Lists
+pub mod Places
+pub mod Starts
+pub mod Widening
+pub mod Numbers
+pub mod OneColumn
