@@ -1,21 +1,21 @@
 -- What candidates leave to be checked, and which columns they need.
-use Rattle.std.proofs.Common.{inl, inr, ◌≡◌, ℕ, zero, suc, ◌+◌, ◌-◌, ◌<◌, Bool, true, false, ◌&&◌, ◌||◌, not, eqb, refl, sym, ap, ap₂, ◌∙◌, subst, arith, List, [], ◌∷◌, ◌++◌, length, map, get_or}
-use Rattle.std.specs.List.{filter, flat_map, list_any}
+use Rattle.std.proofs.Common.{inl, inr, ◌≡◌, ℕ, suc, ◌-◌, ◌<◌, true, ◌&&◌, ◌||◌, eqb, refl, sym, ap₂, ◌∙◌, subst, arith, List, [], ◌∷◌, length, map, get_or}
+use Rattle.std.specs.List.{flat_map}
 use Rattle.std.proofs.lemmas.Bool.{and_parts, and_from, or_left, or_right, eq-eqb}
 use Rattle.col_set.specs.ColSet.{upto}
 use Rattle.col_set.specs.AllSets.{Listed-upto}
 use Rattle.col_set.specs.Lists.{Listed, Listed-filter, Listed-map, Listed-flat_map, list_any_at}
 use Rattle.col_set.specs.Subsets.{same_test}
-use Rattle.col_set.proofs.Places.{Contains-listed, Listed-get_or}
+use Rattle.col_set.proofs.Places.{Listed-get_or}
 use Rattle.rel_base.specs.RowState.{RowState}
 use Rattle.rel_base.specs.Inclusion.{all_columns, included, inclusions}
 use Rattle.nary_ind.specs.declared.found.Side.{Side}
 use Rattle.nary_ind.specs.ListInclusions.{width_at, is_formed, holds_among, is_list_inclusion, from_to}
 use Rattle.nary_ind.specs.Laws.{position_of, is_unary}
-use Rattle.nary_ind.specs.Unary.{is_in, is_used}
+use Rattle.nary_ind.specs.Unary.{is_used}
 use Rattle.nary_ind.specs.Levels.{IsSide, is_candidate, last_column}
 use Rattle.nary_ind.specs.Tables.{AreUsed}
-use Rattle.nary_ind.proofs.Places.{at_place, one_place}
+use Rattle.nary_ind.proofs.Places.{one_place}
 use Rattle.nary_ind.proofs.OneColumn.{width-one, position-within}
 
 module _ (rs : List RowState) where

@@ -1,11 +1,8 @@
 -- Keys tell which lists are included.
-use Rattle.std.proofs.Common.{inl, inr, ◌≡◌, ◌≢◌, ◌⊎◌, ℕ, zero, suc, ◌+◌, ◌-◌, ◌<◌, ◌≤◌, Bool, true, false, not, cond, refl, sym, ap, ap₂, ◌∙◌, subst, arith, List, [], ◌∷◌, ◌++◌, length, map, replicate, get_or}
-use Rattle.std.specs.Prelude.{◌↔◌}
-use Rattle.std.specs.List.{list_all}
+use Rattle.std.proofs.Common.{inl, inr, ◌≡◌, ◌≢◌, ◌⊎◌, ℕ, zero, suc, ◌+◌, ◌-◌, ◌<◌, ◌≤◌, Bool, true, false, refl, sym, ap, ap₂, ◌∙◌, subst, arith, List, [], ◌∷◌, ◌++◌, length, map, replicate, get_or}
 use Rattle.std.proofs.lemmas.Bool.{and_parts, and_from}
-use Rattle.std.proofs.lemmas.List.{append_cancel_right, length-map}
+use Rattle.std.proofs.lemmas.List.{append_cancel_right}
 use Rattle.col_set.specs.Lists.{Listed, Listed-map, Listed-map_which}
-use Rattle.col_set.specs.Subsets.{same_test}
 use Rattle.col_set.proofs.Places.{Listed-get_or}
 use Rattle.rel_base.specs.Cells.{Cell, Row, cell}
 use Rattle.rel_base.specs.Agreement.{same_cell}
@@ -15,7 +12,7 @@ use Rattle.nary_ind.specs.declared.found.Side.{Side}
 use Rattle.nary_ind.specs.ListInclusions.{rows_at, width_at, tuple, tuples_at, is_null, holds_among, from_to}
 use Rattle.nary_ind.specs.Levels.{IsSide}
 use Rattle.nary_ind.specs.Unary.{is_used}
-use Rattle.nary_ind.specs.Tables.{AreTables, AreUsed, Coded, IsNumbered, cell_at, key_in, number_in, table_at}
+use Rattle.nary_ind.specs.Tables.{AreTables, AreUsed, Coded, key_in, number_in, table_at}
 use Rattle.nary_ind.specs.Keys.{AreKeyed, AreKeysIn, IsKeyOf, null_key}
 use Rattle.nary_ind.proofs.Among.{among-each, among-from}
 

@@ -1,19 +1,17 @@
 -- From the lists of one width to those of the next.
-use Rattle.std.proofs.Common.{inl, inr, ◌≡◌, ℕ, zero, suc, ◌+◌, ◌-◌, ◌<◌, Bool, true, false, ◌&&◌, ◌||◌, not, eqb, refl, sym, ap, ap₂, ◌∙◌, subst, arith, List, [], ◌∷◌, ◌++◌, length, map, get_or}
+use Rattle.std.proofs.Common.{inl, inr, ◌≡◌, ℕ, zero, suc, ◌<◌, Bool, true, false, not, eqb, refl, sym, ap, ap₂, ◌∙◌, subst, arith, List, [], ◌∷◌, ◌++◌, length, map}
 use Rattle.std.specs.List.{filter, flat_map, list_all}
-use Rattle.std.proofs.lemmas.Bool.{and_parts, and_from, or_right, eqb-true, not-true, ne_eqb, true≢false, false≢true}
-use Rattle.std.proofs.lemmas.List.{nil_from_length, length-map}
+use Rattle.std.proofs.lemmas.Bool.{and_from, or_right, eqb-true, ne_eqb, true≢false}
+use Rattle.std.proofs.lemmas.List.{nil_from_length}
 use Rattle.std.proofs.lemmas.List.Concat.{flat_map_single}
 use Rattle.std.proofs.lemmas.List.FromFn.{length-map-range_with_len}
 use Rattle.col_set.specs.ColSet.{upto}
-use Rattle.col_set.specs.AllSets.{Listed-upto, Listed-upto_within}
+use Rattle.col_set.specs.AllSets.{Listed-upto_within}
 use Rattle.col_set.specs.Lists.{Listed, Listed-filter_parts, Listed-map_which, Listed-flat_map_which}
-use Rattle.rel_base.specs.Cells.{Row}
 use Rattle.rel_base.specs.Agreement.{same_cell}
 use Rattle.rel_base.specs.RowState.{RowState}
-use Rattle.nary_ind.specs.declared.found.ListInd.{ListInd}
 use Rattle.nary_ind.specs.declared.found.Side.{Side}
-use Rattle.nary_ind.specs.ListInclusions.{tuple, rows_at, width_at, column_lists, all_lists, is_formed, is_list_inclusion, from_to, of_width}
+use Rattle.nary_ind.specs.ListInclusions.{tuple, rows_at, width_at, column_lists, all_lists, is_list_inclusion, from_to, of_width}
 use Rattle.nary_ind.specs.Laws.{without_place}
 use Rattle.nary_ind.specs.Levels.{into_of, has_some, groups, listed_of, IsSide, IsGroup, extend, grown, next_into, next_groups}
 use Rattle.nary_ind.proofs.Among.{among-from, map-twice}

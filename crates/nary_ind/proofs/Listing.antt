@@ -1,19 +1,18 @@
 -- What the list of all inclusions has, and in which order.
-use Rattle.std.proofs.Common.{inl, inr, ◌≡◌, ◌≢◌, ◌⊎◌, ℕ, zero, suc, ◌+◌, ◌-◌, ◌<◌, ◌≤◌, ltb, Bool, true, false, ◌&&◌, ◌||◌, not, eqb, refl, sym, ap, ap₂, ◌∙◌, subst, arith, List, [], ◌∷◌, ◌++◌, length, map, get_or, Ordering, Less}
-use Rattle.std.specs.List.{All, AllPairs, Contains, filter, flat_map, list_all, list_any, range_with_len}
+use Rattle.std.proofs.Common.{inl, inr, ◌≡◌, ◌≢◌, ◌⊎◌, ℕ, zero, suc, ◌+◌, ◌-◌, ◌<◌, ◌≤◌, ltb, Bool, true, false, ◌||◌, not, eqb, refl, sym, ap, ap₂, ◌∙◌, subst, arith, List, [], ◌∷◌, length, map, get_or, Ordering, Less}
+use Rattle.std.specs.List.{All, AllPairs, Contains, flat_map, list_all, range_with_len}
 use Rattle.std.specs.List.Sorted.{IsStrictlyIncreasing}
 use Rattle.std.specs.Ordering.{nat_cmp, ordering_then}
 use Rattle.std.specs.Cmp.Lexicographic.{slice_cmp}
-use Rattle.std.proofs.lemmas.Bool.{and_parts, and_from, eqb-false, eqb-true, eq-eqb, ltb-true, lt-ltb, ne_eqb, not-true, or_cases, or_left, or_right}
+use Rattle.std.proofs.lemmas.Bool.{and_parts, and_from, eqb-false, eqb-true, ltb-true, lt-ltb, ne_eqb, not-true, or_cases, or_left, or_right}
 use Rattle.std.proofs.lemmas.Cmp.{nat_cmp_total, tied_itself}
-use Rattle.std.proofs.lemmas.List.{length-map, get_or-map}
 use Rattle.std.proofs.lemmas.List.Elements.{All-contains, All-cons, All-nil}
 use Rattle.col_set.specs.ColSet.{upto}
 use Rattle.col_set.specs.AllSets.{Listed-upto, Listed-upto_within}
 use Rattle.col_set.specs.Columns.{nat_cmp-lt}
-use Rattle.col_set.specs.Lists.{Listed, Rises, Listed-append_cases, Listed-filter, Listed-filter_parts, Listed-flat_map, Listed-flat_map_which, Listed-map, Listed-map_which, Rises-append, Rises-filter, Rises-map, list_all_at, list_all_from}
+use Rattle.col_set.specs.Lists.{Listed, Rises, Listed-filter, Listed-filter_parts, Listed-flat_map, Listed-flat_map_which, Listed-map, Listed-map_which, Rises-append, Rises-filter, Rises-map, list_all_at, list_all_from}
 use Rattle.col_set.proofs.Places.{AllPairs-rises, Climbs, Climbs-increasing, Contains-listed, Listed-contained, Listed-get_or}
-use Rattle.rel_base.specs.Cells.{Cell, Row}
+use Rattle.rel_base.specs.Cells.{Row}
 use Rattle.rel_base.specs.Agreement.{same_cell}
 use Rattle.rel_base.specs.RowState.{RowState}
 use Rattle.rel_base.proofs.Agree.{same_cell-true, true-same_cell}
@@ -25,7 +24,7 @@ use Rattle.nary_ind.specs.Levels.{IsSide}
 use Rattle.nary_ind.proofs.Among.{among-each, among-from}
 use Rattle.nary_ind.proofs.Levels.{side-of}
 use Rattle.nary_ind.proofs.Live.{range-above, range-rises}
-use Rattle.nary_ind.proofs.Places.{IsFormed, differ-at, formed-from, formed-parts}
+use Rattle.nary_ind.proofs.Places.{differ-at, formed-from, formed-parts}
 
 -- ---- order
 -- lists one after another rise where each does and the first elements are in order

@@ -1,13 +1,12 @@
 -- Numbers of cells.
-use Rattle.std.proofs.Common.{inl, inr, ◌≡◌, ◌⊎◌, ℕ, zero, suc, ◌+◌, ◌-◌, ◌<◌, ◌≤◌, Bool, true, false, not, cond, refl, sym, ap, ap₂, ◌∙◌, subst, arith, List, [], ◌∷◌, ◌++◌, length, map, take, get_or, append_assoc, append-nil, Some}
+use Rattle.std.proofs.Common.{inl, inr, ◌≡◌, ◌⊎◌, ℕ, zero, suc, ◌+◌, ◌<◌, ◌≤◌, Bool, true, false, cond, refl, sym, ap, ap₂, ◌∙◌, subst, arith, List, [], ◌∷◌, ◌++◌, length, map, take, get_or, append_assoc, append-nil, Some}
 use Rattle.std.specs.Prelude.{slice_get}
 use Rattle.std.specs.List.{All}
-use Rattle.std.proofs.lemmas.List.{length-append, length-map, get_or_append_left, get_or-map, map_push, take_more, get_or_push, get_or_past}
+use Rattle.std.proofs.lemmas.List.{length-append, length-map, get_or_append_left, get_or-map, map_push, take_more, get_or_push}
 use Rattle.std.proofs.lemmas.List.Elements.{All-get_or, All-push, All-nil}
 use Rattle.std.proofs.lemmas.Option.{get_or_from_slice_get, slice_get-get_or, slice_get_within}
 use Rattle.column_dict.specs.Coding.{Coding, IsCoding, coded, is_fresh, is_new}
 use Rattle.col_set.specs.Lists.{Listed}
-use Rattle.col_set.proofs.Places.{Listed-get_or}
 use Rattle.rel_base.specs.declared.nulls.Nulls.{Nulls}
 use Rattle.rel_base.specs.declared.nulls.Nulls.TheVariants.{Equal}
 use Rattle.rel_base.specs.Cells.{Cell, Row, cell}
@@ -15,7 +14,7 @@ use Rattle.rel_base.specs.RowState.{RowState, row, width}
 use Rattle.nary_ind.specs.ListInclusions.{rows_at, width_at}
 use Rattle.nary_ind.specs.Unary.{is_used}
 use Rattle.nary_ind.specs.Numbering.{AreNumbersOf, AreNumbersIfUsed, IsMore, IsTableOf, StartsWithNull}
-use Rattle.nary_ind.specs.Tables.{AreTables, Coded, IsNumbered, cell_at, number_in, table_at}
+use Rattle.nary_ind.specs.Tables.{AreTables, Coded, cell_at, table_at}
 use Rattle.nary_ind.proofs.Among.{map-twice}
 use Rattle.nary_ind.proofs.Lists.{map-same}
 

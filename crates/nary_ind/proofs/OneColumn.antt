@@ -1,7 +1,7 @@
 -- Lists of one column.
-use Rattle.std.proofs.Common.{inl, inr, ◌≡◌, ◌≢◌, ℕ, zero, suc, ◌+◌, ◌-◌, ◌<◌, ◌≤◌, Bool, true, false, ◌&&◌, ◌||◌, not, eqb, refl, sym, ap, ap₂, ◌∙◌, subst, arith, List, [], ◌∷◌, ◌++◌, length, map, get_or}
-use Rattle.std.specs.List.{list_all, list_any, flat_map, range_with_len}
-use Rattle.std.proofs.lemmas.Bool.{eq-eqb, ne_eqb, eqb-true, eqb-false, cases_eq}
+use Rattle.std.proofs.Common.{◌≡◌, ℕ, zero, suc, ◌+◌, ◌<◌, Bool, true, false, ◌&&◌, ◌||◌, not, eqb, refl, sym, ap, ap₂, ◌∙◌, arith, List, [], ◌∷◌, length, map, get_or}
+use Rattle.std.specs.List.{list_all, list_any, range_with_len}
+use Rattle.std.proofs.lemmas.Bool.{eq-eqb, eqb-true, eqb-false}
 use Rattle.std.proofs.lemmas.List.{get_or-append-add, get_or_append_left, length-append}
 use Rattle.std.proofs.lemmas.List.FromFn.{length-map-range_with_len}
 use Rattle.col_set.specs.ColSet.{upto}
@@ -10,8 +10,7 @@ use Rattle.rel_base.specs.Agreement.{same_cell}
 use Rattle.rel_base.specs.Projection.{same_row}
 use Rattle.rel_base.specs.RowState.{RowState, width, row}
 use Rattle.rel_base.specs.Inclusion.{all_columns, column_cells, included}
-use Rattle.nary_ind.specs.declared.found.Side.{Side}
-use Rattle.nary_ind.specs.ListInclusions.{tuple, rows_at, width_at, is_null, are_among, is_formed, is_list_inclusion, from_to}
+use Rattle.nary_ind.specs.ListInclusions.{tuple, rows_at, width_at, are_among, is_formed}
 use Rattle.nary_ind.specs.Laws.{start_of, position_of, is_unary, WidthOneIsUnary}
 use Rattle.nary_ind.proofs.Among.{map-twice}
 

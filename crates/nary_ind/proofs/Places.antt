@@ -1,16 +1,16 @@
 -- What is left of an inclusion of lists where a place is left out, and at one place alone.
-use Rattle.std.proofs.Common.{inl, inr, ◌≡◌, ℕ, zero, suc, ◌<◌, ltb, Bool, true, false, ◌&&◌, ◌||◌, not, eqb, refl, sym, ap, ap₂, ◌∙◌, subst, arith, List, [], ◌∷◌, ◌++◌, length, map, get_or}
+use Rattle.std.proofs.Common.{inl, inr, ◌≡◌, ℕ, zero, suc, ◌<◌, ltb, Bool, true, ◌&&◌, ◌||◌, not, eqb, refl, sym, ap, arith, List, [], ◌∷◌, length, map, get_or}
 use Rattle.std.specs.List.{list_all}
 use Rattle.std.proofs.lemmas.Bool.{and_parts, and_from, or_cases, or_left, or_right}
-use Rattle.std.proofs.lemmas.List.{length-map, get_or-map}
-use Rattle.col_set.specs.Lists.{Listed, list_all_at}
+use Rattle.std.proofs.lemmas.List.{get_or-map}
+use Rattle.col_set.specs.Lists.{list_all_at}
 use Rattle.col_set.proofs.Places.{Listed-get_or}
-use Rattle.rel_base.specs.Cells.{Cell, Row, cell}
+use Rattle.rel_base.specs.Cells.{Cell, cell}
 use Rattle.rel_base.specs.Agreement.{same_cell}
 use Rattle.rel_base.specs.RowState.{RowState}
 use Rattle.nary_ind.specs.declared.found.ListInd.{ListInd}
 use Rattle.nary_ind.specs.declared.found.Side.{Side}
-use Rattle.nary_ind.specs.ListInclusions.{tuple, rows_at, is_null, are_among, is_ascending, are_different, differ_by_place, is_formed, holds_among, is_list_inclusion, from_to}
+use Rattle.nary_ind.specs.ListInclusions.{rows_at, is_ascending, are_different, differ_by_place, is_formed, holds_among, is_list_inclusion, from_to}
 use Rattle.nary_ind.specs.Laws.{without_place}
 use Rattle.nary_ind.proofs.Among.{among-made}
 

@@ -1,8 +1,8 @@
 -- The columns of all relations, and the inclusions among them.
-use Rattle.std.proofs.Common.{inl, inr, ◌≡◌, ◌≢◌, ℕ, zero, suc, ◌+◌, ◌-◌, ◌<◌, ◌≤◌, ◌^◌, Bool, true, false, cond, ◌&&◌, ◌||◌, not, eqb, refl, sym, ap, ap₂, ◌∙◌, subst, arith, List, [], ◌∷◌, ◌++◌, length, map, take, get_or, set, append_assoc, append-nil}
-use Rattle.std.specs.List.{All, AllZip, Contains, filter, flat_map, list_all, list_any}
-use Rattle.std.proofs.lemmas.Bool.{and_parts, and_from, eq-eqb, eqb-true, eqb-false, ne_eqb, or_left, or_right, or_cases}
-use Rattle.std.proofs.lemmas.List.{length-append, length-map, map_push, take_more, take_all, length-set, get_or-set_same, get_or-set_other}
+use Rattle.std.proofs.Common.{inl, inr, ◌≡◌, ℕ, zero, suc, ◌+◌, ◌<◌, ◌≤◌, ◌^◌, Bool, true, false, cond, ◌&&◌, ◌||◌, eqb, refl, sym, ap, ap₂, ◌∙◌, subst, arith, List, [], ◌∷◌, ◌++◌, length, map, take, get_or, set, append_assoc, append-nil}
+use Rattle.std.specs.List.{All, AllZip, filter, flat_map, list_any}
+use Rattle.std.proofs.lemmas.Bool.{and_parts, and_from, eq-eqb, eqb-true, eqb-false, or_right}
+use Rattle.std.proofs.lemmas.List.{length-append, map_push, take_more, take_all, length-set, get_or-set_same, get_or-set_other}
 use Rattle.std.proofs.lemmas.List.Concat.{flat_map-append}
 use Rattle.std.proofs.lemmas.List.Elements.{AllZip-get_or, All-cons, All-filter, All-nil, length_all_zip}
 use Rattle.std.proofs.lemmas.List.FromFn.{length-map-range_with_len}

@@ -1,13 +1,13 @@
 -- Steps from one level to the next.
-use Rattle.std.proofs.Common.{inl, inr, ◌≡◌, ◌⊎◌, ℕ, zero, suc, ◌+◌, ◌-◌, ◌<◌, ◌≤◌, Bool, true, false, ◌&&◌, not, cond, refl, sym, ap, ap₂, ◌∙◌, subst, arith, List, [], ◌∷◌, ◌++◌, length, map, take, get_or, append_assoc, append-nil}
-use Rattle.std.specs.List.{filter, flat_map, range_with_len}
+use Rattle.std.proofs.Common.{inl, inr, ◌≡◌, ◌⊎◌, ℕ, suc, ◌+◌, ◌-◌, ◌<◌, Bool, true, false, ◌&&◌, cond, refl, sym, ap, ap₂, ◌∙◌, subst, arith, List, [], ◌∷◌, ◌++◌, length, map, take, get_or, append_assoc, append-nil}
+use Rattle.std.specs.List.{filter, flat_map}
 use Rattle.std.proofs.lemmas.Bool.{and_parts}
-use Rattle.std.proofs.lemmas.List.{get_or_push, length_push, map_push, take_more, take_all, map-append}
+use Rattle.std.proofs.lemmas.List.{get_or_push, length_push, map_push, take_more}
 use Rattle.std.proofs.lemmas.List.Concat.{flat_map-append}
 use Rattle.std.proofs.lemmas.List.Elements.{filter-append}
 use Rattle.col_set.specs.ColSet.{upto}
 use Rattle.col_set.specs.AllSets.{Listed-upto_within}
-use Rattle.col_set.specs.Lists.{Listed, Listed-append_cases, Listed-filter_parts, Listed-flat_map_which, Listed-map, Listed-map_which, filter_same}
+use Rattle.col_set.specs.Lists.{Listed, Listed-append_cases, Listed-filter_parts, Listed-flat_map_which, Listed-map_which, filter_same}
 use Rattle.col_set.proofs.Places.{Listed-get_or}
 use Rattle.rel_base.specs.RowState.{RowState}
 use Rattle.nary_ind.specs.declared.found.ListInd.{ListInd}
@@ -16,7 +16,7 @@ use Rattle.nary_ind.specs.ListInclusions.{from_to, holds_among, is_formed, is_li
 use Rattle.nary_ind.specs.Laws.{is_unary}
 use Rattle.nary_ind.specs.Unary.{is_used}
 use Rattle.nary_ind.specs.Tables.{AreUsed}
-use Rattle.nary_ind.specs.Levels.{IsGroup, IsSide, extend, grown, has_some, is_candidate, last_column, next_groups, next_into}
+use Rattle.nary_ind.specs.Levels.{IsGroup, IsSide, extend, grown, is_candidate, last_column, next_groups, next_into}
 use Rattle.nary_ind.proofs.Candidates.{checked, checked-single, used-dependent, used-referenced, used-first, used-second}
 use Rattle.nary_ind.proofs.Lists.{upto_more}
 

@@ -1,10 +1,7 @@
 -- Keys of rows.
 use Rattle.std.specs.Prelude.{◌≡◌, ◌≢◌, ◌<◌, ◌≤◌, ◌↔◌, ℕ, List, [], ◌∷◌, length}
 use Rattle.col_set.specs.Listing.{Listed}
-use Rattle.rel_base.specs.RowState.{RowState}
-use Rattle.nary_ind.specs.declared.found.Side.{Side}
-use Rattle.nary_ind.specs.ListInclusions.{rows_at}
-use Rattle.nary_ind.specs.Tables.{Coded, IsNumbered, cell_at, key_in, table_at}
+use Rattle.nary_ind.specs.Tables.{Coded, IsNumbered, key_in}
 
 -- columns that keys are made of
 pub record AreKeyed (t : Coded) (cs : List ℕ) : Type 0 where

@@ -3,7 +3,7 @@ use Rattle.std.specs.Prelude.{◌≡◌, ◌<◌, ◌++◌, ℕ, true, List, [],
 use Rattle.std.specs.List.{All}
 use Rattle.column_dict.specs.Coding.{Coding}
 use Rattle.rel_base.specs.declared.nulls.Nulls.TheVariants.{Equal}
-use Rattle.rel_base.specs.Cells.{Cell, Row, cell}
+use Rattle.rel_base.specs.Cells.{Cell, cell}
 use Rattle.rel_base.specs.RowState.{RowState}
 use Rattle.nary_ind.specs.ListInclusions.{rows_at, width_at}
 use Rattle.nary_ind.specs.Unary.{is_used}

@@ -1,7 +1,7 @@
 -- The rows of relations as numbers that are equal where cells are.
-use Rattle.std.specs.Prelude.{◌≡◌, ◌≢◌, ◌↔◌, ◌<◌, ◌-◌, ◌++◌, ℕ, true, List, [], ◌∷◌, length, map, replicate, slice_index, slice_index_or}
+use Rattle.std.specs.Prelude.{◌≡◌, ◌↔◌, ◌<◌, ◌-◌, ◌++◌, ℕ, true, List, [], length, map, replicate, slice_index, slice_index_or}
 use Rattle.col_set.specs.Listing.{Listed}
-use Rattle.rel_base.specs.Cells.{Cell, Row, cell}
+use Rattle.rel_base.specs.Cells.{Cell, cell}
 use Rattle.rel_base.specs.RowState.{RowState}
 use Rattle.nary_ind.specs.ListInclusions.{rows_at, width_at}
 use Rattle.nary_ind.specs.Unary.{is_used}

@@ -1,10 +1,10 @@
 -- Which columns are included in which, as the search has it.
-use Rattle.std.specs.Prelude.{◌≡◌, ◌≢◌, ◌↔◌, ◌<◌, ◌^◌, ◌++◌, ◌==◌, ◌&&◌, ◌||◌, ℕ, Bool, true, false, List, [], length, map, slice_index_or}
+use Rattle.std.specs.Prelude.{◌≡◌, ◌≢◌, ◌↔◌, ◌<◌, ◌^◌, ◌++◌, ◌==◌, ◌&&◌, ◌||◌, ℕ, Bool, false, List, [], length, map, slice_index_or}
 use Rattle.std.specs.List.{AllZip, Contains, list_any}
 use Rattle.col_set.specs.ColSet.{upto}
 use Rattle.rel_base.specs.Cells.{Cell}
 use Rattle.rel_base.specs.RowState.{RowState, width}
-use Rattle.rel_base.specs.Inclusion.{all_columns, included, inclusions}
+use Rattle.rel_base.specs.Inclusion.{all_columns, inclusions}
 use Rattle.row_log.specs.Distinct.{AreDistinctCells}
 use Rattle.nary_ind.specs.Laws.{start_of, position_of}
 

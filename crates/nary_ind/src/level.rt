@@ -12,6 +12,10 @@ use crate::found::{Group, Side};
 use crate::known::Known;
 use std::alloc::{AllocError, Global};
 
+// So many inclusions of one width are listed at most. Relations without rows and columns of NULLs are included in everything: 40 such columns alone are
+// in some 10^11 inclusions of four, which no memory has, and which nobody reads.
+const MOST_LISTS: usize = 8_388_608;
+
 /// The groups of no columns: of each relation the empty list, which is included in that of each.
 pub(crate) fn first_level(alloc: Global, known: &Known) -> Result<Vec<Group>, AllocError>
     ensures { IfOk result (λ level. map grouped level.items ≡ groups known.now 0) }
@@ -45,7 +49,7 @@ fn bare_lists(alloc: Global, relations: usize) -> Result<Vec<Side>, AllocError>
     Ok(lists)
 }
 
-/// The groups with one column more.
+/// The groups with one column more. Where they would list more than some eight million inclusions, that is want of memory, and they are not made.
 pub(crate) fn next_level(
     alloc: Global,
     known: &Known,
@@ -57,10 +61,22 @@ pub(crate) fn next_level(
     ensures { IfOk result (λ next. map grouped next.items ≡ groups known.now (suc width)) }
 {
     let mut next = Vec::new(alloc);
+    let mut left = MOST_LISTS;
     for group in level {
-        push_next(alloc, known, width, group, &mut next)?;
+        push_next(alloc, known, width, group, &mut left, &mut next)?;
     }
     Ok(next)
+}
+
+// Takes the room for the inclusions of a group, of so many that may still be listed.
+fn take_room(left: &mut usize, group: &Group) -> Result<(), AllocError> {
+    match left.checked_sub(group.into.len()) {
+        Some(rest) => {
+            *left = rest;
+            Ok(())
+        }
+        None => Err(AllocError),
+    }
 }
 
 // Adds the groups that come of one.
@@ -69,6 +85,7 @@ fn push_next(
     known: &Known,
     width: usize,
     group: &Group,
+    left: &mut usize,
     next: &mut Vec<Group>,
 ) -> Result<(), AllocError>
     requires width { width < MOST_WIDTH }
@@ -77,6 +94,7 @@ fn push_next(
 {
     for column in 0..known.width(group.side.rel) {
         let more = group_with(alloc, known, width, group, column)?;
+        take_room(left, &more)?;
         if has_some(&more) {
             next.push(more)?;
         }

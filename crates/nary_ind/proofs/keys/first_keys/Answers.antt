@@ -1,7 +1,5 @@
-use Rattle.std.proofs.Common.{inl, inr, ◌≡◌, ◌++◌, ◌∷◌, [], ℕ, List, arith, cond, subst, sym}
-use Rattle.std.specs.List.{list_any}
+use Rattle.std.proofs.Common.{inl, inr, ℕ, List, arith, subst, sym}
 use Rattle.col_set.specs.Listing.{Listed}
-use Rattle.rel_base.specs.Agreement.{same_cell}
 use Rattle.nary_ind.proofs.Keying.{listed-place, old-or-key}
 use Rattle.nary_ind.proofs.keys.first_keys.Goals as goal
 

@@ -1,4 +1,4 @@
-use Rattle.std.proofs.Common.{◌≡◌, ◌∙◌, [], ℕ, List, arith, below_more, get_or, refl, sym}
+use Rattle.std.proofs.Common.{◌∙◌, [], ℕ, arith, below_more, get_or, refl, sym}
 use Rattle.std.proofs.lemmas.Bool.{false≢true}
 use Rattle.col_set.specs.Listing.{Listed}
 use Rattle.nary_ind.proofs.Keying.{all-listed, key-found, not-found}

@@ -1,6 +1,5 @@
 use Rattle.std.proofs.Common.{◌≡◌, [], map}
 use Rattle.col_set.specs.ColSet.{upto}
-use Rattle.nary_ind.specs.declared.found.Side.{Side}
 use Rattle.nary_ind.proofs.level.bare_lists.Given as goal
 
 abbrev pub invariant-loop-relation : goal.invariant-loop-relation

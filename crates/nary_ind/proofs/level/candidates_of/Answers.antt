@@ -1,4 +1,3 @@
-use Rattle.std.proofs.Common.{◌∙◌}
 use Rattle.nary_ind.specs.Levels.{grown, is_candidate}
 use Rattle.nary_ind.proofs.Widening.{filter-flat-more, member-at}
 use Rattle.nary_ind.proofs.level.candidates_of.Goals as goal

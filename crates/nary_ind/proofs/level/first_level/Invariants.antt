@@ -1,6 +1,5 @@
 use Rattle.std.proofs.Common.{◌≡◌, [], length, map}
 use Rattle.col_set.specs.ColSet.{upto}
-use Rattle.nary_ind.specs.declared.found.Side.{Side}
 use Rattle.nary_ind.specs.Levels.{grouped}
 use Rattle.nary_ind.proofs.level.first_level.Given as goal
 

@@ -1,4 +1,4 @@
-use Rattle.std.proofs.Common.{◌≡◌, ◌∙◌, List, ap, arith, map, subst, sym}
+use Rattle.std.proofs.Common.{◌∙◌, List, ap, arith, map, subst, sym}
 use Rattle.std.specs.List.{flat_map}
 use Rattle.std.proofs.lemmas.List.{take_all}
 use Rattle.col_set.specs.Lists.{Listed, Listed-map}

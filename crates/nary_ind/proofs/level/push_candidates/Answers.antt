@@ -1,4 +1,4 @@
-use Rattle.std.proofs.Common.{◌∙◌, ◌<◌, ℕ, suc, ap, arith, length, subst, sym}
+use Rattle.std.proofs.Common.{◌∙◌, ◌<◌, ℕ, ap, arith, length, subst, sym}
 use Rattle.nary_ind.specs.declared.found.Side.{Side}
 use Rattle.nary_ind.specs.ListInclusions.{width_at}
 use Rattle.nary_ind.specs.Levels.{IsSide, extend, is_candidate}

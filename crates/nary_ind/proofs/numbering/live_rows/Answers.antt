@@ -1,4 +1,4 @@
-use Rattle.std.proofs.Common.{◌≡◌, ◌∙◌, ◌++◌, ◌∷◌, [], ap, arith, sym}
+use Rattle.std.proofs.Common.{◌≡◌, ◌∙◌, ap, arith, sym}
 use Rattle.rel_base.specs.Batches.{is_live}
 use Rattle.rel_base.specs.RowState.{next}
 use Rattle.nary_ind.proofs.Live.{live-all, live-not, live-yes}

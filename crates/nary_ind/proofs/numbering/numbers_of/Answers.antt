@@ -1,4 +1,4 @@
-use Rattle.std.proofs.Common.{◌∙◌, arith}
+use Rattle.std.proofs.Common.{◌∙◌}
 use Rattle.nary_ind.proofs.Numbers.{more-more, numbers-step}
 use Rattle.nary_ind.proofs.numbering.numbers_of.Goals as goal
 

@@ -1,7 +1,5 @@
-use Rattle.std.proofs.Common.{◌≡◌, ◌∙◌, ◌+◌, ◌<◌, ℕ, ap, arith, length, subst}
+use Rattle.std.proofs.Common.{◌≡◌, ◌∙◌, ◌+◌, ap, arith, length}
 use Rattle.std.proofs.lemmas.List.{length_push}
-use Rattle.nary_ind.specs.Numbering.{IsTableOf}
-use Rattle.nary_ind.specs.Tables.{table_at}
 use Rattle.nary_ind.proofs.Numbers.{null-more, tables-are, tables-step}
 use Rattle.nary_ind.proofs.numbering.tables_of.Goals as goal
 

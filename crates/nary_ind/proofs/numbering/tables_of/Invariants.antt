@@ -1,5 +1,4 @@
 use Rattle.std.proofs.Common.{◌≡◌, ◌<◌, ℕ, length}
-use Rattle.rel_base.specs.declared.nulls.Nulls.TheVariants.{Equal}
 use Rattle.nary_ind.specs.Numbering.{IsTableOf, StartsWithNull}
 use Rattle.nary_ind.specs.Tables.{table_at}
 use Rattle.nary_ind.proofs.numbering.tables_of.Given as goal

@@ -1,4 +1,4 @@
-use Rattle.std.proofs.Common.{◌≡◌, ◌<◌, arith, length, sym}
+use Rattle.std.proofs.Common.{arith, sym}
 use Rattle.std.proofs.lemmas.Option.{get_or_from_slice_get}
 use Rattle.nary_ind.proofs.Starts.{pair-more}
 use Rattle.nary_ind.proofs.unary.pairs_in.Goals as goal

@@ -1,4 +1,4 @@
-use Rattle.std.proofs.Common.{ℕ, List, length, subst, sym}
+use Rattle.std.proofs.Common.{List, length, subst, sym}
 use Rattle.rel_base.specs.RowState.{RowState}
 use Rattle.nary_ind.specs.Levels.{IsSide}
 use Rattle.nary_ind.specs.Tables.{AreUsed}

@@ -1,6 +1,5 @@
-use Rattle.std.proofs.Common.{◌≡◌, ◌∙◌, ◌<◌, ◌&&◌, ◌-◌, ℕ, List, Bool, ap, ap₂, arith, length, sym}
+use Rattle.std.proofs.Common.{◌≡◌, ◌∙◌, ◌<◌, ◌&&◌, ◌-◌, Bool, ap, ap₂, arith, length, sym}
 use Rattle.col_set.proofs.Places.{Listed-get_or}
-use Rattle.rel_base.specs.RowState.{RowState}
 use Rattle.nary_ind.specs.ListInclusions.{width_at}
 use Rattle.nary_ind.specs.Laws.{is_unary}
 use Rattle.nary_ind.specs.Levels.{is_candidate, last_column}
