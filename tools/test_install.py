@@ -146,7 +146,8 @@ class Installed(unittest.TestCase):
         file = os.path.join(self.held.name, "file")
         with open(file, "w", encoding="utf-8"):
             pass
-        for words in ([], ["a", "b", "c"], ["-x", PROGRAM], ["here", PROGRAM], ["/tmp/x", "/no/program"], ["/tmp/x", "/"]):
+        prefix = os.path.join(self.held.name, "prefix")
+        for words in ([], ["a", "b", "c"], ["-x", PROGRAM], ["here", PROGRAM], [prefix, os.path.join(prefix, "none")], [prefix, self.held.name]):
             done = self.install(*words)
             self.assertEqual((done.returncode, done.stdout, done.stderr.count("\n")), (1, "", 1), done.stderr)
             self.assertTrue(done.stderr.startswith("install: "))
