@@ -49,14 +49,14 @@ def kind_of(line):
 
 
 def usages_of(sections):
-    """The words of each command, as `profile [--workers N] FILE..`: a line of code that stands alone, or the start of a paragraph."""
+    """The words of each command, as `profile [--workers N] FILE..`: lines of code that are nothing else, or the start of a paragraph."""
     out = []
     for section in sections:
         for kind, lines in section.blocks:
-            if kind == "code" and len(lines) == 1:
-                found = re.fullmatch("depprof ([a-z]+ .*)", lines[0])
+            if kind == "code":
+                found = [re.fullmatch("depprof ([a-z]+ .*)", line) for line in lines]
             else:
-                found = kind == "paragraph" and re.match("`depprof ([a-z]+ [^`]*)`", lines[0])
-            if found and found.group(1) not in out:
-                out.append(found.group(1))
+                found = [kind == "paragraph" and re.match("`depprof ([a-z]+ [^`]*)`", lines[0])]
+            if all(found):
+                out += [usage.group(1) for usage in found if usage.group(1) not in out]
     return out

@@ -168,6 +168,23 @@ class BesideTheProgram(unittest.TestCase):
                 self.assertEqual(done.returncode, 0, done.stderr)
                 self.assertEqual(done.stdout.decode(), said(relation, certificate) + "\n", (relation, certificate))
 
+    def test_the_program_makes_certificates_of_needed_pairs(self):
+        """What `certify` writes is one and has the report's lines; without any of its pairs it is none."""
+        with tempfile.TemporaryDirectory() as folder:
+            for relation, rows, width, _, _ in itertools.islice(samples(3, 200), 0, None, 3):
+                with open(os.path.join(folder, "r.csv"), "wb") as out:
+                    out.write(relation)
+                done = subprocess.run([PROGRAM, "certify", "--out", "c.csv", "r.csv"], cwd=folder, capture_output=True, check=False)
+                self.assertEqual(done.returncode, 0, done.stderr)
+                with open(os.path.join(folder, "c.csv"), encoding="ascii") as made:
+                    lines = made.read().splitlines()
+                self.assertEqual(said(relation, text(lines)), "yes", (relation, lines))
+                listed = [line for line in lines if line.startswith(("key", "fd"))]
+                self.assertEqual([line for line in done.stdout.decode().splitlines() if line.startswith(("key", "fd"))], listed)
+                for place, line in enumerate(lines):
+                    if line.startswith("pair"):
+                        self.assertNotEqual(said(relation, text(changed(place, None, lines))), "yes", (relation, lines, line))
+
 
 if __name__ == "__main__":
     unittest.main()

@@ -64,10 +64,10 @@ class OfReadme(unittest.TestCase):
 
     def test_parts(self):
         sections = sections_of("# x\n\nabout\n\n## One\n\ntext `a`\nmore\n\n    depprof one [--width W] FILE..\n\n- a\n- b\n  c\n\n| a | b |\n|---|---|\n\n"
-                               "`depprof two SEED` does\n\n    depprof one\n    two\n")
+                               "`depprof two SEED` does\n\n    depprof one\n    two\n\nend\n\n    depprof three FILE\n    depprof four SEED\n")
         self.assertEqual([(s.title, [k for k, _ in s.blocks]) for s in sections], [
-            ("", []), ("x", ["paragraph"]), ("One", ["paragraph", "code", "list", "table", "paragraph", "code"])])
-        self.assertEqual(usages_of(sections), ["one [--width W] FILE..", "two SEED"])
+            ("", []), ("x", ["paragraph"]), ("One", ["paragraph", "code", "list", "table", "paragraph", "code", "paragraph", "code"])])
+        self.assertEqual(usages_of(sections), ["one [--width W] FILE..", "two SEED", "three FILE", "four SEED"])
 
     def test_commands(self):
         c = completions.command_of("normalize [--workers N] --out PREFIX [--nulls equal|distinct] FILE..")
@@ -174,7 +174,8 @@ class Completed(unittest.TestCase):
 
     @unittest.skipUnless(shutil.which("bash"), "no bash")
     def test_bash(self):
-        self.assertEqual(self.bash("depprof")("n"), ["normalize"])
+        self.assertEqual(self.bash("depprof")("n"), ["nary", "normalize"])
+        self.assertEqual(self.bash("depprof")("c"), ["certify", "check"])
         self.assertEqual(self.bash("depprof", "profile")("--n"), ["--nulls"])
         self.assertEqual(self.bash("depprof", "profile", "--nulls")(""), ["distinct", "equal"])
         self.assertEqual(self.bash("depprof", "session", "--workers")("1"), ["1", "10", "11", "12", "13", "14", "15", "16"])

@@ -14,7 +14,7 @@ use Rattle.clap.proofs.WalkLemmas.{first_value-rows, one_text-rows, raw_values-r
 use Rattle.clap.specs.ValueTests.{is_unsigned_in}
 use Rattle.clap.specs.declared.builder.value_parser.ValueParser.TheVariants as vp
 use Rattle.clap.proofs.ValueTestLemmas.{Accepts-accepts, accepts-Accepts}
-use Rattle.cli_words.specs.Command.{certificate_of, errors_of, file_of, files_of, nulls_of, number_or, prefix_of, seed_of, number_or_zero, workers_of}
+use Rattle.cli_words.specs.Command.{certificate_of, errors_of, file_of, files_of, nulls_of, number_or, number_or_zero, prefix_of, seed_of, width_of, workers_of}
 
 -- the text of a reference, or another
 text_or : (o : Option (Bor Text)) (d : Bor Text) → (unwrap_or o d).now ≡ unwrap_or (option_map (λ s. s.now) o) d.now
@@ -52,18 +52,26 @@ parsed_or {E} other text (Err e) h = go (is_unsigned_in 0 255 text) refl
         absurd (h (passes.0, omega arith))
     go false e = rw e refl
 
+module _ {E : Type 0} (other : ℕ) (name : Text) (G : List ℕ → Result ℕ E → Type 0) (f : Found) (r : Option ℕ) (parses : (t : Text) (x : Result ℕ E) → G t x → ParsesUnsigned 8 10 t x)
+    (none : one_text f name ≡ None → r ≡ None) (value : (t : Text) → one_text f name ≡ Some t → ReadsOne G t r) where
+  read_or : (t : Text) (o : Option ℕ) → ReadsOne G t o → unwrap_or o other ≡ number_or other t
+  read_or t (Some n) h = parsed_or {E = E} other t (Ok n) (parses t (Ok n) h)
+  read_or t None h = parsed_or {E = E} other t (Err h.0) (parses t (Err h.0) h.1)
+
+  small-read : unwrap_or r other ≡ option_map_or (number_or other) (one_text f name) other
+  small-read = go (one_text f name) refl
+    where
+      go : (o : Option Text) → one_text f name ≡ o → unwrap_or r other ≡ option_map_or (number_or other) (one_text f name) other
+      go None e = ap (λ (x : Option ℕ). unwrap_or x other) (none e) ∙ sym (ap (λ (o : Option Text). option_map_or (number_or other) o other) e)
+      go (Some t) e = read_or t r (value t e) ∙ sym (ap (λ (o : Option Text). option_map_or (number_or other) o other) e)
+
 pub workers_of-number : {E : Type 0} (G : List ℕ → Result ℕ E → Type 0) (f : Found) (r : Option ℕ) → ((t : Text) (x : Result ℕ E) → G t x → ParsesUnsigned 8 10 t x)
     → (one_text f (codes "workers") ≡ None → r ≡ None) → ((t : Text) → one_text f (codes "workers") ≡ Some t → ReadsOne G t r) → unwrap_or r 4 ≡ workers_of (rows_of f)
-workers_of-number {E} G f r parses none value = go (one_text f (codes "workers")) refl
-    ∙ ap (λ (o : Option Text). option_map_or (number_or 4) o 4) (one_text-rows f (codes "workers"))
-  where
-    read : (t : Text) (o : Option ℕ) → ReadsOne G t o → unwrap_or o 4 ≡ number_or 4 t
-    read t (Some n) h = parsed_or {E = E} 4 t (Ok n) (parses t (Ok n) h)
-    read t None h = parsed_or {E = E} 4 t (Err h.0) (parses t (Err h.0) h.1)
+workers_of-number {E} G f r parses none value = small-read {E = E} 4 (codes "workers") G f r parses none value ∙ ap (λ (o : Option Text). option_map_or (number_or 4) o 4) (one_text-rows f (codes "workers"))
 
-    go : (o : Option Text) → one_text f (codes "workers") ≡ o → unwrap_or r 4 ≡ option_map_or (number_or 4) (one_text f (codes "workers")) 4
-    go None e = ap (λ (x : Option ℕ). unwrap_or x 4) (none e) ∙ sym (ap (λ (o : Option Text). option_map_or (number_or 4) o 4) e)
-    go (Some t) e = read t r (value t e) ∙ sym (ap (λ (o : Option Text). option_map_or (number_or 4) o 4) e)
+pub width_of-number : {E : Type 0} (G : List ℕ → Result ℕ E → Type 0) (f : Found) (r : Option ℕ) → ((t : Text) (x : Result ℕ E) → G t x → ParsesUnsigned 8 10 t x)
+    → (one_text f (codes "width") ≡ None → r ≡ None) → ((t : Text) → one_text f (codes "width") ≡ Some t → ReadsOne G t r) → unwrap_or r 2 ≡ width_of (rows_of f)
+width_of-number {E} G f r parses none value = small-read {E = E} 2 (codes "width") G f r parses none value ∙ ap (λ (o : Option Text). option_map_or (number_or 2) o 2) (one_text-rows f (codes "width"))
 
 pub prefix_of-word : (f : Found) (o : Option (Bor Text)) (word d : Bor Text) → option_map (λ s. s.now) o ≡ first_value f (codes "out") → word ≡ unwrap_or o d → d.now ≡ []
     → word.now ≡ prefix_of (rows_of f)

@@ -1,10 +1,9 @@
 -- What a parse of the words says of the command that they are.
-use Rattle.std.proofs.Common.{◌≡◌, ◌∙◌, ◌⊎◌, inl, inr, Bool, cond, true, false, refl, sym, ap, subst, List, [], ◌∷◌, drop, length, arith, Option, Some, None}
+use Rattle.std.proofs.Common.{◌≡◌, ◌∙◌, ◌⊎◌, inl, inr, cond, true, false, refl, sym, ap, subst, List, [], ◌∷◌, drop, length, arith, Option, Some, None}
 use Rattle.std.proofs.lemmas.Bool.{ne_eqb}
-use Rattle.std.specs.Prelude.{option_map, option_and_then, is_some, codes, Box}
+use Rattle.std.specs.Prelude.{option_map, option_and_then, is_some, Box}
 use Rattle.std.specs.Box.{box_value}
 use Rattle.std.specs.Borrow.{Bor}
-use Rattle.std.specs.Str.{bytes_eq}
 use Rattle.clap.specs.Matches.{found_of, subcommand_name_of}
 use Rattle.clap.specs.Walk.{Row, Text, is_empty, nothing_held, rows_of, stop_after}
 use Rattle.clap.specs.Simple.{App, built, is_simple, names_of, subcommand_of, subcommand_rows, subcommand_rows_of}
@@ -15,10 +14,9 @@ use Rattle.clap.specs.declared.parser.matches.ArgMatches.TheViews.{out-ArgMatche
 use Rattle.clap.specs.declared.parser.matches.SubCommand.{SubCommand}
 use Rattle.clap.specs.declared.error.kind.ErrorKind.{ErrorKind}
 use Rattle.clap.specs.declared.error.kind.ErrorKind.TheVariants.{OutOfMemory}
-use Rattle.std.proofs.lemmas.Slice.Eq.{bytes_eq-Decides}
 use Rattle.cli_words.specs.declared.request.Request.{Request}
 use Rattle.cli_words.specs.Words.{IsTheApp, app_with, behind, the_app}
-use Rattle.cli_words.specs.Command.{approx_request, check_request, command, demo_request, normalize_request, profile_request, request_of, session_request}
+use Rattle.cli_words.specs.Command.{command, request_of}
 use Rattle.cli_words.proofs.Bare.{bare_words, entered-bare, entered_fault-bare}
 
 -- ---- the command, wherever the words of its options stand
@@ -77,70 +75,21 @@ module _ {Z : Type 0} where
   abbrev name_in : Option (Box SubCommand Z) → Option Text
   name_in = option_map (λ b. (out-SubCommand (box_value b)).name.now)
 
-  request_here : (make : List Row → Request) (name : Text) → ((rows : List Row) → request_of (name, rows) ≡ Some (make rows))
-      → (x : Option (Box SubCommand Z)) (rows : List Row) → name_in x ≡ Some name → option_map (λ p. p.1) (subcommand_rows x) ≡ Some rows
-      → option_and_then request_of (subcommand_rows x) ≡ Some (make rows)
-  request_here make name by None rows named found = cc
-  request_here make name by (Some b) rows named found =
+  request_here : (x : Option (Box SubCommand Z)) (name : Text) (rows : List Row) → name_in x ≡ Some name → option_map (λ p. p.1) (subcommand_rows x) ≡ Some rows
+      → option_and_then request_of (subcommand_rows x) ≡ request_of (name, rows)
+  request_here None name rows named found = cc
+  request_here (Some b) name rows named found =
       let is : (out-SubCommand (box_value b)).name.now ≡ name = cc in
       let same : rows_of (found_of (out-SubCommand (box_value b)).matches) ≡ rows = cc in
-      ap (λ (n : Text). request_of (n, rows_of (found_of (out-SubCommand (box_value b)).matches))) is
-      ∙ by (rows_of (found_of (out-SubCommand (box_value b)).matches)) ∙ ap (λ (rs : List Row). Some (make rs)) same
+      λ i. request_of (is i, same i)
 
-  request_elsewhere : (x : Option (Box SubCommand Z)) → (name_in x ≡ Some (codes "profile") → ⊥) → (name_in x ≡ Some (codes "session") → ⊥) → (name_in x ≡ Some (codes "normalize") → ⊥)
-      → (name_in x ≡ Some (codes "demo") → ⊥) → (name_in x ≡ Some (codes "approx") → ⊥) → (name_in x ≡ Some (codes "check") → ⊥) → option_and_then request_of (subcommand_rows x) ≡ None
-  request_elsewhere None profile session normalize demo approx check = refl
-  request_elsewhere (Some b) profile session normalize demo approx check =
-      rw (other (codes "profile") profile, other (codes "session") session, other (codes "normalize") normalize, other (codes "demo") demo, other (codes "approx") approx, other (codes "check") check) refl
-    where
-      n : Text
-      n = (out-SubCommand (box_value b)).name.now
-
-      other : (name : Text) → (Some n ≡ Some name → ⊥) → bytes_eq n name ≡ false
-      other name differs = go (bytes_eq n name) refl
-        where
-          go : (t : Bool) → bytes_eq n name ≡ t → bytes_eq n name ≡ false
-          go true e = absurd (differs (ap (λ (m : Text). Some m) ((bytes_eq-Decides n name).0 e)))
-          go false e = e
-
--- a parse that entered one of the subcommands
 module _ (a : App) (words : List Text) (m : ArgMatches) (is : IsTheApp a) (none : fault_of a words ≡ []) (met : subcommand_rows_of m ≡ subcommand_of a words) where
-  command-named : (make : List Row → Request) (name : Text) → ((rows : List Row) → request_of (name, rows) ≡ Some (make rows))
-      → (rows : List Row) → subcommand_name_of m ≡ Some name → option_map (λ p. p.1) (subcommand_rows (out-ArgMatches m).subcommand) ≡ Some rows → Some (make rows) ≡ command words
-  command-named make name by rows named found =
-      sym (command-found words (subcommand_rows_of m) (Some (make rows)) (sym (fault_of-app a words is) ∙ none) (sym (subcommand_of-app a words is) ∙ sym met)
-      (request_here make name by (out-ArgMatches m).subcommand rows named found))
-
-  pub command-profile : (rows : List Row) → subcommand_name_of m ≡ Some (codes "profile") → option_map (λ p. p.1) (subcommand_rows (out-ArgMatches m).subcommand) ≡ Some rows
-      → Some (profile_request rows) ≡ command words
-  command-profile rows named found = command-named profile_request (codes "profile") (λ rs. refl) rows named found
-
-  pub command-session : (rows : List Row) → subcommand_name_of m ≡ Some (codes "session") → option_map (λ p. p.1) (subcommand_rows (out-ArgMatches m).subcommand) ≡ Some rows
-      → Some (session_request rows) ≡ command words
-  command-session rows named found = command-named session_request (codes "session") (λ rs. refl) rows named found
-
-  pub command-normalize : (rows : List Row) → subcommand_name_of m ≡ Some (codes "normalize") → option_map (λ p. p.1) (subcommand_rows (out-ArgMatches m).subcommand) ≡ Some rows
-      → Some (normalize_request rows) ≡ command words
-  command-normalize rows named found = command-named normalize_request (codes "normalize") (λ rs. refl) rows named found
-
-  pub command-demo : (rows : List Row) → subcommand_name_of m ≡ Some (codes "demo") → option_map (λ p. p.1) (subcommand_rows (out-ArgMatches m).subcommand) ≡ Some rows
-      → Some (demo_request rows) ≡ command words
-  command-demo rows named found = command-named demo_request (codes "demo") (λ rs. refl) rows named found
-
-  pub command-approx : (rows : List Row) → subcommand_name_of m ≡ Some (codes "approx") → option_map (λ p. p.1) (subcommand_rows (out-ArgMatches m).subcommand) ≡ Some rows
-      → Some (approx_request rows) ≡ command words
-  command-approx rows named found = command-named approx_request (codes "approx") (λ rs. refl) rows named found
-
-  pub command-check : (rows : List Row) → subcommand_name_of m ≡ Some (codes "check") → option_map (λ p. p.1) (subcommand_rows (out-ArgMatches m).subcommand) ≡ Some rows
-      → Some (check_request rows) ≡ command words
-  command-check rows named found = command-named check_request (codes "check") (λ rs. refl) rows named found
-
-  -- a parse that entered none of them
-  pub command-other : (subcommand_name_of m ≡ Some (codes "profile") → ⊥) → (subcommand_name_of m ≡ Some (codes "session") → ⊥) → (subcommand_name_of m ≡ Some (codes "normalize") → ⊥)
-      → (subcommand_name_of m ≡ Some (codes "demo") → ⊥) → (subcommand_name_of m ≡ Some (codes "approx") → ⊥) → (subcommand_name_of m ≡ Some (codes "check") → ⊥) → None ≡ command words
-  command-other profile session normalize demo approx check =
-      sym (command-found words (subcommand_rows_of m) None (sym (fault_of-app a words is) ∙ none) (sym (subcommand_of-app a words is) ∙ sym met)
-      (request_elsewhere (out-ArgMatches m).subcommand profile session normalize demo approx check))
+  -- a parse that entered a subcommand
+  pub command-named : (name : Text) (rows : List Row) → subcommand_name_of m ≡ Some name → option_map (λ p. p.1) (subcommand_rows (out-ArgMatches m).subcommand) ≡ Some rows
+      → request_of (name, rows) ≡ command words
+  command-named name rows named found =
+      sym (command-found words (subcommand_rows_of m) (request_of (name, rows)) (sym (fault_of-app a words is) ∙ none) (sym (subcommand_of-app a words is) ∙ sym met)
+      (request_here (out-ArgMatches m).subcommand name rows named found))
 
 -- a parse that failed, and not for memory
 pub command-none : (a : App) (words : List Text) (k : ErrorKind) → IsTheApp a → (k ≡ OutOfMemory) ⊎ IsAmong k (fault_of a words) → (k ≡ OutOfMemory → ⊥) → None ≡ command words

@@ -28,8 +28,9 @@ use Rattle.clap.specs.declared.error.kind.ErrorKind.TheVariants as kind
 use Rattle.clap.proofs.CallerReads.{signed_reads}
 use Rattle.clap.proofs.ValueTestLemmas.{accepts-Accepts}
 use Rattle.cli_words.specs.declared.request.Request.{Request}
+use Rattle.task_base.specs.Task.{AreWorkers}
 use Rattle.cli_words.specs.Words.{the_app}
-use Rattle.cli_words.specs.Command.{approx_request, check_request, command, demo_request, normalize_request, number_or, profile_request, request_of, session_request, workers_asked, workers_of}
+use Rattle.cli_words.specs.Command.{approx_request, certify_request, check_request, command, demo_request, nary_request, normalize_request, number_or, profile_request, request_of, session_request, workers_asked, workers_of}
 
 -- ---- values from 1 to 16
 abbrev the_parser : ValueParser
@@ -396,6 +397,12 @@ other_name x less e =
     let first : slice_index x 0 ≡ 119 = ap (λ (t : Text). slice_index t 0) e in
     omega arith
 
+-- another name, by its second letter
+other_second : (x : Text) → slice_index x 1 ≤ 110 → x ≡ codes "workers" → ⊥
+other_second x less e =
+    let second : slice_index x 1 ≡ 111 = ap (λ (t : Text). slice_index t 1) e in
+    omega arith
+
 fit_subs : FitSubs (built the_app).subs
 fit_subs = (
   ((λ e. (refl, refl)), ((λ e. absurd (other_name (codes "nulls") (omega arith) e)), ((λ e. absurd (other_name (codes "files") (omega arith) e)), ((λ e. absurd (other_name (codes "help") (omega arith) e)), tt)))),
@@ -409,7 +416,7 @@ fit_subs = (
           ((λ e. absurd (other_name (codes "errors") (omega arith) e)), ((λ e. absurd (other_name (codes "file") (omega arith) e)), ((λ e. absurd (other_name (codes "help") (omega arith) e)), tt))),
           (
             ((λ e. absurd (other_name (codes "file") (omega arith) e)), ((λ e. absurd (other_name (codes "cert") (omega arith) e)), ((λ e. absurd (other_name (codes "help") (omega arith) e)), tt))),
-            (((λ e. absurd (other_name (codes "subcommand") (omega arith) e)), tt), tt),
+            (((λ e. absurd (other_second (codes "width") (omega arith) e)), ((λ e. absurd (other_name (codes "files") (omega arith) e)), ((λ e. absurd (other_name (codes "help") (omega arith) e)), tt))), (((λ e. (refl, refl)), ((λ e. absurd (other_name (codes "out") (omega arith) e)), ((λ e. absurd (other_name (codes "file") (omega arith) e)), ((λ e. absurd (other_name (codes "help") (omega arith) e)), tt)))), (((λ e. absurd (other_name (codes "subcommand") (omega arith) e)), tt), tt))),
           ),
         ),
       ),
@@ -433,32 +440,43 @@ workers-range words request is = kinds (fault_of the_app words) refl is
     InRange : Request → Type 0
     InRange r = (1 ≤ workers_asked r) × (workers_asked r ≤ 16)
 
-    named : (q : Text × List Row) (b c d e f g : Bool) → Good q.1
-        → cond b (Some (profile_request q.1)) (cond c (Some (session_request q.1)) (cond d (Some (normalize_request q.1)) (cond e (Some (demo_request q.1)) (cond f (Some (approx_request q.1)) (cond g (Some (check_request q.1)) None))))) ≡ Some request → InRange request
-    named q true c d e f g good is =
+    named : (q : Text × List Row) (b c d e f g h j : Bool) → Good q.1
+        → cond b (Some (profile_request q.1)) (cond c (Some (session_request q.1)) (cond d (Some (normalize_request q.1)) (cond e (Some (demo_request q.1)) (cond f (Some (approx_request q.1)) (cond g (Some (check_request q.1)) (cond h (Some (nary_request q.1)) (cond j (Some (certify_request q.1)) None))))))) ≡ Some request → InRange request
+    named q true c d e f g h j good is =
         let same : profile_request q.1 ≡ request = cc in
         subst InRange same (found_in_range q.1 good)
-    named q false true d e f g good is =
+    named q false true d e f g h j good is =
         let same : session_request q.1 ≡ request = cc in
         subst InRange same (found_in_range q.1 good)
-    named q false false true e f g good is =
+    named q false false true e f g h j good is =
         let same : normalize_request q.1 ≡ request = cc in
         subst InRange same (found_in_range q.1 good)
-    named q false false false true f g good is =
+    named q false false false true f g h j good is =
         let same : demo_request q.1 ≡ request = cc in
         subst InRange same (found_in_range q.1 good)
-    named q false false false false true g good is =
+    named q false false false false true g h j good is =
         let same : approx_request q.1 ≡ request = cc in
         subst InRange same (omega arith, omega arith)
-    named q false false false false false true good is =
+    named q false false false false false true h j good is =
         let same : check_request q.1 ≡ request = cc in
         subst InRange same (omega arith, omega arith)
-    named q false false false false false false good is = absurd (some≢none request is)
+    named q false false false false false false true j good is =
+        let same : nary_request q.1 ≡ request = cc in
+        subst InRange same (omega arith, omega arith)
+    named q false false false false false false false true good is =
+        let same : certify_request q.1 ≡ request = cc in
+        subst InRange same (found_in_range q.1 good)
+    named q false false false false false false false false good is = absurd (some≢none request is)
 
     met : (o : Option (Text × List Row)) → fault_of the_app words ≡ [] → subcommand_of the_app words ≡ o → option_and_then request_of o ≡ Some request → InRange request
     met None none same e = absurd (some≢none request e)
-    met (Some q) none same e = named q (bytes_eq q.0 (codes "profile")) (bytes_eq q.0 (codes "session")) (bytes_eq q.0 (codes "normalize")) (bytes_eq q.0 (codes "demo")) (bytes_eq q.0 (codes "approx")) (bytes_eq q.0 (codes "check")) (below_good words q none same) e
+    met (Some q) none same e = named q (bytes_eq q.0 (codes "profile")) (bytes_eq q.0 (codes "session")) (bytes_eq q.0 (codes "normalize")) (bytes_eq q.0 (codes "demo")) (bytes_eq q.0 (codes "approx")) (bytes_eq q.0 (codes "check")) (bytes_eq q.0 (codes "nary")) (bytes_eq q.0 (codes "certify")) (below_good words q none same) e
 
     kinds : (ks : Kinds) → fault_of the_app words ≡ ks → cond (is_empty ks) (option_and_then request_of (subcommand_of the_app words)) None ≡ Some request → InRange request
     kinds [] none e = met (subcommand_of the_app words) none refl e
     kinds (k ∷ ks) none e = absurd (some≢none request (ap (λ b. cond b (option_and_then request_of (subcommand_of the_app words)) None) (sym (cons_some k ks)) ∙ e))
+
+-- so are those of the request that words are, if they are one
+pub workers-found : (words : List Text) (found : Option Request) → found ≡ command words → IfSome found (λ request. AreWorkers (workers_asked request))
+workers-found words None is = tt
+workers-found words (Some request) is = let range = workers-range words request (sym is) in record { some = range.0; few = range.1 }

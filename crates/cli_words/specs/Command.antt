@@ -12,7 +12,7 @@ use Rattle.clap.specs.ValueTests.{is_unsigned_in}
 use Rattle.clap.specs.Faults.{fault_of}
 use Rattle.cli_words.specs.declared.request.Options.{Options}
 use Rattle.cli_words.specs.declared.request.Request.{Request}
-use Rattle.cli_words.specs.declared.request.Request.TheVariants.{Profile, Session, Normalize, Demo, Approx, Check}
+use Rattle.cli_words.specs.declared.request.Request.TheVariants.{Profile, Session, Normalize, Demo, Approx, Check, Nary, Certify}
 use Rattle.cli_words.specs.Words.{the_app}
 
 -- the bytes of each word
@@ -59,6 +59,10 @@ prefix_of rows = unwrap_or (first_of (codes "out") rows) []
 abbrev pub certificate_of : List Row → Text
 certificate_of rows = unwrap_or (first_of (codes "cert") rows) []
 
+-- the greatest width of the inclusions, 2 to 4
+abbrev pub width_of : List Row → ℕ
+width_of rows = option_map_or (number_or 2) (one_of (codes "width") rows) 2
+
 abbrev pub options_of : List Row → Options
 options_of rows = record { workers = workers_of rows; nulls = nulls_of rows }
 
@@ -86,6 +90,14 @@ approx_request rows = Approx (errors_of rows) (file_of rows)
 abbrev pub check_request : List Row → Request
 check_request rows = Check (file_of rows) (certificate_of rows)
 
+-- what was found for the arguments of `nary`, as a request
+abbrev pub nary_request : List Row → Request
+nary_request rows = Nary (width_of rows) (files_of rows)
+
+-- what was found for the arguments of `certify`, as a request
+abbrev pub certify_request : List Row → Request
+certify_request rows = Certify (workers_of rows) (prefix_of rows) (file_of rows)
+
 -- the request of a subcommand, by its name
 abbrev pub request_of : Text × List Row → Option Request
 request_of p =
@@ -95,6 +107,8 @@ request_of p =
     else if bytes_eq p.0 (codes "demo") then Some (demo_request p.1)
     else if bytes_eq p.0 (codes "approx") then Some (approx_request p.1)
     else if bytes_eq p.0 (codes "check") then Some (check_request p.1)
+    else if bytes_eq p.0 (codes "nary") then Some (nary_request p.1)
+    else if bytes_eq p.0 (codes "certify") then Some (certify_request p.1)
     else None
 
 -- how many workers a request asks for
@@ -105,6 +119,8 @@ workers_asked (Normalize workers prefix file) = workers
 workers_asked (Demo workers seed) = workers
 workers_asked (Approx errors file) = 4
 workers_asked (Check file certificate) = 4
+workers_asked (Nary width files) = 4
+workers_asked (Certify workers name file) = workers
 
 -- what the words ask for, where nothing is wrong with them
 unfoldable pub command : List Text → Option Request

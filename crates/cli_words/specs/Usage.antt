@@ -20,9 +20,15 @@ approx_usage = codes "approx --errors E FILE"
 abbrev pub check_usage : List ℕ
 check_usage = codes "check FILE CERT"
 
+abbrev pub nary_usage : List ℕ
+nary_usage = codes "nary [--width W] FILE.."
+
+abbrev pub certify_usage : List ℕ
+certify_usage = codes "certify [--workers N] --out NAME FILE"
+
 -- the pieces, in their order
 abbrev pub usages : List (List ℕ)
-usages = profile_usage ∷ normalize_usage ∷ session_usage ∷ demo_usage ∷ approx_usage ∷ check_usage ∷ []
+usages = profile_usage ∷ normalize_usage ∷ session_usage ∷ demo_usage ∷ approx_usage ∷ nary_usage ∷ certify_usage ∷ check_usage ∷ []
 
 -- pieces with a bar between each two
 abbrev pub barred : List (List ℕ) → List ℕ

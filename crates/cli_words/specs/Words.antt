@@ -73,11 +73,28 @@ cert_rule = record (new_rule (codes "cert")) { required = true }
 abbrev pub check_app : App
 check_app = with_rule (with_rule (new_app (codes "check")) file_rule) cert_rule
 
+-- `--width W`, a number from 2 to 4, or 2
+abbrev pub width_rule : Rule
+width_rule = record (new_rule (codes "width")) {
+  long = Some (codes "width");
+  parser = Some (parser.Signed (pos 2) (pos 4));
+  defaults = codes "2" ∷ [];
+}
+
+-- `nary [--width W] FILE..`
+abbrev pub nary_app : App
+nary_app = with_rule (with_rule (new_app (codes "nary")) width_rule) files_rule
+
+-- `certify [--workers N] --out NAME FILE`
+abbrev pub certify_app : App
+certify_app = with_rule (with_rule (with_rule (new_app (codes "certify")) workers_rule) out_rule) file_rule
+
 -- The program with its subcommands, of which one is required. The words of each one's `--nulls` may stand in another place.
 abbrev pub app_with : Bor (List (Bor Text)) → Bor (List (Bor Text)) → App
 app_with profile_names session_names =
     let named = with_subcommand (with_subcommand (new_app (codes "depprof")) (profile_app profile_names).top) (session_app session_names).top in
-    let a = with_subcommand (with_subcommand (with_subcommand (with_subcommand named normalize_app.top) demo_app.top) approx_app.top) check_app.top in
+    let first = with_subcommand (with_subcommand (with_subcommand (with_subcommand named normalize_app.top) demo_app.top) approx_app.top) check_app.top in
+    let a = with_subcommand (with_subcommand first nary_app.top) certify_app.top in
     record a { top = record a.top { subcommand_required = true } }
 
 -- the words of `--nulls`

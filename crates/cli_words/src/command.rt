@@ -152,30 +152,59 @@ fn check_of(alloc: Global, found: &ArgMatches) -> Result<Request, AllocError>
     })
 }
 
+fn width_of(found: &ArgMatches) -> u8
+    ensures { result ≡ words_of.width_of (rows_of (found_of found.now)) }
+{
+    found.get_one::<u8>("width").unwrap_or(2)
+}
+
+// What was found for the arguments of `nary`.
+fn nary_of(alloc: Global, found: &ArgMatches) -> Result<Request, AllocError>
+    ensures { IfOk result (λ request. request ≡ words_of.nary_request (rows_of (found_of found.now))) }
+{
+    Ok(Request::Nary {
+        width: width_of(found),
+        files: Names::of(files_of(alloc, found)?),
+    })
+}
+
+// What was found for the arguments of `certify`.
+fn certify_of(alloc: Global, found: &ArgMatches) -> Result<Request, AllocError>
+    ensures { IfOk result (λ request. request ≡ words_of.certify_request (rows_of (found_of found.now))) }
+{
+    Ok(Request::Certify {
+        workers: workers_of(found),
+        name: prefix_of(alloc, found)?,
+        file: file_of(alloc, found)?,
+    })
+}
+
+// The request of the subcommand of this name.
+fn named(alloc: Global, name: &str, found: &ArgMatches) -> Result<Option<Request>, AllocError>
+    ensures { IfOk result (λ request. request ≡ words_of.request_of (name.now, rows_of (found_of found.now))) }
+{
+    match name {
+        "profile" => Ok(Some(profile_of(alloc, found)?)),
+        "session" => Ok(Some(session_of(alloc, found)?)),
+        "normalize" => Ok(Some(normalize_of(alloc, found)?)),
+        "demo" => Ok(Some(demo_of(found))),
+        "approx" => Ok(Some(approx_of(alloc, found)?)),
+        "check" => Ok(Some(check_of(alloc, found)?)),
+        "nary" => Ok(Some(nary_of(alloc, found)?)),
+        "certify" => Ok(Some(certify_of(alloc, found)?)),
+        _ => Ok(None),
+    }
+}
+
 /// The request that the words are, if they are one. The first word is the program's own name.
 pub fn request_of(alloc: Global, words: &[String]) -> Result<Option<Request>, AllocError>
     ensures command { IfOk result (λ found. found ≡ words_of.command (texts words.now)) }
     ensures workers { IfOk result (λ found. IfSome found (λ request. AreWorkers (workers_asked request))) }
 {
     match depprof_words(alloc)?.try_get_matches_from(words) {
-        Ok(matches) => match matches.subcommand_matches("profile") {
-            Some(found) => Ok(Some(profile_of(alloc, found)?)),
-            None => match matches.subcommand_matches("session") {
-                Some(found) => Ok(Some(session_of(alloc, found)?)),
-                None => match matches.subcommand_matches("normalize") {
-                    Some(found) => Ok(Some(normalize_of(alloc, found)?)),
-                    None => match matches.subcommand_matches("demo") {
-                        Some(found) => Ok(Some(demo_of(found))),
-                        None => match matches.subcommand_matches("approx") {
-                            Some(found) => Ok(Some(approx_of(alloc, found)?)),
-                            None => match matches.subcommand_matches("check") {
-                                Some(found) => Ok(Some(check_of(alloc, found)?)),
-                                None => Ok(None),
-                            },
-                        },
-                    },
-                },
-            },
+        Ok(matches) => match matches.subcommand() {
+            Some((name, found)) => named(alloc, name, found),
+            None => Ok(None),
         },
         Err(error) => match error.kind() {
             ErrorKind::OutOfMemory => Err(AllocError),

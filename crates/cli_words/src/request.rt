@@ -89,6 +89,17 @@ pub enum Request {
         file: Name,
         certificate: Name,
     },
+    /// The inclusions among all columns of these files, and those of lists of two up to so many columns.
+    Nary {
+        width: u8,
+        files: Names,
+    },
+    /// The report of this file, and a certificate of it in a file of that name.
+    Certify {
+        workers: u8,
+        name: Name,
+        file: Name,
+    },
 }
 
 // Which number of workers a request asks for.
@@ -105,7 +116,10 @@ impl Request {
             Request::Session { options, .. } => options.workers,
             Request::Normalize { workers, .. } => *workers,
             Request::Demo { workers, .. } => *workers,
-            Request::Approx { .. } | Request::Check { .. } => DEFAULT_WORKERS,
+            Request::Certify { workers, .. } => *workers,
+            Request::Approx { .. } | Request::Check { .. } | Request::Nary { .. } => {
+                DEFAULT_WORKERS
+            }
         }
     }
 }

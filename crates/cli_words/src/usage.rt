@@ -19,6 +19,10 @@ pub fn usage_line() -> &'static [u8]
         " | ",
         "approx --errors E FILE",
         " | ",
+        "nary [--width W] FILE..",
+        " | ",
+        "certify [--workers N] --out NAME FILE",
+        " | ",
         "check FILE CERT",
         "\n"
     )

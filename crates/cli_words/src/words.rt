@@ -1,7 +1,7 @@
 // The words that the program takes.
 ghost use Rattle.std.specs.Prelude.{◌≡◌, IfOk};
 ghost use Rattle.clap.specs.Words.{app_of, rule_of};
-ghost use Rattle.cli_words.specs.Words.{AreNullWords, IsTheApp, approx_app, cert_rule, check_app, demo_app, errors_rule, file_rule, files_rule, normalize_app, nulls_rule, out_rule, profile_app, seed_rule, session_app, workers_rule};
+ghost use Rattle.cli_words.specs.Words.{AreNullWords, IsTheApp, approx_app, cert_rule, certify_app, check_app, demo_app, errors_rule, file_rule, files_rule, nary_app, normalize_app, nulls_rule, out_rule, profile_app, seed_rule, session_app, width_rule, workers_rule};
 
 use clap::{Arg, Command, value_parser};
 use std::alloc::{AllocError, Global};
@@ -118,6 +118,32 @@ fn demo_words<'a>(alloc: Global) -> Result<Command<'a>, AllocError>
         .arg(seed_word(alloc))
 }
 
+fn width_option<'a>(alloc: Global) -> Arg<'a>
+    ensures { rule_of result ≡ width_rule }
+{
+    Arg::new(alloc, "width")
+        .long("width")
+        .value_parser(value_parser!(u8).range(2..=4))
+        .default_value("2")
+}
+
+fn nary_words<'a>(alloc: Global) -> Result<Command<'a>, AllocError>
+    ensures { IfOk result (λ c. app_of c ≡ nary_app) }
+{
+    Command::new(alloc, "nary")
+        .arg(width_option(alloc))?
+        .arg(file_words(alloc))
+}
+
+fn certify_words<'a>(alloc: Global) -> Result<Command<'a>, AllocError>
+    ensures { IfOk result (λ c. app_of c ≡ certify_app) }
+{
+    Command::new(alloc, "certify")
+        .arg(workers_option(alloc))?
+        .arg(out_option(alloc))?
+        .arg(file_word(alloc))
+}
+
 /// The words that the program takes, as the crate `clap` describes a command.
 pub(crate) fn depprof_words<'a>(alloc: Global) -> Result<Command<'a>, AllocError>
     ensures { IfOk result (λ c. IsTheApp (app_of c)) }
@@ -128,6 +154,8 @@ pub(crate) fn depprof_words<'a>(alloc: Global) -> Result<Command<'a>, AllocError
         .subcommand(normalize_words(alloc)?)?
         .subcommand(demo_words(alloc)?)?
         .subcommand(approx_words(alloc)?)?
-        .subcommand(check_words(alloc)?)?;
+        .subcommand(check_words(alloc)?)?
+        .subcommand(nary_words(alloc)?)?
+        .subcommand(certify_words(alloc)?)?;
     Ok(command.subcommand_required(true))
 }

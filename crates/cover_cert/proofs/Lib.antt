@@ -10,3 +10,7 @@ pub mod Certified
 pub mod Past
 pub mod Pairs
 pub mod Visits
+pub mod Told
+pub mod Numbers
+pub mod Written
+pub mod Made

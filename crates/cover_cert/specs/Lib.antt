@@ -6,3 +6,5 @@ pub mod Comparing
 pub mod Holding
 pub mod Certificates
 pub mod Laws
+pub mod Evidence
+pub mod Makes

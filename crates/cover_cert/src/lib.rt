@@ -9,12 +9,15 @@ mod agreeing;
 mod answer;
 mod checking;
 mod comparing;
+mod evidence;
 mod fields;
 mod holding;
 pub mod laws;
 mod line;
 mod listing;
+mod making;
 mod part;
 
 pub use answer::{Answer, Flaw};
 pub use checking::check;
+pub use making::make;

@@ -10,6 +10,8 @@ depprof finds the keys, functional dependencies and inclusion dependencies of ta
   depprof normalize --out P FILE     the same, and the table split into Boyce-Codd normal form: P1.csv, P2.csv, ..
   depprof session FILE               reports while rows come and go: batches of changes come on standard input
   depprof approx --errors E FILE     dependencies that hold but for at most E rows
+  depprof nary [--width W] FILE..    inclusions of several columns at once, of up to W columns, among all files
+  depprof certify --out C FILE       the report, and in the file C a certificate that the report is right and complete
   depprof check FILE CERT            whether CERT proves what it lists: every minimal key and dependency of FILE
   depprof demo SEED                  a drawn relation of 12 columns and 5,000 rows, to try it out
 
@@ -65,6 +67,25 @@ rows that are equal break no dependency. With `--errors 0` these are the depende
 
   --errors E       so many rows may be wrong, 0 to 1000000";
 
+const NARY: &str = "\
+depprof nary [--width W] FILE..
+
+Writes `relation,NAME,COLUMNS,ROWS` and the columns of each file, `ind,REL.COL,REL.COL` as `profile` does, and then
+`nind,DEPS,REFS` for lists of 2 to W columns: each row has, in the columns REL.COL REL.COL .. of DEPS, the cells that some
+row has in those of REFS, place by place. Rows whose cells in DEPS are all NULL are left out; else NULL equals NULL.
+
+  --width W        so many columns a list at most, 2 to 4 (2)";
+
+const CERTIFY: &str = "\
+depprof certify [--workers N] --out NAME FILE
+
+Writes the report of the file, without inclusions, and in the file NAME a certificate of its keys and dependencies:
+`cert,COLUMNS,ROWS`, `pair,I,J` for each pair of rows that is needed, the `key` and `fd` lines of the report, and `end`.
+`depprof check FILE NAME` says `yes` of it; so does tools/check_cert.py, which needs Python alone.
+
+  --out NAME       the file of the certificate: a folder in it must be there
+  --workers N      so many threads, 1 to 16 (4)";
+
 const CHECK: &str = "\
 depprof check FILE CERT
 
@@ -86,11 +107,13 @@ would say of it: `demo,SEED,12,5000,KEYS,FDS,INDS,TABLES`.
   --workers N      so many threads, 1 to 16 (4)";
 
 // Each command that has a page of its own.
-const PAGES: [(&str, &str); 6] = [
+const PAGES: [(&str, &str); 8] = [
     ("profile", PROFILE),
     ("normalize", NORMALIZE),
     ("session", SESSION),
     ("approx", APPROX),
+    ("nary", NARY),
+    ("certify", CERTIFY),
     ("check", CHECK),
     ("demo", DEMO),
 ];

@@ -18,7 +18,8 @@ use Rattle.clap.specs.Walk.{Text}
 use Rattle.ports.specs.Files.{Files, bytes_of}
 use Rattle.cli_words.specs.Command.{command}
 use Rattle.cli_words.specs.declared.request.Request.{Request}
-use Rattle.cli_words.specs.declared.request.Request.TheVariants.{Normalize}
+use Rattle.cli_words.specs.declared.request.Request.TheVariants.{Certify, Normalize}
+use Rattle.certify_text.specs.Certified.{Certifies}
 use Rattle.normalize_text.specs.Joined.{AreLosslessTables}
 use Rattle.normalize_text.specs.Normalize.{normalized}
 use Rattle.normalize_text.proofs.Joined.{lossless_tables}
@@ -80,6 +81,15 @@ lossless words workers prefix file limits files input o is out zero =
     let r = opened Equal limits.rows (file_content bytes) in
     let made : o.written ≡ normalized prefix file r = known.1 in
     subst (λ (w : Written). AreLosslessTables r w.files) (sym made) (lossless_tables prefix file r (state limits bytes none) refl)
+
+-- what `certify` writes
+pub certified : (words : List Text) (workers : ℕ) (name file : List ℕ) (limits : Limits) (files : Files) (input : List ℕ) (o : Output) → command words ≡ Some (Certify workers name file)
+    → output words limits files input o → o.status ≡ 0 → Certifies name file (opened Equal limits.rows (file_content (bytes_of files file))) o.written
+unfolding output task_of first_refusal
+certified words workers name file limits files input o is out zero =
+    let request = Certify workers name file in
+    let told : judged (refusal (task_of request) limits files input) (written (task_of request) limits files input) o = subst (λ (c : Option Request). asked c limits files input o) is out in
+    (unrefused (refusal (task_of request) limits files input) (written (task_of request) limits files input) o told zero).1
 
 -- a run that is done has written such files
 pub written_tables : (words : List Text) (workers : ℕ) (prefix file : List ℕ) (limits : Limits) (content content' : Option Files) (input before now : Option (List ℕ)) (end : Outcome)

@@ -13,8 +13,10 @@ use crate::reading::Found;
 use crate::tasks::reads_input;
 use crate::writing::write_made;
 use approx_text::approximate_of;
+use certify_text::certified_of;
 use check_text::checked_of;
 use cli_words::Request;
+use nary_text::list_inclusions_of;
 use normalize_text::{demo_text_of, normalized_of};
 use ports::{Gate, Loading, Shelf, Sink, Source, load};
 use profile_text::{reports_of, session_of};
@@ -64,6 +66,12 @@ fn made_of<R: Threads + Wait + Sync, G: Gate + Sync>(
         Request::Check { .. } => {
             let relation = relations.swap_remove(0);
             checked_of(rt, means, relation, texts[0].bytes())
+        }
+        Request::Nary { width, files } => {
+            list_inclusions_of(rt, means, *width, files.as_slice(), relations)
+        }
+        Request::Certify { name, file, .. } => {
+            certified_of(rt, means, name, file, relations.swap_remove(0))
         }
     }
 }

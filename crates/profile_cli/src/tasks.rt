@@ -22,6 +22,8 @@ pub(crate) fn reads_of<'a>(request: &'a Request) -> Reads<'a>
         Request::Check { file, certificate } => {
             Reads::of(slice::from_ref(file), slice::from_ref(certificate))
         }
+        Request::Nary { files, .. } => Reads::of(files.as_slice(), &[]),
+        Request::Certify { file, .. } => Reads::of(slice::from_ref(file), &[]),
     }
 }
 
@@ -46,5 +48,7 @@ pub(crate) fn into_file(request: Request, place: usize) -> Name
         Request::Demo { .. } => unreachable!(),
         Request::Approx { file, .. } => file,
         Request::Check { file, certificate } => { if place == 0 { file } else { certificate } }
+        Request::Nary { files, .. } => files.into_name(place),
+        Request::Certify { file, .. } => file,
     }
 }

@@ -6,6 +6,7 @@ mod approximate;
 mod beside;
 mod certificates;
 mod hostile;
+mod lists;
 mod reports;
 mod sessions;
 mod sizes;
@@ -14,7 +15,8 @@ mod tables;
 mod words;
 
 use approximate::APPROXIMATE;
-use certificates::CERTIFICATES;
+use certificates::{CERTIFICATES, CERTIFIED};
+use lists::LISTS;
 use ports::{Gate, Kind, MemShelf, MemSink, MemSource, OpenGate, Text};
 use profile_cli::{Outcome, run};
 use rel_base::{Limits, Name};
@@ -319,8 +321,20 @@ fn dependencies_that_hold_but_for_a_few_rows(rt: HostRuntime) -> Result<(), Fail
 }
 
 #[test]
+fn inclusions_of_lists_among_files(rt: HostRuntime) -> Result<(), Fail> {
+    expect_all(&rt, rt.alloc(), &LISTS)?;
+    Ok(())
+}
+
+#[test]
 fn texts_that_are_certificates_and_texts_that_are_none(rt: HostRuntime) -> Result<(), Fail> {
     expect_all(&rt, rt.alloc(), &CERTIFICATES)?;
+    Ok(())
+}
+
+#[test]
+fn certificates_of_the_rows_beside_their_report(rt: HostRuntime) -> Result<(), Fail> {
+    expect_all(&rt, rt.alloc(), &CERTIFIED)?;
     Ok(())
 }
 

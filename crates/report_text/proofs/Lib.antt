@@ -5,3 +5,4 @@ pub mod PlainText
 pub mod PlainColumns
 pub mod Numbered
 pub mod Marks
+pub mod MarksText

@@ -4,7 +4,8 @@ use Rattle.std.specs.List.{enumerate_from, flat_map}
 use Rattle.std.proofs.lemmas.List.FromFn.{length-map-range_with_len}
 use Rattle.std.proofs.lemmas.List.Elements.{All-get_or}
 use Rattle.std.proofs.lemmas.List.Sums.{sum_by-cons}
-use Rattle.report_text.specs.Inclusions.{column_mark, column_marks, relation_marks}
+use Rattle.report_text.specs.Inclusions.{column_marks, relation_marks}
+use Rattle.report_text.specs.Field.{column_mark}
 
 length-marks_from : (n : ℕ) (widths : List ℕ) → length (flat_map relation_marks (enumerate_from n widths)) ≡ sum widths
 length-marks_from n [] = refl

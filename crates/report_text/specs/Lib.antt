@@ -5,3 +5,4 @@ pub mod Report
 pub mod Inclusions
 pub mod Tables
 pub mod Outcome
+pub mod Certificate

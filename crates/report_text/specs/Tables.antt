@@ -26,6 +26,10 @@ table_lines alternates table = table_line table.0 table.1 ++ flat_map alternate_
 unfoldable pub tables_text : List Table → List (ℕ × Columns) → List ℕ
 tables_text tables alternates = flat_map (table_lines alternates) (enumerate_from 1 tables)
 
+-- columns of a table whose rows are among those of another table on them, which they are a key of
+abbrev pub reference_line : ℕ → Columns → ℕ → List ℕ
+reference_line from key into = line (codes "reference" ∷ decimal from ∷ columns_text key ∷ decimal into ∷ [])
+
 -- the names of the columns, and then the rows
 unfoldable pub table_file_text : Row → List Row → List ℕ
 table_file_text names rows = line names ++ flat_map line rows

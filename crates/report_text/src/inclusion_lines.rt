@@ -1,12 +1,12 @@
 // Inclusions between columns.
-ghost use Rattle.std.specs.Prelude.{◌≡◌, ◌<◌, ◌++◌, [], sum, All, IfOk, OnOk, OnErr};
+ghost use Rattle.std.specs.Prelude.{◌≡◌, ◌<◌, ◌++◌, ◌+◌, [], sum, All, IfOk, OnOk, OnErr};
 ghost use Rattle.csv.specs.Records.{fields_of, partial_of};
-ghost use Rattle.report_text.specs.Inclusions.{inclusions_text, column_marks, column_mark, relation_marks};
+ghost use Rattle.report_text.specs.Field.{column_mark};
+ghost use Rattle.report_text.specs.Inclusions.{inclusions_text, inclusion_word, column_marks, list_inclusion_line, relation_marks};
 
 use crate::Lines;
-use crate::field::Field;
+use crate::field::{Field, push_mark};
 use csv::ByteRecord;
-use itoa::Buffer;
 use rel_base::Row;
 use std::alloc::{AllocError, Global};
 
@@ -52,6 +52,36 @@ impl Lines {
         }
         Ok(())
     }
+
+    /// Adds the line of an inclusion of lists: columns of one relation, and beside each of them the column of a relation that it is included in.
+    ///
+    /// Relations are numbered from 1, and columns are counted from 0. The names of the columns are made in memory that the next line uses again.
+    pub fn push_list_inclusion(
+        &mut self,
+        dep_rel: u64,
+        dep_cols: &[u8],
+        into_rel: u64,
+        into_cols: &[u8],
+    ) -> Result<(), AllocError>
+        ensures ok { OnOk result (self.new ≡ self.old ++ list_inclusion_line dep_rel dep_cols.now into_rel into_cols.now) }
+        ensures err { OnErr result (self.new ≡ []) }
+    {
+        self.push(&[
+            Field::Bytes(inclusion_word(dep_cols)),
+            Field::Marks(dep_rel, dep_cols),
+            Field::Marks(into_rel, into_cols),
+        ])
+    }
+}
+
+// The word of an inclusion: lists of one column are columns.
+fn inclusion_word(columns: &[u8]) -> &'static [u8]
+    ensures { result.now ≡ inclusion_word columns.now }
+{
+    match columns {
+        [_] => b"ind",
+        _ => b"nind",
+    }
 }
 
 // What names each column of relations of these widths. Many lines name one column, so each name is
@@ -79,19 +109,16 @@ fn push_relation_marks(
         (fields_of marks.new ≡ fields_of marks.old ++ relation_marks (relation, width)) }
 {
     for column in 0..width {
-        write_mark(mark, relation, column + 1)?;
+        write_mark(mark, relation, column)?;
         marks.push_field(mark.as_slice())?;
     }
     Ok(())
 }
 
-// Puts what names a column in the place of what `mark` holds.
+// Puts the name of a column, which is counted from 0, in the place of what `mark` holds.
 fn write_mark(mark: &mut Vec<u8>, relation: u64, column: u8) -> Result<(), AllocError>
-    ensures { OnOk result (mark.new.items ≡ column_mark relation column) }
+    ensures { OnOk result (mark.new.items ≡ column_mark relation (column + 1)) }
 {
-    let mut number = Buffer::new();
     mark.clear();
-    mark.extend_from_slice(number.format(relation).as_bytes())?;
-    mark.push(b'.')?;
-    mark.extend_from_slice(number.format(column).as_bytes())
+    push_mark(mark, relation, column)
 }

@@ -3,6 +3,7 @@
 //! Each line is one record of csv. `Lines` takes several texts one after another.
 #![tactic(auto)]
 
+mod certificate_lines;
 mod field;
 mod inclusion_lines;
 mod lines;
@@ -12,6 +13,7 @@ mod plain_line;
 mod report_lines;
 mod table_lines;
 
+pub use certificate_lines::certificate;
 pub use inclusion_lines::inclusions;
 pub use lines::Lines;
 pub use outcome_lines::{applied_line, demo_line, fault_line, file_line, refused_line};

@@ -3,7 +3,7 @@ ghost use Rattle.std.specs.Prelude.{◌≡◌, ◌++◌, [], map, IfOk, OnOk, On
 ghost use Rattle.report_text.specs.Field.{field_bytes};
 ghost use Rattle.report_text.specs.Line.{line, text_in, AddsField, EndsLine, IsAtLine};
 
-use crate::field::{Field, write_columns};
+use crate::field::{Field, write_columns, write_marks};
 use csv::{Writer, WriterBuilder};
 use itoa::Buffer;
 use rel_base::Row;
@@ -18,7 +18,7 @@ use std::mem;
 #[derive(Drop)]
 pub struct Lines {
     writer: Writer<Vec<u8>>,
-    // The text of the last column set, whose memory is used again.
+    // The text of the last column set or list, whose memory is used again.
     columns: Vec<u8>,
     alloc: Global,
 }
@@ -166,6 +166,10 @@ fn write_field(
         Field::Number(number) => write_bytes(writer, Buffer::new().format(*number).as_bytes()),
         Field::Columns(set) => {
             write_columns(columns, *set)?;
+            write_bytes(writer, columns.as_slice())
+        }
+        Field::Marks(relation, list) => {
+            write_marks(columns, *relation, list)?;
             write_bytes(writer, columns.as_slice())
         }
     }

@@ -89,7 +89,7 @@ impl Lines {
         Ok(())
     }
 
-    fn push_keys(&mut self, keys: &[ColSet]) -> Result<(), AllocError>
+    pub(crate) fn push_keys(&mut self, keys: &[ColSet]) -> Result<(), AllocError>
         ensures ok { OnOk result (self.new ≡ self.old ++ flat_map key_line keys.now) }
         ensures err { OnErr result (self.new ≡ []) }
     {

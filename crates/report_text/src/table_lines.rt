@@ -1,7 +1,7 @@
 // Tables, and the files of their rows.
 ghost use Rattle.std.specs.Prelude.{◌≡◌, ◌++◌, [], IfOk, OnOk, OnErr};
 ghost use Rattle.std.specs.List.{flat_map};
-ghost use Rattle.report_text.specs.Tables.{tables_text, table_file_text, alternate_line, alternates_of};
+ghost use Rattle.report_text.specs.Tables.{tables_text, table_file_text, alternate_line, alternates_of, reference_line};
 
 use crate::Lines;
 use crate::field::Field;
@@ -55,6 +55,19 @@ impl Lines {
             self.push_alternates(number, alternates)?;
         }
         Ok(())
+    }
+
+    /// Adds the line of a reference: a table by its number, columns of it, and the number of the table that they are a key of.
+    pub fn push_reference(&mut self, from: u32, key: ColSet, into: u32) -> Result<(), AllocError>
+        ensures ok { OnOk result (self.new ≡ self.old ++ reference_line from key into) }
+        ensures err { OnErr result (self.new ≡ []) }
+    {
+        self.push(&[
+            Field::Bytes(b"reference"),
+            Field::Number(u64::from(from)),
+            Field::Columns(key),
+            Field::Number(u64::from(into)),
+        ])
     }
 
     fn push_alternates(

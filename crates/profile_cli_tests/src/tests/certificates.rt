@@ -1,11 +1,12 @@
-// What `check` writes.
-use super::{Case, R, SURE, is_same, run_of};
+// What `check` and `certify` write.
+use super::{Case, R, R_REPORT, SURE, is_same, run_of};
 use rel_base::{Limits, MOST_CELL_BYTES, MOST_COLUMNS, MOST_ROWS};
 use std::test::Fail;
 
 const CHECK: &[&str] = &["depprof", "check", "r.csv", "c"];
 
-const PROVEN: &str = "cert,3,3\npair,1,2\npair,1,3\nkey,1\nfd,1,2\nfd,3,2\nfd,1,3\nfd,2,3\nend\n";
+pub const PROVEN: &str =
+    "cert,3,3\npair,1,2\npair,1,3\nkey,1\nfd,1,2\nfd,3,2\nfd,1,3\nfd,2,3\nend\n";
 
 const LACKS_A_PAIR: &str = "cert,3,3\npair,1,2\nkey,1\nfd,1,2\nfd,3,2\nfd,1,3\nfd,2,3\nend\n";
 
@@ -16,6 +17,44 @@ const OF_FEWER_ROWS: &str =
     "cert,3,2\npair,1,2\npair,1,3\nkey,1\nfd,1,2\nfd,3,2\nfd,1,3\nfd,2,3\nend\n";
 
 const WITHOUT_END: &str = "cert,3,3\npair,1,2\npair,1,3\nkey,1\nfd,1,2\nfd,3,2\nfd,1,3\nfd,2,3\n";
+
+pub static CERTIFIED: [Case<'static>; 4] = [
+    Case {
+        words: &["depprof", "certify", "--out", "c", "r.csv"],
+        files: &[("r.csv", R)],
+        input: "",
+        text: &[R_REPORT],
+        tables: &[("c", PROVEN)],
+        status: 0,
+    },
+    // The certificate takes the place of the file that was read.
+    Case {
+        words: &["depprof", "certify", "--workers=1", "r.csv", "--out=r.csv"],
+        files: &[("r.csv", R)],
+        input: "",
+        text: &[R_REPORT],
+        tables: &[("r.csv", PROVEN)],
+        status: 0,
+    },
+    // Without rows no pair is there, and the empty set is all.
+    Case {
+        words: &["depprof", "certify", "--out", "c", "bare.csv"],
+        files: &[("bare.csv", "a\n")],
+        input: "",
+        text: &["relation,bare.csv,1,0\ncolumn,1,a\nkey,\nfd,,1\n"],
+        tables: &[("c", "cert,1,0\nkey,\nfd,,1\nend\n")],
+        status: 0,
+    },
+    // Two equal rows are a pair, and no column set is a key.
+    Case {
+        words: &["depprof", "certify", "--out", "c", "twice.csv"],
+        files: &[("twice.csv", "a\nx\nx\n")],
+        input: "",
+        text: &["relation,twice.csv,1,2\ncolumn,1,a\nfd,,1\n"],
+        tables: &[("c", "cert,1,2\npair,1,2\nfd,,1\nend\n")],
+        status: 0,
+    },
+];
 
 pub static CERTIFICATES: [Case<'static>; 8] = [
     Case {

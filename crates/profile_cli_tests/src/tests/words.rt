@@ -8,9 +8,9 @@ use std::test::Fail;
 use std::thread::Threads;
 
 pub const USAGE: &str =
-    "usage: depprof profile [--workers N] [--nulls equal|distinct] FILE.. | normalize [--workers N] --out PREFIX FILE | session [--workers N] [--nulls equal|distinct] FILE | demo [--workers N] SEED | approx --errors E FILE | check FILE CERT\n";
+    "usage: depprof profile [--workers N] [--nulls equal|distinct] FILE.. | normalize [--workers N] --out PREFIX FILE | session [--workers N] [--nulls equal|distinct] FILE | demo [--workers N] SEED | approx --errors E FILE | nary [--width W] FILE.. | certify [--workers N] --out NAME FILE | check FILE CERT\n";
 
-static NO_COMMAND: [&[&str]; 37] = [
+static NO_COMMAND: [&[&str]; 45] = [
     &[],
     &["depprof"],
     &["depprof", "profile"],
@@ -72,6 +72,14 @@ static NO_COMMAND: [&[&str]; 37] = [
     &["depprof", "check", "r.csv"],
     &["depprof", "check", "r.csv", "c", "d"],
     &["depprof", "check", "--workers", "2", "r.csv", "c"],
+    &["depprof", "nary"],
+    &["depprof", "nary", "--width", "1", "r.csv"],
+    &["depprof", "nary", "--width", "5", "r.csv"],
+    &["depprof", "nary", "--width", "x", "r.csv"],
+    &["depprof", "nary", "--workers", "2", "r.csv"],
+    &["depprof", "certify", "r.csv"],
+    &["depprof", "certify", "--out", "c"],
+    &["depprof", "certify", "--out", "c", "r.csv", "r.csv"],
 ];
 
 static OPTIONS: [&[&str]; 8] = [

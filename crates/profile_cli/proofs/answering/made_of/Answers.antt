@@ -4,6 +4,8 @@ use Rattle.rel_base.specs.RowState.{opened}
 use Rattle.rel_base.specs.declared.nulls.Nulls.TheVariants.{Equal}
 use Rattle.approx_text.specs.Approximate.{approx_text}
 use Rattle.check_text.specs.Answers.{check_text}
+use Rattle.nary_text.specs.Inclusions.{nary_text}
+use Rattle.certify_text.specs.Certified.{Certifies}
 use Rattle.cli_words.specs.declared.request.Request.{Request}
 use Rattle.normalize_text.specs.Normalize.{normalized}
 use Rattle.profile_text.specs.Reports.{reports}
@@ -127,3 +129,39 @@ returns-in-Check g c =
     (λ made e. subst (λ (r : Request). (task_of r).writes limits from made) (sym c.in-Check.is)
     (e ∙ ap₂ (λ (r : Content) (bytes : List ℕ). text_alone (check_text (opened Equal limits.rows r) bytes)) first second))
     c.checked_of.ensures
+
+pub swap_remove-requires-in-Certify : goal.swap_remove-requires-in-Certify
+unfolding task_of
+swap_remove-requires-in-Certify g c =
+    let one : length c.args.found.relations.items ≡ 1 = c.requires.relations ∙ ap (λ (r : Request). length (relation_names (task_of r).reads)) c.in-Certify.is in
+    let long = c.args.found.relations.ok.0 in
+    omega arith
+
+pub returns-in-Certify : goal.returns-in-Certify
+unfolding task_of
+returns-in-Certify g c =
+    let limits = c.args.means.now.limits in
+    let rs : List Content = c.args.found.relations.items in
+    let from : Sources = record { relations = rs; texts = c.args.found.texts.items; input = c.args.input.now } in
+    let one : length rs ≡ 1 = c.requires.relations ∙ ap (λ (r : Request). length (relation_names (task_of r).reads)) c.in-Certify.is in
+    let first : c.swap_remove-in-Certify.result ≡ get_or rs 0 (content_of []) = at_place rs 0 c.swap_remove-in-Certify.result (content_of []) (omega arith) c.swap_remove-in-Certify.ensures.value in
+    IfOk-map c.certified_of.result
+    (λ made e. subst (λ (r : Request). (task_of r).writes limits from made) (sym c.in-Certify.is)
+    (subst (λ (r : Content). Certifies c.in-Certify.name c.in-Certify.file (opened Equal limits.rows r) made) first e))
+    c.certified_of.ensures
+
+pub list_inclusions_of-requires-clause-named : goal.list_inclusions_of-requires-clause-named
+unfolding task_of
+list_inclusions_of-requires-clause-named g c κs within =
+    c.requires.relations ∙ ap (λ (r : Request). length (relation_names (task_of r).reads)) c.in-Nary.is ∙ ap length (relation_names-alone c.in-Nary.files) ∙ ap length (sym c.as_slice-in-Nary.ensures)
+
+pub returns-in-Nary : goal.returns-in-Nary
+unfolding task_of
+returns-in-Nary g c =
+    let limits = c.args.means.now.limits in
+    let rs : List Content = c.args.found.relations.items in
+    let from : Sources = record { relations = rs; texts = c.args.found.texts.items; input = c.args.input.now } in
+    IfOk-map c.list_inclusions_of.result
+    (λ made e. subst (λ (r : Request). (task_of r).writes limits from made) (sym c.in-Nary.is)
+    (e ∙ ap (λ (names : List (List ℕ)). text_alone (nary_text c.in-Nary.width names (map (opened Equal limits.rows) rs))) c.as_slice-in-Nary.ensures))
+    c.list_inclusions_of.ensures

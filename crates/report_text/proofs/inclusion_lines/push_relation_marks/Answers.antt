@@ -1,7 +1,7 @@
 use Rattle.std.proofs.Common.{◌≡◌, ◌∙◌, ◌+◌, ◌++◌, ap, sym, append_assoc, arith}
 use Rattle.std.proofs.lemmas.List.FromFn.{map-range_with_len_more}
 use Rattle.csv.specs.Records.{fields_of}
-use Rattle.report_text.specs.Inclusions.{column_mark}
+use Rattle.report_text.specs.Field.{column_mark}
 use Rattle.report_text.proofs.inclusion_lines.push_relation_marks.Goals as goal
 
 pub loop-column-preserved : goal.loop-column-preserved

@@ -1,0 +1,5 @@
+pub mod Reached
+pub mod Canonical
+pub mod Tables
+pub mod References
+pub mod Shorter

@@ -1,0 +1,15 @@
+//! Tables in third normal form that keep every dependency, made by synthesis (Bernstein, 1976).
+#![tactic(auto)]
+
+mod choosing;
+mod keeping;
+mod reach;
+mod reference;
+mod referring;
+mod tables;
+
+pub use choosing::shorter;
+pub use keeping::canonical;
+pub use reference::Reference;
+pub use referring::references;
+pub use tables::synthesize;
