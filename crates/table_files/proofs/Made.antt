@@ -1,5 +1,5 @@
 -- Lists that several threads made.
-use Rattle.std.proofs.Common.{◌≡◌, ◌∙◌, refl, sym, ap, ap₂, subst, List, [], ◌∷◌, ◌++◌, map, Result, Ok, Err, IfOk, MatchResult, Vec, Global}
+use Rattle.std.proofs.Common.{◌≡◌, refl, sym, ap₂, subst, List, [], ◌∷◌, map, Result, Ok, Err, IfOk, MatchResult, Vec, Global}
 use Rattle.std.specs.List.{All, AllZip, Contains}
 use Rattle.std.specs.declared.alloc.AllocError.{AllocError}
 use Rattle.std.proofs.lemmas.List.Elements.{All-cons, All-nil}

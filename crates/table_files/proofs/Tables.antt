@@ -1,5 +1,5 @@
 -- Numbered tables and their keys.
-use Rattle.std.proofs.Common.{◌≡◌, ◌∙◌, ◌==◌, ◌+◌, ◌<◌, ◌^◌, ℕ, suc, not, refl, sym, ap, ap₂, arith, List, [], ◌∷◌, ◌++◌, map}
+use Rattle.std.proofs.Common.{◌≡◌, ◌==◌, ◌+◌, ◌<◌, ◌^◌, ℕ, suc, not, refl, sym, ap, ap₂, arith, List, [], ◌∷◌, ◌++◌, map}
 use Rattle.std.specs.List.{All, enumerate_from, filter, flat_map}
 use Rattle.col_set.specs.ColSet.{Columns}
 use Rattle.rel_base.specs.declared.dependency.Table.{Table}
@@ -9,7 +9,7 @@ use Rattle.rel_base.specs.RowState.{IsRowState, RowState, width}
 use Rattle.key_finder.proofs.Tells.{Evidence-tells}
 use Rattle.key_finder.specs.Keys.{keys_within}
 use Rattle.lossless_join.specs.Parts.{projection_keys}
-use Rattle.table_files.specs.Keys.{all_keys, all_keys_within, alternates, alternates_within, numbered_keys, numbered_keys_within, other_keys, other_keys_within}
+use Rattle.table_files.specs.Keys.{all_keys, all_keys_within, alternates, alternates_within}
 
 -- one list for each element
 pub flat-one : {X : Type 0} (xs : List X) → flat_map (λ x. x ∷ []) xs ≡ xs

@@ -63,7 +63,13 @@ fn file_of(
 {
     let name = table_name(alloc, prefix, sheet.number)?;
     let room = sheet.bytes as usize;
-    let text = text_of(alloc, rows, sheet.rows.as_slice(), sheet.table.columns, room)?;
+    let text = text_of(
+        alloc,
+        rows,
+        sheet.rows.as_slice(),
+        sheet.table.columns,
+        room,
+    )?;
     Ok((name, Text::of(text)))
 }
 

@@ -39,11 +39,7 @@ pub fn keys_of_tables(
 }
 
 // The keys by agree sets of so many columns.
-fn keys_by(
-    alloc: Global,
-    agree_sets: &[ColSet],
-    tables: &[Table],
-) -> Result<TableKeys, AllocError>
+fn keys_by(alloc: Global, agree_sets: &[ColSet], tables: &[Table]) -> Result<TableKeys, AllocError>
     ensures all { IfOk result (λ found. (n : ℕ) → All (λ table. table.columns < 2 ^ n) tables.now → found.all.items ≡ words.all_keys_within n agree_sets.now tables.now) }
     ensures others { IfOk result (λ found. (n : ℕ) → All (λ table. table.columns < 2 ^ n) tables.now → found.others.items ≡ words.alternates_within n agree_sets.now tables.now) }
 {

@@ -1,5 +1,5 @@
-use Rattle.std.proofs.Common.{◌≡◌, ◌∙◌, ◌<◌, ◌^◌, ◌++◌, ℕ, List, ap, map, subst, sym}
-use Rattle.std.specs.List.{All, enumerate_from}
+use Rattle.std.proofs.Common.{◌∙◌, ◌<◌, ◌^◌, ℕ, List, ap, map, subst, sym}
+use Rattle.std.specs.List.{All}
 use Rattle.rel_base.specs.declared.dependency.Table.{Table}
 use Rattle.rel_base.specs.RowState.{width}
 use Rattle.table_files.specs.declared.sheets.Sheet.{Sheet}

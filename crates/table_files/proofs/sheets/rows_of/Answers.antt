@@ -1,9 +1,7 @@
-use Rattle.std.proofs.Common.{◌≡◌, ◌∙◌, ◌<◌, ◌^◌, ℕ, ap, subst, sym, map, List}
+use Rattle.std.proofs.Common.{◌≡◌, ◌<◌, ◌^◌, subst, sym, map}
 use Rattle.col_set.specs.ColSet.{Columns}
-use Rattle.rel_base.specs.Cells.{Row}
 use Rattle.rel_base.specs.Projection.{part, projection}
 use Rattle.rel_base.specs.RowState.{row, width}
-use Rattle.first_rows.specs.First.{first_rows}
 use Rattle.table_files.proofs.Rows.{first_rows-given}
 use Rattle.table_files.proofs.sheets.rows_of.Goals as goal
 

@@ -1,4 +1,4 @@
-use Rattle.std.proofs.Common.{◌≡◌, ◌∙◌, ◌<◌, ◌^◌, ◌++◌, ℕ, List, drop, subst, sym}
+use Rattle.std.proofs.Common.{◌<◌, ◌^◌, ℕ, List, subst, sym}
 use Rattle.std.specs.List.{All}
 use Rattle.std.proofs.lemmas.List.Elements.{All-append, All-drop}
 use Rattle.rel_base.specs.declared.dependency.Table.{Table}

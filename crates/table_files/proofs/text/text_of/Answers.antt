@@ -1,4 +1,4 @@
-use Rattle.std.proofs.Common.{◌≡◌, ◌∙◌, ◌++◌, ℕ, List, ap, map, take_all}
+use Rattle.std.proofs.Common.{◌∙◌, ◌++◌, ℕ, List, ap, map, take_all}
 use Rattle.std.specs.List.{flat_map}
 use Rattle.rel_base.specs.Cells.{cell}
 use Rattle.rel_base.specs.RowState.{row}
