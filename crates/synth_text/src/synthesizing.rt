@@ -1,9 +1,9 @@
 // The tables of `synthesize`, and the references between them.
-ghost use Rattle.std.specs.Prelude.{◌≡◌, ◌++◌, ◌<◌, ◌≤◌, ◌^◌, None, IfOk, OnOk, OnErr};
+ghost use Rattle.std.specs.Prelude.{◌≡◌, ◌++◌, ◌<◌, ◌≤◌, ◌^◌, None, IfOk, OnOk};
 ghost use Rattle.std.specs.List.{All, flat_map};
 ghost use Rattle.rel_base.specs.declared.nulls.Nulls.TheVariants.{Equal};
 ghost use Rattle.rel_base.specs.Covers.{covers, least_covers};
-ghost use Rattle.rel_base.specs.RowState.{opened, width, IsRowState};
+ghost use Rattle.rel_base.specs.RowState.{opened, width};
 ghost use Rattle.cover_steps.specs.Core.{first_unfinished as first_unfinished_of};
 ghost use Rattle.negative_cover.specs.Witnesses.{sets_of};
 ghost use Rattle.table_files.specs.Keys.{all_keys, alternates};
@@ -67,6 +67,7 @@ fn push_references(lines: &mut Lines, references: &[Reference]) -> Result<(), Al
 }
 
 // Adds the lines of tables and of the references between them.
+#[tactic(auto, unfolding(crate::specs::Synthesize::tables_and_references))]
 fn push_tables(
     alloc: Global,
     lines: &mut Lines,
@@ -98,9 +99,10 @@ fn push_synthesized<R: Threads + Sync, G>(
 {
     let found = push_whole_report(rt, means, lines, file, book)?;
     let tables = tables_of(means.alloc, book.rows(), &found, most)?;
-    let keys = keys_of(means.alloc, book, &tables)?;
-    push_tables(means.alloc, lines, &tables, &keys)?;
-    files_of(rt, means.alloc, means.workers, prefix, book.rows(), &tables)
+    let tables = tables.as_slice();
+    let keys = keys_of(means.alloc, book, tables)?;
+    push_tables(means.alloc, lines, tables, &keys)?;
+    files_of(rt, means.alloc, means.workers, prefix, book.rows(), tables)
 }
 
 /// What `synthesize` writes for the relation of this file, by the dependencies with at most `most` columns on the left.
