@@ -38,11 +38,7 @@ fn tables_of(
 }
 
 // The minimal keys of the tables of a book's rows.
-fn keys_of(
-    alloc: Global,
-    book: &Book,
-    tables: &[Table],
-) -> Result<TableKeys, AllocError>
+fn keys_of(alloc: Global, book: &Book, tables: &[Table]) -> Result<TableKeys, AllocError>
     requires below { All (λ table. table.columns < 2 ^ width book.now.rows) tables.now }
     requires equal { book.now.rows.nulls ≡ Equal }
     requires evidence { covers book.now.rows ≡ least_covers (width book.now.rows) (sets_of book.now.witnesses) }
