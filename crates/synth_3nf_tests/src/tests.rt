@@ -289,9 +289,10 @@ fn plain_references(
     keys: &[(u32, ColSet)],
 ) -> Result<Vec<Reference>, AllocError> {
     let mut found = Vec::new(alloc);
-    for (place, table) in tables.iter().enumerate() {
+    let mut from = 0u32;
+    for table in tables {
+        from = from.wrapping_add(1);
         for (to, columns) in keys {
-            let from = (place as u32).wrapping_add(1);
             if from != *to && columns.len() > 0 && columns.minus(table.columns).len() == 0 {
                 found.push(Reference {
                     from,
@@ -314,10 +315,12 @@ fn drawn_references(rt: HostRuntime) -> Result<(), Fail> {
         let covers = drawn_covers(&rt, alloc, &mut samples, 6, 8)?;
         let tables = tables_of(&rt, alloc, &covers, 6)?;
         let mut keys = Vec::new(alloc);
-        for (place, table) in tables.iter().enumerate() {
-            keys.push(((place as u32).wrapping_add(1), table.key))?;
+        let mut number = 0u32;
+        for table in tables.as_slice() {
+            number = number.wrapping_add(1);
+            keys.push((number, table.key))?;
             let drawn = ColSet::of_bits(u128::from(samples.below(64)));
-            keys.push(((place as u32).wrapping_add(1), drawn.inter(table.columns)))?;
+            keys.push((number, drawn.inter(table.columns)))?;
         }
         let found = references(alloc, tables.as_slice(), keys.as_slice())?;
         let wanted = plain_references(alloc, tables.as_slice(), keys.as_slice())?;

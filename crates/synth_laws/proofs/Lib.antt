@@ -1,0 +1,4 @@
+pub mod Reach
+pub mod Needed
+pub mod Around
+pub mod Kept
