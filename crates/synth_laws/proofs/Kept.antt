@@ -1,8 +1,8 @@
 -- Tables keep the canonical dependencies, and their keys reach them.
 use Rattle.std.proofs.Common.{inl, inr, ◌≡◌, ◌⊎◌, ℕ, ◌<◌, ◌^◌, Bool, true, false, cond, ◌&&◌, eqb, refl, sym, ap, ◌∙◌, subst, List, [], ◌∷◌, ◌++◌}
-use Rattle.std.specs.List.{All, Contains, list_any}
+use Rattle.std.specs.List.{All, list_any}
 use Rattle.std.proofs.lemmas.Bool.{and_parts, and_from, or_cases, or_left, or_right, eqb-true, eq-eqb}
-use Rattle.col_set.specs.ColSet.{Columns, IsSubset, all, has, subset, all_sets}
+use Rattle.col_set.specs.ColSet.{Columns, IsSubset, all, has, all_sets}
 use Rattle.col_set.specs.AllSets.{Listed-all_sets}
 use Rattle.col_set.specs.Lists.{Listed, Listed-append_left, Listed-append_right, Listed-append_cases, Listed-filter, Listed-map, Listed-map_which, list_any_at, list_any_which}
 use Rattle.col_set.specs.Subsets.{IsSubset-refl, IsSubset-trans, subset-true, true-subset}
@@ -10,15 +10,15 @@ use Rattle.col_set.proofs.Places.{Contains-listed, Listed-contained}
 use Rattle.rel_base.specs.declared.dependency.Fd.{Fd}
 use Rattle.rel_base.specs.declared.dependency.Table.{Table}
 use Rattle.rel_base.proofs.States.{All-listed}
-use Rattle.fd_closure.proofs.Shrinking.{shrunk-inside, shrunk-passes}
-use Rattle.synth_3nf.specs.Reached.{reached, follows}
+use Rattle.fd_closure.proofs.Shrinking.{shrunk-passes}
+use Rattle.synth_3nf.specs.Reached.{reached}
 use Rattle.synth_3nf.specs.Canonical.{canonical}
 use Rattle.synth_3nf.specs.Tables.{left_sides, with_rights, tables_of_lefts, reaches_all, whole_key, with_key_table, outermost, synthesis}
 use Rattle.synth_3nf.proofs.Trials.{canonical-listed, canonical-reached}
 use Rattle.synth_3nf.proofs.Tabling.{has-with_rights}
 use Rattle.synth_3nf.proofs.Below.{outermost-listed}
-use Rattle.synth_laws.specs.Keeping.{CanonicalMeans, HasBothSides, TablesKeep, HasWhole, IsReachedByKey, TablesReach}
-use Rattle.synth_laws.proofs.Reach.{reached-own, reached-by, reached-from, reached-more}
+use Rattle.synth_laws.specs.Keeping.{CanonicalMeans, TablesKeep, IsReachedByKey, TablesReach}
+use Rattle.synth_laws.proofs.Reach.{reached-own, reached-by, reached-more}
 use Rattle.synth_laws.proofs.Needed.{canonical-needed}
 use Rattle.synth_laws.proofs.Around.{around}
 

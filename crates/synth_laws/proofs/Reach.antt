@@ -3,7 +3,7 @@ use Rattle.std.proofs.Common.{◌≡◌, true, false, sym, ◌∙◌, List}
 use Rattle.std.proofs.lemmas.Bool.{true≢false, false_from_ne_true}
 use Rattle.col_set.specs.ColSet.{Columns, IsSubset, has}
 use Rattle.col_set.specs.Lists.{Listed}
-use Rattle.col_set.specs.Subsets.{IsSubset-refl, IsSubset-trans}
+use Rattle.col_set.specs.Subsets.{IsSubset-trans}
 use Rattle.col_set.proofs.Places.{Contains-listed, Listed-contained}
 use Rattle.rel_base.specs.declared.dependency.Fd.{Fd}
 use Rattle.synth_3nf.specs.Reached.{reached, follows}

@@ -1,7 +1,7 @@
 -- What tables by synthesis keep of the dependencies.
 use Rattle.std.specs.Prelude.{◌≡◌, ℕ, true, false, List, ◌∷◌, ◌++◌}
 use Rattle.std.specs.List.{Contains}
-use Rattle.col_set.specs.ColSet.{Columns, IsSubset, all, has}
+use Rattle.col_set.specs.ColSet.{IsSubset, all, has}
 use Rattle.rel_base.specs.declared.dependency.Fd.{Fd}
 use Rattle.rel_base.specs.declared.dependency.Table.{Table}
 use Rattle.synth_3nf.specs.Reached.{reached, follows}
