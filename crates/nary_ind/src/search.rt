@@ -34,10 +34,11 @@ pub fn included_lists<R: Threads + Sync>(
     ensures { IfOk result (λ found. found.items ≡ list_inclusions width relations.now) }
 {
     let known = Known::of(rt, alloc, relations, workers)?;
+    let mut lists = known.lists(alloc)?;
     let mut found = Vec::new(alloc);
     let mut level = first_level(alloc, &known)?;
     for columns in 0..width {
-        let next = next_level(alloc, &known, columns as usize, &level)?;
+        let next = next_level(alloc, &known, &mut lists, columns as usize, &level)?;
         push_level(&mut found, &next)?;
         level = next;
     }
