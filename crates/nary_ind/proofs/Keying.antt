@@ -129,5 +129,5 @@ all-listed [] found n l f key h = absurd h
 all-listed (x ∷ keys) found n l f key (inl e) = subst (λ (y : ℕ). Listed y found) (sym e) (f 0 (omega arith) (omega arith))
 all-listed (x ∷ keys) found n l f key (inr h) = all-listed keys found (n - 1) (omega arith) (λ k m g. f (suc k) (omega arith) (omega arith)) key h
 
-pub listed-place : (keys : List ℕ) (k : ℕ) (key : ℕ) → k < length keys → key ≡ get_or keys k key → Listed key keys
-listed-place keys k key l e = subst (λ (x : ℕ). Listed x keys) (sym e) (Listed-get_or keys k key l)
+pub listed-place : (keys : List ℕ) (k : ℕ) (key : ℕ) → k < length keys → key ≡ get_or keys k 0 → Listed key keys
+listed-place keys k key l e = subst (λ (x : ℕ). Listed x keys) (sym e) (Listed-get_or keys k 0 l)

@@ -58,7 +58,7 @@ fn keys_of_side(
     ensures keys { IfOk result (λ keys. AreKeysIn (table_at lists.old.tables.items side.now.rel) side.now.columns keys.items) }
 {
     let place = lists.place_of(alloc, side)?;
-    let keys = Vec::from_slice(alloc, &lists.entries[place].keys)?;
+    let keys = Vec::from_slice(alloc, &lists.entry(place).keys)?;
     Ok(keys)
 }
 
@@ -83,6 +83,6 @@ fn is_held(
     ensures held { IfOk result (λ held. held ≡ holds_among unary.now (from_to dependent.now candidate.now)) }
 {
     let place = lists.place_of(alloc, candidate)?;
-    let all = has_all(&lists.entries[place].keys, keys);
+    let all = has_all(&lists.entry(place).keys, keys);
     Ok(all)
 }

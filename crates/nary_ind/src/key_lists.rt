@@ -1,5 +1,5 @@
 // Lists of keys, kept as long as there is room.
-ghost use Rattle.std.specs.Prelude.{◌≡◌, ◌<◌, true, length, IfOk, IfSome, OnOk};
+ghost use Rattle.std.specs.Prelude.{◌≡◌, ◌<◌, true, Some, length, slice_get, IfOk, IfSome, OnOk};
 ghost use Rattle.nary_ind.specs.Tables.{table_at};
 ghost use Rattle.nary_ind.specs.Keys.{AreEntries, AreKeyed, IsEntryOf};
 
@@ -58,6 +58,22 @@ impl KeyLists {
         }
     }
 
+    /// What is kept at a place.
+    pub(crate) fn entry(&self, place: usize) -> &Entry
+        requires { place < length self.now.entries.items }
+        ensures { slice_get self.now.entries.items place ≡ Some result.now }
+    {
+        &self.entries[place]
+    }
+
+    // The table of the relation at a place.
+    fn table(&self, relation: usize) -> &Table
+        requires { relation < length self.now.tables.items }
+        ensures { slice_get self.now.tables.items relation ≡ Some result.now }
+    {
+        &self.tables[relation]
+    }
+
     // The place of the keys of a side, where they are kept.
     fn known_place(&self, side: &Side) -> Option<usize>
         ensures { IfSome result (λ place. IsEntryOf self.now place side.now) }
@@ -66,7 +82,7 @@ impl KeyLists {
         if place >= self.entries.len() {
             return None;
         }
-        if !are_same(&self.entries[place].side, side) {
+        if !are_same(&self.entry(place).side, side) {
             return None;
         }
         Some(place)
@@ -81,7 +97,7 @@ impl KeyLists {
         ensures tables { OnOk result (self.new.tables ≡ self.old.tables) }
         ensures place { IfOk result (λ place. IsEntryOf self.new place side.now) }
     {
-        let keys = keys_of(alloc, &self.tables[side.rel], side.columns.as_slice())?;
+        let keys = keys_of(alloc, self.table(side.rel), side.columns.as_slice())?;
         self.make_room(alloc, keys.len());
         let place = self.entries.len();
         self.places.insert(mark_of(side), place)?;

@@ -1,5 +1,5 @@
 // The keys of rows, and whether other rows have them.
-ghost use Rattle.std.specs.Prelude.{◌≡◌, ◌↔◌, true, ℕ, IfOk};
+ghost use Rattle.std.specs.Prelude.{◌≡◌, ◌↔◌, ◌<◌, true, ℕ, length, slice_index, IfOk};
 ghost use Rattle.std.specs.List.Sorted.{IsStrictlyIncreasing};
 ghost use Rattle.col_set.specs.Listing.{Listed};
 ghost use Rattle.nary_ind.specs.Keys.{AreKeyed, AreKeysIn, packed};
@@ -48,7 +48,7 @@ fn packed(key: &Key) -> u128
 
 fn distinct_in_order(keys: Vec<u128>) -> Vec<u128>
     ensures rises { IsStrictlyIncreasing result.items }
-    ensures each { (key : ℕ) → Listed key result.items ↔ Listed key keys.entry.items }
+    ensures each { (key : ℕ) → Listed key result.items ↔ Listed key keys.items }
 {
     let mut distinct = keys;
     distinct.sort_unstable();
@@ -62,12 +62,20 @@ pub(crate) fn has_all(found: &[u128], keys: &[u128]) -> bool
     requires { IsStrictlyIncreasing found.now }
     ensures { (result ≡ true) ↔ ((key : ℕ) → Listed key keys.now → Listed key found.now) }
 {
-    for key in keys {
-        if !has(found, *key) {
+    for place in 0..keys.len() {
+        if !has(found, key_at(keys, place)) {
             return false;
         }
     }
     true
+}
+
+// The key at a place.
+fn key_at(keys: &[u128], place: usize) -> u128
+    requires { place < length keys.now }
+    ensures { result ≡ slice_index keys.now place }
+{
+    keys[place]
 }
 
 // Whether a key is among these.
