@@ -8,11 +8,7 @@ use crate::table::{Key, Table};
 use std::alloc::{AllocError, Global};
 
 /// The keys of all rows in these columns that are not NULL throughout, each once, ascending. It takes 16 bytes a row.
-pub(crate) fn keys_of(
-    alloc: Global,
-    table: &Table,
-    columns: &[u8],
-) -> Result<Vec<u128>, AllocError>
+pub(crate) fn keys_of(alloc: Global, table: &Table, columns: &[u8]) -> Result<Vec<u128>, AllocError>
     requires { AreKeyed table.now columns.now }
     ensures rises { IfOk result (λ keys. IsStrictlyIncreasing keys.items) }
     ensures each { IfOk result (λ keys. AreKeysIn table.now columns.now keys.items) }

@@ -33,13 +33,13 @@ loop-candidate-preserved c = record {
   lists = c.in_ok-is_in.ensures.lists;
   keys = subst (λ (ts : List Coded). AreKeysIn (table_at ts c.args.dependent.now.rel) c.args.dependent.now.columns c.in_ok-keys.keys.items) (sym (ap (λ v. v.items) c.in_ok-is_in.ensures.tables)) c.loop-candidate.invariant.keys;
   held = elim c.if-is_in.branch [
-      | then-is_in+in_ok-push w ↦
-          taken-kept (λ (i : Side). holds_among c.args.unary.now (from_to c.args.dependent.now i)) c.args.candidates.now c.loop-candidate.candidate-index c.candidate-item.result c.loop-candidate.held.items c.if-is_in.held.items
-          c.loop-candidate-test.true c.candidate-item.is c.loop-candidate.invariant.held (sym c.in_ok-is_in.ensures.held ∙ w.if-is_in.true) (let r = w.held-is in let i = w.in_ok-push.ensures.items in let e = w.copied.ensures in cc)
-      | else-is_in w ↦
-          taken-left (λ (i : Side). holds_among c.args.unary.now (from_to c.args.dependent.now i)) c.args.candidates.now c.loop-candidate.candidate-index c.candidate-item.result c.loop-candidate.held.items c.if-is_in.held.items
-          c.loop-candidate-test.true c.candidate-item.is c.loop-candidate.invariant.held (sym c.in_ok-is_in.ensures.held ∙ w.if-is_in.false) (let r = w.held-is in cc)
-    ];
+    | then-is_in+in_ok-push w ↦
+        taken-kept (λ (i : Side). holds_among c.args.unary.now (from_to c.args.dependent.now i)) c.args.candidates.now c.loop-candidate.candidate-index c.candidate-item.result c.loop-candidate.held.items c.if-is_in.held.items
+        c.loop-candidate-test.true c.candidate-item.is c.loop-candidate.invariant.held (sym c.in_ok-is_in.ensures.held ∙ w.if-is_in.true) (let r = w.held-is in let i = w.in_ok-push.ensures.items in let e = w.copied.ensures in cc)
+    | else-is_in w ↦
+        taken-left (λ (i : Side). holds_among c.args.unary.now (from_to c.args.dependent.now i)) c.args.candidates.now c.loop-candidate.candidate-index c.candidate-item.result c.loop-candidate.held.items c.if-is_in.held.items
+        c.loop-candidate-test.true c.candidate-item.is c.loop-candidate.invariant.held (sym c.in_ok-is_in.ensures.held ∙ w.if-is_in.false) (let r = w.held-is in cc)
+  ];
 }
 
 pub returns-clause-held : goal.returns-clause-held

@@ -10,6 +10,6 @@ place_of-requires-clause-keyed c = keyed-of c.args.unary.now c.args.lists.now.ta
 
 pub returns-clause-keys : goal.returns-clause-keys
 returns-clause-keys c =
-    let made = entry-keys c.place_of.new.lists c.in_ok-place.ensures.entries c.in_ok-place.place c.args.side.now c.in_ok-place.ensures.place c.entry.result.now c.entry.ensures in
+    let made = entry-keys c.place_of.new.self c.in_ok-place.ensures.entries c.in_ok-place.place c.args.side.now c.in_ok-place.ensures.place c.entry.result.now c.entry.ensures in
     subst (λ (xs : List ℕ). AreKeysIn (table_at c.args.lists.now.tables.items c.args.side.now.rel) c.args.side.now.columns xs) (sym (c.in_ok-keys.ensures.items ∙ c.deref.ensures.value))
     (subst (λ (ts : List Coded). AreKeysIn (table_at ts c.args.side.now.rel) c.args.side.now.columns c.entry.result.now.keys.items) (ap (λ v. v.items) c.in_ok-place.ensures.tables) made)

@@ -16,14 +16,14 @@ loop-column-preserved c =
     record {
       lists = c.in_ok-more.ensures.lists;
       groups = elim c.if-has_some.branch [
-      | then-has_some+in_ok-push w ↦
-          kept-more has_some F c.loop-column.column (map grouped c.args.next.now.items) (map grouped c.loop-column.next.items) (map grouped c.if-has_some.next.items) c.loop-column.invariant.groups (more ∙ w.if-has_some.true)
-          (let e : c.if-has_some.next.items ≡ c.loop-column.next.items ++ c.in_ok-more.more ∷ [] = let r = w.next-is in let i = w.in_ok-push.ensures.items in cc in
-          ap (map grouped) e ∙ map_push grouped c.loop-column.next.items c.in_ok-more.more ∙ ap (λ (x : Side × List Side). map grouped c.loop-column.next.items ++ x ∷ []) c.in_ok-more.ensures.group)
-      | else-has_some w ↦
-          left-more has_some F c.loop-column.column (map grouped c.args.next.now.items) (map grouped c.loop-column.next.items) (map grouped c.if-has_some.next.items) c.loop-column.invariant.groups (more ∙ w.if-has_some.false)
-          (let e : c.if-has_some.next.items ≡ c.loop-column.next.items = let r = w.next-is in cc in ap (map grouped) e)
-    ];
+        | then-has_some+in_ok-push w ↦
+            kept-more has_some F c.loop-column.column (map grouped c.args.next.now.items) (map grouped c.loop-column.next.items) (map grouped c.if-has_some.next.items) c.loop-column.invariant.groups (more ∙ w.if-has_some.true)
+            (let e : c.if-has_some.next.items ≡ c.loop-column.next.items ++ c.in_ok-more.more ∷ [] = let r = w.next-is in let i = w.in_ok-push.ensures.items in cc in
+            ap (map grouped) e ∙ map_push grouped c.loop-column.next.items c.in_ok-more.more ∙ ap (λ (x : Side × List Side). map grouped c.loop-column.next.items ++ x ∷ []) c.in_ok-more.ensures.group)
+        | else-has_some w ↦
+            left-more has_some F c.loop-column.column (map grouped c.args.next.now.items) (map grouped c.loop-column.next.items) (map grouped c.if-has_some.next.items) c.loop-column.invariant.groups (more ∙ w.if-has_some.false)
+            (let e : c.if-has_some.next.items ≡ c.loop-column.next.items = let r = w.next-is in cc in ap (map grouped) e)
+      ];
     }
 
 pub returns-clause-groups : goal.returns-clause-groups

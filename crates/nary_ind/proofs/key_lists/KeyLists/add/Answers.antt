@@ -21,4 +21,4 @@ returns-clause-entries c =
 pub returns-clause-place : goal.returns-clause-place
 returns-clause-place c =
     let e : Entry = record { side = c.copied.result; keys = c.in_ok-keys.keys } in
-    (e, pushed-at c.make_room.new.self.entries.items c.push.new.self.items e c.len-place.result c.len-place.ensures c.in_ok-push.ensures.items, c.copied.ensures)
+    (e, pushed-at c.make_room.new.self.entries.items c.push.new.self.items e c.len-place.result (c.len-place.ensures ∙ c.make_room.new.self.entries.ok.0) c.in_ok-push.ensures.items, c.copied.ensures)
