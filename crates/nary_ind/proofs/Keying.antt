@@ -1,5 +1,5 @@
 -- Keys of rows.
-use Rattle.std.proofs.Common.{inl, inr, ◌≡◌, ◌≢◌, ◌⊎◌, ℕ, zero, suc, ◌+◌, ◌-◌, ◌<◌, ◌≤◌, Bool, true, false, eqb, is_ok, refl, sym, ap, ◌∙◌, subst, arith, List, [], ◌∷◌, ◌++◌, length, map, take, set, replicate, get_or, append_assoc, Result, Ok, Err}
+use Rattle.std.proofs.Common.{inl, inr, ◌≡◌, ◌⊎◌, ℕ, zero, suc, ◌+◌, ◌-◌, ◌<◌, ◌≤◌, true, eqb, is_ok, refl, sym, ap, ◌∙◌, subst, arith, List, [], ◌∷◌, ◌++◌, length, map, take, set, replicate, get_or, append_assoc, Result, Ok, Err}
 use Rattle.std.specs.Prelude.{◌↔◌, MatchResult}
 use Rattle.std.specs.List.{dedup}
 use Rattle.std.specs.List.Sorted.{IsBinarySearchResult, IsPermutation, IsStrictlyIncreasing}
@@ -10,7 +10,7 @@ use Rattle.std.proofs.lemmas.List.Kept.{AllPairs-from_increasing, Contains-dedup
 use Rattle.std.proofs.lemmas.List.Sorted.{searched, Contains-permutation, IsPermutation-sym}
 use Rattle.col_set.specs.Lists.{Listed, Listed-append_left, Listed-append_right, Listed-append_cases}
 use Rattle.col_set.proofs.Places.{Contains-listed, Listed-contained, Listed-get_or}
-use Rattle.nary_ind.specs.Tables.{Coded, key_in, number_in}
+use Rattle.nary_ind.specs.Tables.{Coded, number_in}
 use Rattle.nary_ind.specs.Keys.{IsKeyBelow, code_in}
 
 -- ---- a key more

@@ -1,6 +1,5 @@
 -- Keys as one number.
-use Rattle.std.proofs.Common.{inl, inr, ◌≡◌, ℕ, ◌+◌, ◌*◌, ◌-◌, ◌<◌, ◌≤◌, refl, sym, ap, ap₂, ◌∙◌, subst, arith, List, [], ◌∷◌, ◌++◌, length, map, replicate}
-use Rattle.col_set.specs.Lists.{Listed}
+use Rattle.std.proofs.Common.{inl, inr, ◌≡◌, ℕ, ◌+◌, ◌*◌, ◌<◌, refl, sym, ap, ap₂, ◌∙◌, arith, List, [], ◌∷◌}
 use Rattle.nary_ind.specs.Tables.{Coded, key_in, number_in}
 use Rattle.nary_ind.specs.Keys.{AreKeyed, code_in, packed}
 

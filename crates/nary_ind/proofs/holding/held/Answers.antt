@@ -1,6 +1,6 @@
-use Rattle.std.proofs.Common.{◌≡◌, ◌∙◌, [], ℕ, List, ap, arith, subst, sym}
+use Rattle.std.proofs.Common.{◌∙◌, List, ap, arith, subst, sym}
 use Rattle.std.specs.List.{filter}
-use Rattle.std.proofs.lemmas.List.{get_or_read, take_all}
+use Rattle.std.proofs.lemmas.List.{take_all}
 use Rattle.nary_ind.specs.declared.found.Side.{Side}
 use Rattle.nary_ind.specs.ListInclusions.{from_to, holds_among}
 use Rattle.nary_ind.specs.Tables.{Coded, table_at}

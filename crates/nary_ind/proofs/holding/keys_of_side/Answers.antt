@@ -1,4 +1,4 @@
-use Rattle.std.proofs.Common.{◌≡◌, ◌∙◌, ℕ, List, ap, arith, subst, sym}
+use Rattle.std.proofs.Common.{◌∙◌, ℕ, List, ap, subst, sym}
 use Rattle.nary_ind.specs.Tables.{Coded, table_at}
 use Rattle.nary_ind.specs.Keys.{AreKeysIn}
 use Rattle.nary_ind.proofs.Held.{keyed-of}

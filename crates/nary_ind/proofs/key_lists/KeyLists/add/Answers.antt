@@ -1,4 +1,4 @@
-use Rattle.std.proofs.Common.{◌≡◌, ◌∙◌, ℕ, List, ap, subst, sym}
+use Rattle.std.proofs.Common.{◌∙◌, ℕ, List, ap, subst, sym}
 use Rattle.nary_ind.specs.declared.found.Side.{Side}
 use Rattle.nary_ind.specs.declared.key_lists.Entry.{Entry}
 use Rattle.nary_ind.specs.Tables.{Coded, table_at}
