@@ -179,6 +179,24 @@ fn certify_of(alloc: Global, found: &ArgMatches) -> Result<Request, AllocError>
     })
 }
 
+fn most_of(found: &ArgMatches) -> u8
+    ensures { result ≡ words_of.most_of (rows_of (found_of found.now)) }
+{
+    found.get_one::<u8>("most").unwrap_or(128)
+}
+
+// What was found for the arguments of `synthesize`.
+fn synthesize_of(alloc: Global, found: &ArgMatches) -> Result<Request, AllocError>
+    ensures { IfOk result (λ request. request ≡ words_of.synthesize_request (rows_of (found_of found.now))) }
+{
+    Ok(Request::Synthesize {
+        workers: workers_of(found),
+        most: most_of(found),
+        prefix: prefix_of(alloc, found)?,
+        file: file_of(alloc, found)?,
+    })
+}
+
 // The request of the subcommand of this name.
 fn named(alloc: Global, name: &str, found: &ArgMatches) -> Result<Option<Request>, AllocError>
     ensures { IfOk result (λ request. request ≡ words_of.request_of (name.now, rows_of (found_of found.now))) }
@@ -192,6 +210,7 @@ fn named(alloc: Global, name: &str, found: &ArgMatches) -> Result<Option<Request
         "check" => Ok(Some(check_of(alloc, found)?)),
         "nary" => Ok(Some(nary_of(alloc, found)?)),
         "certify" => Ok(Some(certify_of(alloc, found)?)),
+        "synthesize" => Ok(Some(synthesize_of(alloc, found)?)),
         _ => Ok(None),
     }
 }

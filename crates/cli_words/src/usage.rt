@@ -24,6 +24,8 @@ pub fn usage_line() -> &'static [u8]
         "certify [--workers N] --out NAME FILE",
         " | ",
         "check FILE CERT",
+        " | ",
+        "synthesize [--workers N] --out PREFIX [--most N] FILE",
         "\n"
     )
     .as_bytes()

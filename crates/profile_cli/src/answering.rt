@@ -23,6 +23,7 @@ use profile_text::{reports_of, session_of};
 use std::alloc::AllocError;
 use std::sync::Wait;
 use std::thread::Threads;
+use synth_text::synthesized_of;
 use task_base::{Made, Means};
 
 // What the request writes by what its files hold and by the input. A further command is one more case.
@@ -73,6 +74,12 @@ fn made_of<R: Threads + Wait + Sync, G: Gate + Sync>(
         Request::Certify { name, file, .. } => {
             certified_of(rt, means, name, file, relations.swap_remove(0))
         }
+        Request::Synthesize {
+            most,
+            prefix,
+            file,
+            ..
+        } => { synthesized_of(rt, means, prefix, file, relations.swap_remove(0), *most) }
     }
 }
 

@@ -11,6 +11,7 @@ mod reports;
 mod sessions;
 mod sizes;
 mod surely;
+mod synthesized;
 mod tables;
 mod words;
 
@@ -27,6 +28,7 @@ use std::process::Abort;
 use std::sync::Wait;
 use std::test::Fail;
 use std::thread::Threads;
+use synthesized::SYNTHESIZED;
 use tables::NORMALIZED;
 
 pub const R: &str = "id,city,zip\n1,Berlin,10115\n2,Berlin,10115\n3,Potsdam,14467\n";
@@ -335,6 +337,12 @@ fn texts_that_are_certificates_and_texts_that_are_none(rt: HostRuntime) -> Resul
 #[test]
 fn certificates_of_the_rows_beside_their_report(rt: HostRuntime) -> Result<(), Fail> {
     expect_all(&rt, rt.alloc(), &CERTIFIED)?;
+    Ok(())
+}
+
+#[test]
+fn tables_in_third_normal_form_with_their_references(rt: HostRuntime) -> Result<(), Fail> {
+    expect_all(&rt, rt.alloc(), &SYNTHESIZED)?;
     Ok(())
 }
 
