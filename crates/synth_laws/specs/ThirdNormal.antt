@@ -46,7 +46,8 @@ pub record IsPrimeFor (fds : List Fd) (s : Columns) (a : ℕ) : Type 0 where
   pub own : has key a ≡ true
 
 pub record IsThirdNormalFor (fds : List Fd) (s : Columns) : Type 0 where
-  pub each : (x : Columns) (a : ℕ) → IsSubset x s → has s a ≡ true → has x a ≡ false → has (reached fds x) a ≡ true → IsSubset s (reached fds x) ⊎ IsPrimeFor fds s a
+  pub each : (x : Columns) (a : ℕ) → IsSubset x s → has s a ≡ true → has x a ≡ false → has (reached fds x) a ≡ true
+      → IsSubset s (reached fds x) ⊎ IsPrimeFor fds s a
 
 -- No left side can spare a column.
 pub record IsReduced (fds : List Fd) : Type 0 where
