@@ -184,7 +184,7 @@ def code_of(crate):
 
 def called(crate, may):
     """The crates of this repository that the code of one calls."""
-    names = {name for text in code_of(crate) for name in re.findall(r"\b([a-z_]+)::", text)}
+    names = {name for text in code_of(crate) for name in re.findall(r"\b([a-z_][a-z0-9_]*)::", text)}
     return {name for name in may if name in names}
 
 
