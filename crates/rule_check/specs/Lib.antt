@@ -1,0 +1,4 @@
+pub mod Rules
+pub mod Breaking
+pub mod Passes
+pub mod Tuples
