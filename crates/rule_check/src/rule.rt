@@ -3,7 +3,7 @@ use crate::column_list::ColumnList;
 use rel_base::{ColSet, RowNo, Target};
 
 /// That in a relation some columns determine a column, or which row it is: then they are a key. Relations are counted from 0.
-#[derive(Clone, Copy, Debug, PartialEq, Eq)]
+#[derive(Clone, Copy, PartialEq, Eq)]
 pub struct Claim {
     /// The relation.
     pub relation: u32,
@@ -32,7 +32,7 @@ pub struct Reference {
 }
 
 /// A column of a relation, both counted from 0.
-#[derive(Clone, Copy, Debug, PartialEq, Eq)]
+#[derive(Clone, Copy, PartialEq, Eq)]
 pub struct ColumnOf {
     /// The relation.
     pub relation: u32,
@@ -54,7 +54,7 @@ pub enum Rule {
 }
 
 /// What is found of a rule.
-#[derive(Clone, Copy, Debug, PartialEq, Eq)]
+#[derive(Clone, Copy, PartialEq, Eq)]
 pub enum Verdict {
     /// It holds.
     Holds,

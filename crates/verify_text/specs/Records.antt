@@ -44,14 +44,20 @@ table_word = 116 ∷ 97 ∷ 98 ∷ 108 ∷ 101 ∷ []
 abbrev pub alternate_word : Cell
 alternate_word = 97 ∷ 108 ∷ 116 ∷ 101 ∷ 114 ∷ 110 ∷ 97 ∷ 116 ∷ 101 ∷ []
 
+abbrev pub is_reference : Cell → Bool
+is_reference word = same_cell word ref_word || same_cell word ind_word || same_cell word nind_word
+
+abbrev pub is_passed_over : Cell → Bool
+is_passed_over word = same_cell word column_word || same_cell word table_word || same_cell word alternate_word
+
 unfoldable pub kind_of : Cell → Kind
 kind_of word =
     if same_cell word key_word then kind.Key
     else if same_cell word fd_word then kind.Fd
-    else if same_cell word ref_word || same_cell word ind_word || same_cell word nind_word then kind.Refers
+    else if is_reference word then kind.Refers
     else if same_cell word filled_word then kind.Filled
     else if same_cell word relation_word then kind.Relation
-    else if same_cell word column_word || same_cell word table_word || same_cell word alternate_word then kind.PassedOver
+    else if is_passed_over word then kind.PassedOver
     else kind.Other
 
 -- ---- columns of relations
@@ -60,6 +66,10 @@ abbrev pub place_of : Option ℕ → Option ℕ
 place_of None = None
 place_of (Some zero) = None
 place_of (Some (suc n)) = Some n
+
+-- the place that a field names by its number
+abbrev pub place_named : Cell → Option ℕ
+place_named field = place_of (number field)
 
 -- the bytes before the first point, and those behind it, if there is one
 abbrev pub before_point : ℕ → Option (Cell × Cell) → Option (Cell × Cell)
@@ -78,7 +88,7 @@ both (Some a) (Some b) = Some (a, b)
 
 abbrev pub parts_of : Option (Cell × Cell) → Option (ℕ × ℕ)
 parts_of None = None
-parts_of (Some parts) = both (place_of (number parts.0)) (column_of parts.1)
+parts_of (Some parts) = both (place_named parts.0) (column_of parts.1)
 
 -- the relation and the column that a word names by their numbers from 1, with a point between
 unfoldable pub item_of : Cell → Option (ℕ × ℕ)
@@ -138,11 +148,11 @@ filled_by (Some side) = filled_in side.relation side.columns
 abbrev pub rule_by : Kind → Option ℕ → Row → Rule
 rule_by kind.Key here row =
     if length row == 2 then key_by here (cell row 1)
-    else if length row == 3 then key_by (place_of (number (cell row 1))) (cell row 2)
+    else if length row == 3 then key_by (place_named (cell row 1)) (cell row 2)
     else rule.Unclear
 rule_by kind.Fd here row =
     if length row == 3 then fd_by here (cell row 1) (cell row 2)
-    else if length row == 4 then fd_by (place_of (number (cell row 1))) (cell row 2) (cell row 3)
+    else if length row == 4 then fd_by (place_named (cell row 1)) (cell row 2) (cell row 3)
     else rule.Unclear
 rule_by kind.Refers here row = if length row == 3 then refers_by (side_of (cell row 1)) (side_of (cell row 2)) else rule.Unclear
 rule_by kind.Filled here row = if length row == 2 then filled_by (side_of (cell row 1)) else rule.Unclear

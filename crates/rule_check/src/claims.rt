@@ -1,0 +1,196 @@
+// Keys and dependencies of one relation.
+ghost use Rattle.std.specs.Prelude.{◌≡◌, ◌<◌, ◌^◌, ◌↔◌, length, IsTrue, IfOk, OnOk};
+ghost use Rattle.col_set.specs.ColSet.{Columns};
+ghost use Rattle.col_set.specs.Target.{IsColumnTarget};
+ghost use Rattle.rel_base.specs.RowState.{RowState};
+ghost use Rattle.stripped_partition.specs.AnyOrder.{AreGroupsBy, AreGroupsOf};
+ghost use Rattle.stripped_partition.specs.Removed.{HasRoom};
+ghost use Rattle.approx_fd.specs.Removal.{removed_in};
+ghost use Rattle.rule_check.specs.Breaking.{first_pair_in};
+ghost use Rattle.rule_check.specs.Rules.{of_pairs, is_claim_of};
+
+use crate::breaking::first_pair;
+use crate::rule::{Claim, Rule, Verdict};
+use rel_base::{ColSet, MOST_COLUMNS, Snapshot, Target};
+use row_log::RowLog;
+use std::alloc::{AllocError, Global};
+use stripped_partition::{Partition, Path, Tally, weights};
+
+// The columns by how many rows they leave together, those that tell most apart first.
+fn order_of(alloc: Global, snapshot: &Snapshot) -> Result<Vec<u8>, AllocError> {
+    let weights = weights(alloc, snapshot)?;
+    let mut columns = Vec::with_capacity(alloc, weights.len())?;
+    for column in 0..snapshot.columns() {
+        if let Some(weight) = weights.get(column as usize) {
+            columns.push((*weight, column))?;
+        }
+    }
+    columns.sort_unstable();
+    let mut order = Vec::with_capacity(alloc, columns.len())?;
+    for column in columns.iter() {
+        order.push(column.1)?;
+    }
+    Ok(order)
+}
+
+// A number by which left sides that begin with the same columns of this order stand beside each other.
+fn rank_of(order: &[u8], left: ColSet) -> u128 {
+    let mut rank = 0;
+    for column in order {
+        rank <<= 1;
+        if *column < MOST_COLUMNS && left.has(*column) {
+            rank |= 1;
+        }
+    }
+    rank
+}
+
+// Whether a claim speaks of columns that are there, of so many.
+fn is_claim_of(columns: u8, claim: &Claim) -> bool
+    requires { columns ≤ MOST_COLUMNS }
+    ensures { result ≡ is_claim_of columns claim.now }
+{
+    let is_there = match claim.target {
+        Target::Col(column) => column < columns,
+        Target::RowId => true,
+    };
+    claim.left.subset_of(ColSet::all(columns)) && is_there
+}
+
+// The claim of a rule, if it is one of this relation.
+fn claim_at(relation: usize, columns: u8, rule: &Rule) -> Option<Claim> {
+    match rule {
+        Rule::Determines(claim)
+            if claim.relation as usize == relation && is_claim_of(columns, claim) =>
+        {
+            Some(*claim)
+        }
+        _ => None,
+    }
+}
+
+// Whether some rule is a claim of this relation.
+fn has_claims(relation: usize, columns: u8, rules: &[Rule]) -> bool {
+    rules
+        .iter()
+        .any(|rule| claim_at(relation, columns, rule).is_some())
+}
+
+// The places of the claims of a relation, in an order in which left sides share partitions, each behind its rank.
+fn visits_of(
+    alloc: Global,
+    order: &[u8],
+    relation: usize,
+    columns: u8,
+    rules: &[Rule],
+) -> Result<Vec<(u128, usize)>, AllocError> {
+    let mut visits = Vec::new(alloc);
+    for place in 0..rules.len() {
+        if let Some(claim) = claim_at(relation, columns, &rules[place]) {
+            visits.push((rank_of(order, claim.left), place))?;
+        }
+    }
+    visits.sort_unstable();
+    Ok(visits)
+}
+
+// How many rows are to be removed for the columns of a partition to determine a target.
+fn removed(groups: &Partition, snapshot: &Snapshot, target: Target, tally: &mut Tally) -> u32
+    requires of { AreGroupsOf snapshot.now groups.now }
+    requires target { IsColumnTarget (length snapshot.now.codes) target }
+    requires room { HasRoom snapshot.now tally.old }
+    ensures value { (x : Columns) → AreGroupsBy snapshot.now x groups.now → result ≡ removed_in snapshot.now x target }
+    ensures tally { tally.new ≡ tally.old }
+{
+    match target {
+        Target::Col(column) => groups
+            .removed_up_to(snapshot, column, u32::MAX, tally)
+            .unwrap_or(u32::MAX),
+        Target::RowId => groups.error_count(),
+    }
+}
+
+// What is found of that the columns of a partition determine a target.
+fn found_in(
+    groups: &Partition,
+    snapshot: &Snapshot,
+    target: Target,
+    tally: &mut Tally,
+) -> Verdict
+    requires of { AreGroupsOf snapshot.now groups.now }
+    requires target { IsColumnTarget (length snapshot.now.codes) target }
+    requires room { HasRoom snapshot.now tally.old }
+    ensures value { (x : Columns) → AreGroupsBy snapshot.now x groups.now → result ≡ of_pairs (removed_in snapshot.now x target) (first_pair_in snapshot.now x target) }
+    ensures tally { tally.new ≡ tally.old }
+{
+    match first_pair(groups, snapshot, target) {
+        None => Verdict::Holds,
+        Some(pair) => {
+            let removed = removed(groups, snapshot, target, tally);
+            Verdict::Pairs {
+                removed,
+                first: pair.0,
+                second: pair.1,
+            }
+        }
+    }
+}
+
+// Sends a path to these columns, if it does not stand there.
+fn send(path: &mut Path, left: ColSet) -> Result<(), AllocError>
+    requires { left < 2 ^ length path.old.table.codes }
+    ensures table { path.new.table ≡ path.old.table }
+    ensures there { OnOk result (path.new.columns ≡ left) }
+{
+    if path.columns() != left {
+        path.go_to(left)?;
+    }
+    Ok(())
+}
+
+// What is found of a claim.
+fn found_of(
+    path: &mut Path,
+    snapshot: &Snapshot,
+    claim: Claim,
+    tally: &mut Tally,
+) -> Result<Verdict, AllocError>
+    requires path { path.old.table ≡ snapshot.now }
+    requires within { is_claim_of (length snapshot.now.codes) claim ≡ true }
+    requires room { HasRoom snapshot.now tally.old }
+    ensures path { path.new.table ≡ snapshot.now }
+    ensures tally { tally.new ≡ tally.old }
+    ensures value { IfOk result (λ found. found ≡ of_pairs (removed_in snapshot.now claim.left claim.target) (first_pair_in snapshot.now claim.left claim.target)) }
+{
+    send(path, claim.left)?;
+    let groups = path.groups();
+    Ok(found_in(groups, snapshot, claim.target, tally))
+}
+
+/// Writes what is found of the keys and dependencies of a relation, each at the place of its rule.
+///
+/// Each left side is gone to once, on partitions by its lightest columns first, so that those which begin alike share refinements.
+pub(crate) fn judge_claims(
+    alloc: Global,
+    rows: &RowLog,
+    relation: usize,
+    rules: &[Rule],
+    found: &mut [Verdict],
+) -> Result<(), AllocError> {
+    let columns = rows.names().len() as u8;
+    if !has_claims(relation, columns, rules) {
+        return Ok(());
+    }
+    let snapshot = rows.snapshot(alloc)?;
+    let order = order_of(alloc, &snapshot)?;
+    let visits = visits_of(alloc, &order, relation, columns, rules)?;
+    let mut path = Path::new(alloc, &snapshot, &order)?;
+    let mut tally = Tally::new(alloc, &snapshot)?;
+    for visit in visits.iter() {
+        let place = visit.1;
+        if let Some(claim) = claim_at(relation, columns, &rules[place]) {
+            found[place] = found_of(&mut path, &snapshot, claim, &mut tally)?;
+        }
+    }
+    Ok(())
+}

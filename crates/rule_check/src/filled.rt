@@ -1,0 +1,90 @@
+// Columns that are to have no NULL.
+ghost use Rattle.std.specs.Prelude.{◌≡◌, ◌<◌, length};
+ghost use Rattle.rel_base.specs.RowState.{width};
+ghost use Rattle.rule_check.specs.Rules.{of_rows, null_rows};
+
+use crate::rule::{ColumnOf, Rule, Verdict};
+use crate::tuples::live_rows;
+use rel_base::RowNo;
+use row_log::RowLog;
+use std::alloc::{AllocError, Global};
+
+/// Rows that break a rule by themselves, as they are met.
+#[derive(Clone, Copy)]
+pub(crate) struct Lost {
+    pub(crate) count: u32,
+    pub(crate) first: Option<RowNo>,
+}
+
+impl Lost {
+    /// None so far.
+    pub(crate) fn none() -> Lost {
+        Lost {
+            count: 0,
+            first: None,
+        }
+    }
+
+    /// With one row more, which stands behind the others.
+    pub(crate) fn with(self, row: RowNo) -> Lost {
+        Lost {
+            count: self.count.saturating_add(1),
+            first: self.first.or(Some(row)),
+        }
+    }
+
+    /// What is found, when all rows were met.
+    pub(crate) fn verdict(self) -> Verdict {
+        match self.first {
+            None => Verdict::Holds,
+            Some(first) => Verdict::Rows {
+                count: self.count,
+                first,
+            },
+        }
+    }
+}
+
+// What is found of a column.
+fn found_of(rows: &RowLog, live: &[RowNo], column: u8) -> Verdict
+    requires column { column < width rows.now }
+    requires live { live.now ≡ rows.now.live }
+    ensures { result ≡ of_rows (null_rows rows.now column) }
+{
+    let mut lost = Lost::none();
+    for row in live {
+        if rows.cell(*row, column).is_null() {
+            lost = lost.with(*row);
+        }
+    }
+    lost.verdict()
+}
+
+// The column of a rule, if it is to be filled and is one of this relation.
+fn column_at(relation: usize, columns: u8, rule: &Rule) -> Option<u8> {
+    match rule {
+        Rule::Filled(ColumnOf {
+            relation: of,
+            column,
+        }) if *of as usize == relation && *column < columns => Some(*column),
+        _ => None,
+    }
+}
+
+/// Writes what is found of the columns of a relation that are to be filled, each at the place of its rule.
+pub(crate) fn judge_filled(
+    alloc: Global,
+    rows: &RowLog,
+    relation: usize,
+    rules: &[Rule],
+    found: &mut [Verdict],
+) -> Result<(), AllocError> {
+    let columns = rows.names().len() as u8;
+    let live = live_rows(alloc, rows)?;
+    for place in 0..rules.len() {
+        if let Some(column) = column_at(relation, columns, &rules[place]) {
+            found[place] = found_of(rows, &live, column);
+        }
+    }
+    Ok(())
+}
