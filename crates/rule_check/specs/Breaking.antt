@@ -1,5 +1,5 @@
 -- The pair of rows that breaks a key or a dependency, group by group.
-use Rattle.std.specs.Prelude.{ℕ, ◌<◌, nat_lt, List, [], ◌∷◌, map, Option, Some, None, option_map, slice_index, if◌then◌else◌}
+use Rattle.std.specs.Prelude.{ℕ, nat_lt, List, [], ◌∷◌, Option, Some, None, option_map, slice_index, if◌then◌else◌}
 use Rattle.std.specs.List.{find}
 use Rattle.col_set.specs.declared.target.Target.{Target}
 use Rattle.col_set.specs.declared.target.Target.TheVariants.{Col, RowId}
@@ -29,11 +29,7 @@ earlier None other = other
 earlier (Some p) None = Some p
 earlier (Some p) (Some q) = if nat_lt q.1 p.1 then Some q else Some p
 
--- that of several
-unfoldable pub earliest : List (Option (ℕ × ℕ)) → Option (ℕ × ℕ)
-earliest [] = None
-earliest (p ∷ ps) = earlier p (earliest ps)
-
--- the earliest of the groups' pairs
-abbrev pub pair_in_groups : CodeTable → Target → List (List ℕ) → Option (ℕ × ℕ)
-pair_in_groups s t groups = earliest (map (pair_in_group s t) groups)
+-- the earliest of a pair that was found and of those of these groups
+unfoldable pub pair_from : CodeTable → Target → Option (ℕ × ℕ) → List (List ℕ) → Option (ℕ × ℕ)
+pair_from s t found [] = found
+pair_from s t found (group ∷ groups) = pair_from s t (earlier found (pair_in_group s t group)) groups

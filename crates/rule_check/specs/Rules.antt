@@ -67,6 +67,13 @@ is_target_of n RowId = true
 abbrev pub is_claim_of : ℕ → Claim → Bool
 is_claim_of n c = subset c.left (all n) && is_target_of n c.target
 
+-- the claim of a rule, if it is one of the relation at a place, which has n columns
+abbrev pub claim_at : ℕ → ℕ → Rule → Option Claim
+claim_at p n (rule.Determines c) = if (c.relation == p) && is_claim_of n c then Some c else None
+claim_at p n (rule.Refers f) = None
+claim_at p n (rule.Filled c) = None
+claim_at p n rule.Unclear = None
+
 -- a key or a dependency
 abbrev pub claim_in : RowState → Claim → Verdict
 claim_in r c = of_pairs (removed r c.left c.target) (first_pair r c.left c.target)

@@ -1,6 +1,6 @@
 -- Tuples of cells as texts, which are equal exactly where the tuples are.
-use Rattle.std.specs.Prelude.{◌≡◌, ℕ, ◌++◌, Bool, List, length, w64}
-use Rattle.std.specs.Int.{to_be_bytes}
+use Rattle.std.specs.Prelude.{◌≡◌, ℕ, ◌++◌, Bool, List, length}
+use Rattle.std.specs.Int.{to_be_bytes, w64}
 use Rattle.std.specs.List.{flat_map, list_any}
 use Rattle.rel_base.specs.Cells.{Cell, Row}
 use Rattle.rel_base.specs.Agreement.{same_cell}

@@ -1,11 +1,11 @@
 // The first pair of rows that breaks a key or a dependency.
-ghost use Rattle.std.specs.Prelude.{◌≡◌, ◌<◌, ◌≤◌, ℕ, length, option_map};
+ghost use Rattle.std.specs.Prelude.{◌≡◌, ◌<◌, ◌≤◌, None, length};
 ghost use Rattle.std.specs.List.{All};
 ghost use Rattle.col_set.specs.ColSet.{Columns};
 ghost use Rattle.col_set.specs.Target.{IsColumnTarget};
 ghost use Rattle.stripped_partition.specs.AnyOrder.{AreGroupsBy, AreGroupsOf};
 ghost use Rattle.rule_check.specs.Breaking as spec;
-ghost use Rattle.rule_check.specs.Breaking.{first_pair_in, pair_in_groups};
+ghost use Rattle.rule_check.specs.Breaking.{first_pair_in, pair_from};
 
 use rel_base::{RowNo, Snapshot, Target};
 use stripped_partition::Partition;
@@ -50,10 +50,18 @@ fn earlier(
 ) -> Option<(RowNo, RowNo)>
     ensures { result ≡ spec.earlier pair other }
 {
-    match (pair, other) {
-        (Some(one), Some(another)) if another.1 < one.1 => Some(another),
-        (Some(one), _) => Some(one),
-        (None, _) => other,
+    match pair {
+        None => other,
+        Some(one) => match other {
+            None => Some(one),
+            Some(another) => {
+                if another.1.number() < one.1.number() {
+                    Some(another)
+                } else {
+                    Some(one)
+                }
+            }
+        },
     }
 }
 
@@ -61,7 +69,7 @@ fn earlier(
 fn earliest(groups: &Partition, snapshot: &Snapshot, target: Target) -> Option<(RowNo, RowNo)>
     requires of { AreGroupsOf snapshot.now groups.now }
     requires target { IsColumnTarget (length snapshot.now.codes) target }
-    ensures { result ≡ pair_in_groups snapshot.now target groups.now }
+    ensures { result ≡ pair_from snapshot.now target None groups.now }
 {
     let mut found = None;
     for place in 0..groups.group_count() {

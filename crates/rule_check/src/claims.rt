@@ -1,13 +1,14 @@
 // Keys and dependencies of one relation.
-ghost use Rattle.std.specs.Prelude.{◌≡◌, ◌<◌, ◌^◌, ◌↔◌, length, IsTrue, IfOk, OnOk};
+ghost use Rattle.std.specs.Prelude.{◌≡◌, ◌<◌, ◌≤◌, ◌^◌, length, true, IfOk, OnOk};
 ghost use Rattle.col_set.specs.ColSet.{Columns};
 ghost use Rattle.col_set.specs.Target.{IsColumnTarget};
-ghost use Rattle.rel_base.specs.RowState.{RowState};
 ghost use Rattle.stripped_partition.specs.AnyOrder.{AreGroupsBy, AreGroupsOf};
 ghost use Rattle.stripped_partition.specs.Removed.{HasRoom};
 ghost use Rattle.approx_fd.specs.Removal.{removed_in};
 ghost use Rattle.rule_check.specs.Breaking.{first_pair_in};
-ghost use Rattle.rule_check.specs.Rules.{of_pairs, is_claim_of};
+ghost use Rattle.col_set.specs.declared.col_set.TheConstants.{MOST_COLUMNS};
+ghost use Rattle.rule_check.specs.Rules as spec;
+ghost use Rattle.rule_check.specs.Rules.{of_pairs};
 
 use crate::breaking::first_pair;
 use crate::rule::{Claim, Rule, Verdict};
@@ -48,7 +49,7 @@ fn rank_of(order: &[u8], left: ColSet) -> u128 {
 // Whether a claim speaks of columns that are there, of so many.
 fn is_claim_of(columns: u8, claim: &Claim) -> bool
     requires { columns ≤ MOST_COLUMNS }
-    ensures { result ≡ is_claim_of columns claim.now }
+    ensures { result ≡ spec.is_claim_of columns claim.now }
 {
     let is_there = match claim.target {
         Target::Col(column) => column < columns,
@@ -57,23 +58,31 @@ fn is_claim_of(columns: u8, claim: &Claim) -> bool
     claim.left.subset_of(ColSet::all(columns)) && is_there
 }
 
-// The claim of a rule, if it is one of this relation.
-fn claim_at(relation: usize, columns: u8, rule: &Rule) -> Option<Claim> {
-    match rule {
-        Rule::Determines(claim)
-            if claim.relation as usize == relation && is_claim_of(columns, claim) =>
-        {
-            Some(*claim)
-        }
-        _ => None,
+// The claim of a rule, if it is one of this relation, which has so many columns.
+fn claim_at(relation: usize, columns: u8, rule: &Rule) -> Option<Claim>
+    requires { columns ≤ MOST_COLUMNS }
+    ensures { result ≡ spec.claim_at relation columns rule.now }
+{
+    let Rule::Determines(claim) = rule else {
+        return None;
+    };
+    if claim.relation as usize == relation && is_claim_of(columns, claim) {
+        Some(*claim)
+    } else {
+        None
     }
 }
 
 // Whether some rule is a claim of this relation.
-fn has_claims(relation: usize, columns: u8, rules: &[Rule]) -> bool {
-    rules
-        .iter()
-        .any(|rule| claim_at(relation, columns, rule).is_some())
+fn has_claims(relation: usize, columns: u8, rules: &[Rule]) -> bool
+    requires { columns ≤ MOST_COLUMNS }
+{
+    for rule in rules {
+        if claim_at(relation, columns, rule).is_some() {
+            return true;
+        }
+    }
+    false
 }
 
 // The places of the claims of a relation, in an order in which left sides share partitions, each behind its rank.
@@ -83,7 +92,9 @@ fn visits_of(
     relation: usize,
     columns: u8,
     rules: &[Rule],
-) -> Result<Vec<(u128, usize)>, AllocError> {
+) -> Result<Vec<(u128, usize)>, AllocError>
+    requires { columns ≤ MOST_COLUMNS }
+{
     let mut visits = Vec::new(alloc);
     for place in 0..rules.len() {
         if let Some(claim) = claim_at(relation, columns, &rules[place]) {
@@ -102,6 +113,8 @@ fn removed(groups: &Partition, snapshot: &Snapshot, target: Target, tally: &mut 
     ensures value { (x : Columns) → AreGroupsBy snapshot.now x groups.now → result ≡ removed_in snapshot.now x target }
     ensures tally { tally.new ≡ tally.old }
 {
+    // `columns` is called for its clause that there are at most a million rows.
+    let _bounds = snapshot.columns();
     match target {
         Target::Col(column) => groups
             .removed_up_to(snapshot, column, u32::MAX, tally)
@@ -156,7 +169,7 @@ fn found_of(
     tally: &mut Tally,
 ) -> Result<Verdict, AllocError>
     requires path { path.old.table ≡ snapshot.now }
-    requires within { is_claim_of (length snapshot.now.codes) claim ≡ true }
+    requires within { spec.is_claim_of (length snapshot.now.codes) claim ≡ true }
     requires room { HasRoom snapshot.now tally.old }
     ensures path { path.new.table ≡ snapshot.now }
     ensures tally { tally.new ≡ tally.old }
@@ -177,6 +190,7 @@ pub(crate) fn judge_claims(
     rules: &[Rule],
     found: &mut [Verdict],
 ) -> Result<(), AllocError> {
+    // The names come with the clause that there are at most 128.
     let columns = rows.names().len() as u8;
     if !has_claims(relation, columns, rules) {
         return Ok(());

@@ -1,0 +1,4 @@
+pub mod Firsts
+pub mod Groups
+pub mod Pairs
+pub mod Live
