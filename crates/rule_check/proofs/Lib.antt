@@ -1,4 +1,6 @@
 pub mod Firsts
 pub mod Groups
 pub mod Pairs
+pub mod Steps
+pub mod Among
 pub mod Live

@@ -102,7 +102,7 @@ module _ (s : CodeTable) (x : ℕ) (groups : List (List ℕ)) (are : AreGroupsBy
 
       found : (k : ℕ) → Listed k (group_at i) → k ≤ j → differ s a (least (group_at i)) k ≡ true → (p : ℕ × ℕ) × (OfGroups s (Col a) groups p × (p.1 ≤ j))
       found k m n d =
-          let v = find-before (differ s a (least (group_at i))) group stands.3 k m d in
+          let v = find-before (differ s a (least (group_at i))) (group_at i) stands.3 k m d in
           ((least (group_at i), v.0), ((group_at i, (stands.0, ap (option_map (λ (q : ℕ). (least (group_at i), q))) v.1.0)), (let b = v.1.1 in omega arith)))
 
       by : (differ s a (least (group_at i)) j ≡ true) ⊎ (differ s a (least (group_at i)) j ≡ false) → (p : ℕ × ℕ) × (OfGroups s (Col a) groups p × (p.1 ≤ j))

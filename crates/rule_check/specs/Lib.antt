@@ -2,3 +2,4 @@ pub mod Rules
 pub mod Breaking
 pub mod Passes
 pub mod Tuples
+pub mod Lost

@@ -1,7 +1,8 @@
 // Columns that are to have no NULL.
-ghost use Rattle.std.specs.Prelude.{◌≡◌, ◌<◌, length};
-ghost use Rattle.rel_base.specs.RowState.{width};
+ghost use Rattle.std.specs.Prelude.{◌≡◌, ◌<◌, ◌++◌, ◌∷◌, [], ℕ, List};
+ghost use Rattle.rel_base.specs.RowState.{IsRowState, width};
 ghost use Rattle.rule_check.specs.Rules.{of_rows, null_rows};
+ghost use Rattle.rule_check.specs.Lost.{IsLost};
 
 use crate::rule::{ColumnOf, Rule, Verdict};
 use crate::tuples::live_rows;
@@ -18,7 +19,9 @@ pub(crate) struct Lost {
 
 impl Lost {
     /// None so far.
-    pub(crate) fn none() -> Lost {
+    pub(crate) fn none() -> Lost
+        ensures { IsLost [] result }
+    {
         Lost {
             count: 0,
             first: None,
@@ -26,15 +29,24 @@ impl Lost {
     }
 
     /// With one row more, which stands behind the others.
-    pub(crate) fn with(self, row: RowNo) -> Lost {
+    pub(crate) fn with(self, row: RowNo) -> Lost
+        requires { self.count < 4294967295 }
+        ensures { (rows : List ℕ) → IsLost rows self → IsLost (rows ++ row ∷ []) result }
+    {
+        let first = match self.first {
+            Some(first) => first,
+            None => row,
+        };
         Lost {
-            count: self.count.saturating_add(1),
-            first: self.first.or(Some(row)),
+            count: self.count + 1,
+            first: Some(first),
         }
     }
 
     /// What is found, when all rows were met.
-    pub(crate) fn verdict(self) -> Verdict {
+    pub(crate) fn verdict(self) -> Verdict
+        ensures { (rows : List ℕ) → IsLost rows self → result ≡ of_rows rows }
+    {
         match self.first {
             None => Verdict::Holds,
             Some(first) => Verdict::Rows {
@@ -48,9 +60,12 @@ impl Lost {
 // What is found of a column.
 fn found_of(rows: &RowLog, live: &[RowNo], column: u8) -> Verdict
     requires column { column < width rows.now }
+    requires state { IsRowState rows.now }
     requires live { live.now ≡ rows.now.live }
     ensures { result ≡ of_rows (null_rows rows.now column) }
 {
+    // `live_len` is called for its clause that their number is a `u32`.
+    let _count = rows.live_len();
     let mut lost = Lost::none();
     for row in live {
         if rows.cell(*row, column).is_null() {
@@ -79,6 +94,7 @@ pub(crate) fn judge_filled(
     rules: &[Rule],
     found: &mut [Verdict],
 ) -> Result<(), AllocError> {
+    // The names come with the clause that these are a row state.
     let columns = rows.names().len() as u8;
     let live = live_rows(alloc, rows)?;
     for place in 0..rules.len() {

@@ -1,9 +1,11 @@
 // Lists of columns whose rows are to have their like in others.
-ghost use Rattle.std.specs.Prelude.{◌≡◌, ◌<◌, ◌==◌, length, true, IfOk, OnOk};
-ghost use Rattle.std.specs.List.{All};
-ghost use Rattle.rel_base.specs.RowState.{next, row, width};
+ghost use Rattle.std.specs.Prelude.{◌≡◌, ◌<◌, Some, length, slice_get, true, IfOk, OnOk};
+ghost use Rattle.std.specs.List.{All, list_any};
+ghost use Rattle.column_dict.specs.Coding.{coded, is_new};
+ghost use Rattle.rel_base.specs.Agreement.{same_cell};
+ghost use Rattle.rel_base.specs.RowState.{next, width};
 ghost use Rattle.rel_base.specs.declared.nulls.Nulls.TheVariants.{Equal};
-ghost use Rattle.rule_check.specs.Rules.{are_columns_of, are_sides_of, is_lost, lost_rows, of_rows, tuple, tuples};
+ghost use Rattle.rule_check.specs.Rules.{are_columns_of, are_sides_of, tuples};
 ghost use Rattle.rule_check.specs.Tuples.{AreTexts};
 
 use crate::filled::Lost;
@@ -31,7 +33,11 @@ fn are_sides_of(rows: &RowLog, from: &[u8], others: &RowLog, into: &[u8]) -> boo
 }
 
 // The code of a text, a new one if it has none yet.
-fn code_of(texts: &mut Dict, text: &[u8]) -> Result<u32, AllocError> {
+fn code_of(texts: &mut Dict, text: &[u8]) -> Result<u32, AllocError>
+    ensures cell { IfOk result (λ code. slice_get texts.new.cells code ≡ Some text.now) }
+    ensures cells { OnOk result (texts.new ≡ coded texts.old text.now) }
+    ensures last { IfOk result (λ code. is_new texts.old text.now ≡ true → code ≡ length texts.old.cells) }
+{
     if texts.len() == u32::MAX {
         return Err(AllocError);
     }
@@ -55,7 +61,11 @@ fn texts_of(alloc: Global, rows: &RowLog, columns: &[u8]) -> Result<Dict, AllocE
 }
 
 // Whether a text is among these. They are the same afterwards.
-fn is_among(texts: &mut Dict, text: &[u8]) -> Result<bool, AllocError> {
+fn is_among(texts: &mut Dict, text: &[u8]) -> Result<bool, AllocError>
+    requires { texts.old.nulls ≡ Equal }
+    ensures texts { OnOk result (texts.new ≡ texts.old) }
+    ensures found { IfOk result (λ found. found ≡ list_any (same_cell text.now) texts.old.cells) }
+{
     let count = texts.len();
     let code = code_of(texts, text)?;
     texts.keep(count);
@@ -94,6 +104,8 @@ fn found_among(
     requires nulls { texts.old.nulls ≡ Equal }
 {
     let live = live_rows(alloc, rows)?;
+    // `live_len` is called for its clause that their number is a `u32`.
+    let _count = rows.live_len();
     let mut text = Vec::new(alloc);
     let mut lost = Lost::none();
     for row in live.iter() {
