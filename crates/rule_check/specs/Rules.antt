@@ -120,6 +120,13 @@ reference_verdict rs f =
 unfoldable pub null_rows : RowState → ℕ → List ℕ
 null_rows r c = filter (λ i. same_cell (cell (row r i) c) []) r.live
 
+-- the column of a rule, if it is to be filled and is one of the relation at a place, which has n columns
+abbrev pub column_at : ℕ → ℕ → Rule → Option ℕ
+column_at p n (rule.Filled c) = if (c.relation == p) && nat_lt c.column n then Some c.column else None
+column_at p n (rule.Determines c) = None
+column_at p n (rule.Refers f) = None
+column_at p n rule.Unclear = None
+
 abbrev pub filled_verdict : List RowState → ColumnOf → Verdict
 filled_verdict rs c = in_relation rs c.relation (λ r. if_clear (nat_lt c.column (width r)) (of_rows (null_rows r c.column)))
 

@@ -24,11 +24,7 @@ fn pair_in_group(snapshot: &Snapshot, target: Target, group: &[RowNo]) -> Option
 }
 
 // A group's first row, and the first of its rows that differs from it in a column.
-fn first_and_differing(
-    snapshot: &Snapshot,
-    column: u8,
-    group: &[RowNo],
-) -> Option<(RowNo, RowNo)>
+fn first_and_differing(snapshot: &Snapshot, column: u8, group: &[RowNo]) -> Option<(RowNo, RowNo)>
     requires given { All (λ row. row < snapshot.now.to) group.now }
     requires column { column < length snapshot.now.codes }
     ensures { result ≡ spec.differing_in snapshot.now column group.now }
@@ -44,10 +40,7 @@ fn first_and_differing(
 }
 
 // Of two pairs that may be there, the one with the lesser later row.
-fn earlier(
-    pair: Option<(RowNo, RowNo)>,
-    other: Option<(RowNo, RowNo)>,
-) -> Option<(RowNo, RowNo)>
+fn earlier(pair: Option<(RowNo, RowNo)>, other: Option<(RowNo, RowNo)>) -> Option<(RowNo, RowNo)>
     ensures { result ≡ spec.earlier pair other }
 {
     match pair {

@@ -124,12 +124,7 @@ fn removed(groups: &Partition, snapshot: &Snapshot, target: Target, tally: &mut 
 }
 
 // What is found of that the columns of a partition determine a target.
-fn found_in(
-    groups: &Partition,
-    snapshot: &Snapshot,
-    target: Target,
-    tally: &mut Tally,
-) -> Verdict
+fn found_in(groups: &Partition, snapshot: &Snapshot, target: Target, tally: &mut Tally) -> Verdict
     requires of { AreGroupsOf snapshot.now groups.now }
     requires target { IsColumnTarget (length snapshot.now.codes) target }
     requires room { HasRoom snapshot.now tally.old }

@@ -1,10 +1,11 @@
 // Columns that are to have no NULL.
 ghost use Rattle.std.specs.Prelude.{◌≡◌, ◌<◌, ◌++◌, ◌∷◌, [], ℕ, List};
 ghost use Rattle.rel_base.specs.RowState.{IsRowState, width};
+ghost use Rattle.rule_check.specs.Rules as spec;
 ghost use Rattle.rule_check.specs.Rules.{of_rows, null_rows};
 ghost use Rattle.rule_check.specs.Lost.{IsLost};
 
-use crate::rule::{ColumnOf, Rule, Verdict};
+use crate::rule::{Rule, Verdict};
 use crate::tuples::live_rows;
 use rel_base::RowNo;
 use row_log::RowLog;
@@ -75,14 +76,17 @@ fn found_of(rows: &RowLog, live: &[RowNo], column: u8) -> Verdict
     lost.verdict()
 }
 
-// The column of a rule, if it is to be filled and is one of this relation.
-fn column_at(relation: usize, columns: u8, rule: &Rule) -> Option<u8> {
-    match rule {
-        Rule::Filled(ColumnOf {
-            relation: of,
-            column,
-        }) if *of as usize == relation && *column < columns => Some(*column),
-        _ => None,
+// The column of a rule, if it is to be filled and is one of this relation, which has so many columns.
+fn column_at(relation: usize, columns: u8, rule: &Rule) -> Option<u8>
+    ensures { result ≡ spec.column_at relation columns rule.now }
+{
+    let Rule::Filled(filled) = rule else {
+        return None;
+    };
+    if filled.relation as usize == relation && filled.column < columns {
+        Some(filled.column)
+    } else {
+        None
     }
 }
 

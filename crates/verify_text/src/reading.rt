@@ -59,7 +59,9 @@ pub(crate) fn read(alloc: Global, relations: usize, text: &[u8]) -> Result<Asked
             Kind::PassedOver => {}
             kind => {
                 asked.records.push(record)?;
-                asked.rules.push(rule_by(alloc, kind, here.relation, &fields)?)?;
+                asked
+                    .rules
+                    .push(rule_by(alloc, kind, here.relation, &fields)?)?;
             }
         }
         record += 1;

@@ -155,7 +155,11 @@ fn key_by(relation: Option<u32>, columns: &[u8]) -> Rule
 fn fd_by(relation: Option<u32>, columns: &[u8], column: &[u8]) -> Rule
     ensures { result ≡ spec.fd_by relation columns.now column.now }
 {
-    claim_by(relation, columns_of(columns), column_of(column).map(Target::Col))
+    claim_by(
+        relation,
+        columns_of(columns),
+        column_of(column).map(Target::Col),
+    )
 }
 
 // A key, by how many fields there are.

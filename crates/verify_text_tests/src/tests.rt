@@ -67,7 +67,8 @@ fn a_key_and_its_first_pair(rt: HostRuntime) -> Result<(), Fail> {
     let files = [ROWS];
     let rules = b"key,1\nkey,1 2\nkey,1 2 3\nkey,\n".as_slice();
     let text = written(&rt, rt.alloc(), files.as_slice(), rules)?;
-    let expected = b"fails,1,2,1,2\nfails,2,1,1,5\nfails,3,1,1,5\nfails,4,4,1,2\nverified,4,0,4,0\n".as_slice();
+    let expected =
+        b"fails,1,2,1,2\nfails,2,1,1,5\nfails,3,1,1,5\nfails,4,4,1,2\nverified,4,0,4,0\n".as_slice();
     assert_eq!(rt; text.as_slice(), expected);
     Ok(())
 }
@@ -78,7 +79,8 @@ fn dependencies(rt: HostRuntime) -> Result<(), Fail> {
     let files = [ROWS];
     let rules = b"fd,1,3\nfd,2,1\nfd,,1\nfd,2 3,1\nfd,1,1\nfd,3,2\n".as_slice();
     let text = written(&rt, rt.alloc(), files.as_slice(), rules)?;
-    let expected = b"holds,1\nfails,2,1,1,3\nfails,3,2,1,3\nholds,4\nholds,5\nfails,6,1,1,2\nverified,6,3,3,0\n".as_slice();
+    let expected =
+        b"holds,1\nfails,2,1,1,3\nfails,3,2,1,3\nholds,4\nholds,5\nfails,6,1,1,2\nverified,6,3,3,0\n".as_slice();
     assert_eq!(rt; text.as_slice(), expected);
     Ok(())
 }
@@ -98,9 +100,11 @@ fn a_report_of_one_file_holds(rt: HostRuntime) -> Result<(), Fail> {
 #[test]
 fn a_report_of_two_files_holds(rt: HostRuntime) -> Result<(), Fail> {
     let files = [ROWS, OTHERS];
-    let rules = b"relation,f0,3,5\ncolumn,1,a\ncolumn,2,b\ncolumn,3,c\nfd,3,1\nfd,1,3\nrelation,f1,2,4\ncolumn,1,d\ncolumn,2,e\nfd,2,1\nfd,1,2\nind,1.1,2.2\nind,1.2,2.1\nind,2.1,1.2\nind,2.2,1.1\n".as_slice();
+    let rules =
+        b"relation,f0,3,5\ncolumn,1,a\ncolumn,2,b\ncolumn,3,c\nfd,3,1\nfd,1,3\nrelation,f1,2,4\ncolumn,1,d\ncolumn,2,e\nfd,2,1\nfd,1,2\nind,1.1,2.2\nind,1.2,2.1\nind,2.1,1.2\nind,2.2,1.1\n".as_slice();
     let text = written(&rt, rt.alloc(), files.as_slice(), rules)?;
-    let expected = b"holds,5\nholds,6\nholds,10\nholds,11\nholds,12\nholds,13\nholds,14\nholds,15\nverified,8,8,0,0\n".as_slice();
+    let expected =
+        b"holds,5\nholds,6\nholds,10\nholds,11\nholds,12\nholds,13\nholds,14\nholds,15\nverified,8,8,0,0\n".as_slice();
     assert_eq!(rt; text.as_slice(), expected);
     Ok(())
 }
@@ -109,9 +113,11 @@ fn a_report_of_two_files_holds(rt: HostRuntime) -> Result<(), Fail> {
 #[test]
 fn a_report_on_other_rows(rt: HostRuntime) -> Result<(), Fail> {
     let files = [OTHERS, ROWS];
-    let rules = b"relation,f0,3,5\ncolumn,1,a\ncolumn,2,b\ncolumn,3,c\nfd,3,1\nfd,1,3\nrelation,f1,2,4\ncolumn,1,d\ncolumn,2,e\nfd,2,1\nfd,1,2\nind,1.1,2.2\nind,1.2,2.1\nind,2.1,1.2\nind,2.2,1.1\n".as_slice();
+    let rules =
+        b"relation,f0,3,5\ncolumn,1,a\ncolumn,2,b\ncolumn,3,c\nfd,3,1\nfd,1,3\nrelation,f1,2,4\ncolumn,1,d\ncolumn,2,e\nfd,2,1\nfd,1,2\nind,1.1,2.2\nind,1.2,2.1\nind,2.1,1.2\nind,2.2,1.1\n".as_slice();
     let text = written(&rt, rt.alloc(), files.as_slice(), rules)?;
-    let expected = b"unclear,5\nunclear,6\nfails,10,1,1,3\nfails,11,1,1,2\nholds,12\nholds,13\nholds,14\nholds,15\nverified,8,4,2,2\n".as_slice();
+    let expected =
+        b"unclear,5\nunclear,6\nfails,10,1,1,3\nfails,11,1,1,2\nholds,12\nholds,13\nholds,14\nholds,15\nverified,8,4,2,2\n".as_slice();
     assert_eq!(rt; text.as_slice(), expected);
     Ok(())
 }
@@ -120,9 +126,11 @@ fn a_report_on_other_rows(rt: HostRuntime) -> Result<(), Fail> {
 #[test]
 fn references_and_null(rt: HostRuntime) -> Result<(), Fail> {
     let files = [ROWS, OTHERS];
-    let rules = b"ref,1.2,2.1\nref,2.1,1.2\nind,1.1,2.2\nref,1.2 1.1,2.1 2.2\nnind,2.1 2.2,1.2 1.1\nref,1.3,2.1\nref,1.1 1.1,2.2 2.2\nref,1.1 1.2 1.3,1.1 1.2 1.3\n".as_slice();
+    let rules =
+        b"ref,1.2,2.1\nref,2.1,1.2\nind,1.1,2.2\nref,1.2 1.1,2.1 2.2\nnind,2.1 2.2,1.2 1.1\nref,1.3,2.1\nref,1.1 1.1,2.2 2.2\nref,1.1 1.2 1.3,1.1 1.2 1.3\n".as_slice();
     let text = written(&rt, rt.alloc(), files.as_slice(), rules)?;
-    let expected = b"holds,1\nholds,2\nholds,3\nfails,4,2,2\nfails,5,1,2\nfails,6,4,1\nholds,7\nholds,8\nverified,8,5,3,0\n".as_slice();
+    let expected =
+        b"holds,1\nholds,2\nholds,3\nfails,4,2,2\nfails,5,1,2\nfails,6,4,1\nholds,7\nholds,8\nverified,8,5,3,0\n".as_slice();
     assert_eq!(rt; text.as_slice(), expected);
     Ok(())
 }
@@ -131,9 +139,11 @@ fn references_and_null(rt: HostRuntime) -> Result<(), Fail> {
 #[test]
 fn filled_columns(rt: HostRuntime) -> Result<(), Fail> {
     let files = [ROWS, OTHERS];
-    let rules = b"filled,1.1\nfilled,1.2\nfilled,1.3\nfilled,2.1\nfilled,2.3\nfilled,3.1\nfilled,1.1 1.2\nfilled,1\nfilled,\nfilled\n".as_slice();
+    let rules =
+        b"filled,1.1\nfilled,1.2\nfilled,1.3\nfilled,2.1\nfilled,2.3\nfilled,3.1\nfilled,1.1 1.2\nfilled,1\nfilled,\nfilled\n".as_slice();
     let text = written(&rt, rt.alloc(), files.as_slice(), rules)?;
-    let expected = b"holds,1\nfails,2,1,4\nfails,3,1,3\nfails,4,1,3\nunclear,5\nunclear,6\nunclear,7\nunclear,8\nunclear,9\nunclear,10\nverified,10,1,3,6\n".as_slice();
+    let expected =
+        b"holds,1\nfails,2,1,4\nfails,3,1,3\nfails,4,1,3\nunclear,5\nunclear,6\nunclear,7\nunclear,8\nunclear,9\nunclear,10\nverified,10,1,3,6\n".as_slice();
     assert_eq!(rt; text.as_slice(), expected);
     Ok(())
 }
@@ -142,9 +152,11 @@ fn filled_columns(rt: HostRuntime) -> Result<(), Fail> {
 #[test]
 fn numbers_of_relations(rt: HostRuntime) -> Result<(), Fail> {
     let files = [ROWS, OTHERS];
-    let rules = b"key,1,1 2 3\nkey,2,2\nkey,1 2 3\nkey,0,1\nkey,3,1\nfd,2,2,1\nfd,1,1,2\nfd,1,2\nkey,1,1,1\n".as_slice();
+    let rules =
+        b"key,1,1 2 3\nkey,2,2\nkey,1 2 3\nkey,0,1\nkey,3,1\nfd,2,2,1\nfd,1,1,2\nfd,1,2\nkey,1,1,1\n".as_slice();
     let text = written(&rt, rt.alloc(), files.as_slice(), rules)?;
-    let expected = b"fails,1,1,1,5\nfails,2,1,1,4\nunclear,3\nunclear,4\nunclear,5\nholds,6\nfails,7,1,1,2\nunclear,8\nunclear,9\nverified,9,1,3,5\n".as_slice();
+    let expected =
+        b"fails,1,1,1,5\nfails,2,1,1,4\nunclear,3\nunclear,4\nunclear,5\nholds,6\nfails,7,1,1,2\nunclear,8\nunclear,9\nverified,9,1,3,5\n".as_slice();
     assert_eq!(rt; text.as_slice(), expected);
     Ok(())
 }
@@ -155,7 +167,8 @@ fn a_relation_is_named_of_one(rt: HostRuntime) -> Result<(), Fail> {
     let files = [ROWS];
     let rules = b"key,1,1\nkey,2,1\nkey,0,1\nkey,01,1\nfd,1,1,3\nfd,2,1,3\n".as_slice();
     let text = written(&rt, rt.alloc(), files.as_slice(), rules)?;
-    let expected = b"fails,1,2,1,2\nunclear,2\nunclear,3\nunclear,4\nholds,5\nunclear,6\nverified,6,1,1,4\n".as_slice();
+    let expected =
+        b"fails,1,2,1,2\nunclear,2\nunclear,3\nunclear,4\nholds,5\nunclear,6\nverified,6,1,1,4\n".as_slice();
     assert_eq!(rt; text.as_slice(), expected);
     Ok(())
 }
@@ -164,9 +177,11 @@ fn a_relation_is_named_of_one(rt: HostRuntime) -> Result<(), Fail> {
 #[test]
 fn columns_that_are_not_there(rt: HostRuntime) -> Result<(), Fail> {
     let files = [ROWS];
-    let rules = b"key,0\nkey,4\nkey,128\nkey,129\nfd,1,0\nfd,1,4\nfd,1,129\nfd,4,1\nref,1.4,1.1\nref,1.0,1.1\nref,0.1,1.1\nref,2.1,1.1\nref,1.129,1.1\n".as_slice();
+    let rules =
+        b"key,0\nkey,4\nkey,128\nkey,129\nfd,1,0\nfd,1,4\nfd,1,129\nfd,4,1\nref,1.4,1.1\nref,1.0,1.1\nref,0.1,1.1\nref,2.1,1.1\nref,1.129,1.1\n".as_slice();
     let text = written(&rt, rt.alloc(), files.as_slice(), rules)?;
-    let expected = b"unclear,1\nunclear,2\nunclear,3\nunclear,4\nunclear,5\nunclear,6\nunclear,7\nunclear,8\nunclear,9\nunclear,10\nunclear,11\nunclear,12\nunclear,13\nverified,13,0,0,13\n".as_slice();
+    let expected =
+        b"unclear,1\nunclear,2\nunclear,3\nunclear,4\nunclear,5\nunclear,6\nunclear,7\nunclear,8\nunclear,9\nunclear,10\nunclear,11\nunclear,12\nunclear,13\nverified,13,0,0,13\n".as_slice();
     assert_eq!(rt; text.as_slice(), expected);
     Ok(())
 }
@@ -175,9 +190,11 @@ fn columns_that_are_not_there(rt: HostRuntime) -> Result<(), Fail> {
 #[test]
 fn columns_out_of_form(rt: HostRuntime) -> Result<(), Fail> {
     let files = [ROWS];
-    let rules = b"key,2 1\nkey,1  2\nkey, 1\nkey,1 \nkey,1 1\nkey,01\nkey,x\nfd,1,1 2\nfd,1,\nfd,2 1,1\n".as_slice();
+    let rules =
+        b"key,2 1\nkey,1  2\nkey, 1\nkey,1 \nkey,1 1\nkey,01\nkey,x\nfd,1,1 2\nfd,1,\nfd,2 1,1\n".as_slice();
     let text = written(&rt, rt.alloc(), files.as_slice(), rules)?;
-    let expected = b"unclear,1\nunclear,2\nunclear,3\nunclear,4\nunclear,5\nunclear,6\nunclear,7\nunclear,8\nunclear,9\nunclear,10\nverified,10,0,0,10\n".as_slice();
+    let expected =
+        b"unclear,1\nunclear,2\nunclear,3\nunclear,4\nunclear,5\nunclear,6\nunclear,7\nunclear,8\nunclear,9\nunclear,10\nverified,10,0,0,10\n".as_slice();
     assert_eq!(rt; text.as_slice(), expected);
     Ok(())
 }
@@ -186,9 +203,11 @@ fn columns_out_of_form(rt: HostRuntime) -> Result<(), Fail> {
 #[test]
 fn lists_that_do_not_fit(rt: HostRuntime) -> Result<(), Fail> {
     let files = [ROWS, OTHERS];
-    let rules = b"ref,1.1,1.1 1.2\nref,1.1 2.1,1.1 1.2\nref,1.1 1.2,1.1 2.1\nref,,\nref,1.1,\nref,1.1\nref,1.1,1.1,1.1\nref,1.1 ,1.1\nref,1.1.1,1.1\nref,11,11\nref,1.,1.1\nref,.1,1.1\n".as_slice();
+    let rules =
+        b"ref,1.1,1.1 1.2\nref,1.1 2.1,1.1 1.2\nref,1.1 1.2,1.1 2.1\nref,,\nref,1.1,\nref,1.1\nref,1.1,1.1,1.1\nref,1.1 ,1.1\nref,1.1.1,1.1\nref,11,11\nref,1.,1.1\nref,.1,1.1\n".as_slice();
     let text = written(&rt, rt.alloc(), files.as_slice(), rules)?;
-    let expected = b"unclear,1\nunclear,2\nunclear,3\nunclear,4\nunclear,5\nunclear,6\nunclear,7\nunclear,8\nunclear,9\nunclear,10\nunclear,11\nunclear,12\nverified,12,0,0,12\n".as_slice();
+    let expected =
+        b"unclear,1\nunclear,2\nunclear,3\nunclear,4\nunclear,5\nunclear,6\nunclear,7\nunclear,8\nunclear,9\nunclear,10\nunclear,11\nunclear,12\nverified,12,0,0,12\n".as_slice();
     assert_eq!(rt; text.as_slice(), expected);
     Ok(())
 }
@@ -197,9 +216,11 @@ fn lists_that_do_not_fit(rt: HostRuntime) -> Result<(), Fail> {
 #[test]
 fn words_that_are_no_rule(rt: HostRuntime) -> Result<(), Fail> {
     let files = [ROWS];
-    let rules = b"rule\nkey\nKEY,1\ncolumn,1,a\ntable,1,1,1\nalternate,1,1\nrelation\nkey,1 2 3\nrelation,x,1\nkey,1 2 3\nfd\nfd,1\n,\nend\n".as_slice();
+    let rules =
+        b"rule\nkey\nKEY,1\ncolumn,1,a\ntable,1,1,1\nalternate,1,1\nrelation\nkey,1 2 3\nrelation,x,1\nkey,1 2 3\nfd\nfd,1\n,\nend\n".as_slice();
     let text = written(&rt, rt.alloc(), files.as_slice(), rules)?;
-    let expected = b"unclear,1\nunclear,2\nunclear,3\nfails,8,1,1,5\nunclear,10\nunclear,11\nunclear,12\nunclear,13\nunclear,14\nverified,9,0,1,8\n".as_slice();
+    let expected =
+        b"unclear,1\nunclear,2\nunclear,3\nfails,8,1,1,5\nunclear,10\nunclear,11\nunclear,12\nunclear,13\nunclear,14\nverified,9,0,1,8\n".as_slice();
     assert_eq!(rt; text.as_slice(), expected);
     Ok(())
 }
@@ -221,7 +242,8 @@ fn a_file_without_rows(rt: HostRuntime) -> Result<(), Fail> {
     let files = [b"a\n".as_slice()];
     let rules = b"key,\nkey,1\nfd,,1\nref,1.1,1.1\nfilled,1.1\nfilled,1.2\n".as_slice();
     let text = written(&rt, rt.alloc(), files.as_slice(), rules)?;
-    let expected = b"holds,1\nholds,2\nholds,3\nholds,4\nholds,5\nunclear,6\nverified,6,5,0,1\n".as_slice();
+    let expected =
+        b"holds,1\nholds,2\nholds,3\nholds,4\nholds,5\nunclear,6\nverified,6,5,0,1\n".as_slice();
     assert_eq!(rt; text.as_slice(), expected);
     Ok(())
 }
@@ -230,7 +252,8 @@ fn a_file_without_rows(rt: HostRuntime) -> Result<(), Fail> {
 #[test]
 fn marks_quotes_and_line_ends(rt: HostRuntime) -> Result<(), Fail> {
     let files = [ROWS];
-    let rules = b"\xef\xbb\xbf\"key\",\"1 2\"\r\n\"fd\",\"1\",\"3\"\r\n\r\nfilled,\"1.1\"\r\n".as_slice();
+    let rules =
+        b"\xef\xbb\xbf\"key\",\"1 2\"\r\n\"fd\",\"1\",\"3\"\r\n\r\nfilled,\"1.1\"\r\n".as_slice();
     let text = written(&rt, rt.alloc(), files.as_slice(), rules)?;
     let expected = b"fails,1,1,1,5\nholds,2\nholds,3\nverified,3,2,1,0\n".as_slice();
     assert_eq!(rt; text.as_slice(), expected);
@@ -247,4 +270,3 @@ fn the_same_column_twice(rt: HostRuntime) -> Result<(), Fail> {
     assert_eq!(rt; text.as_slice(), expected);
     Ok(())
 }
-
