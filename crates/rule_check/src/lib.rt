@@ -10,5 +10,6 @@ mod references;
 mod rule;
 mod tuples;
 
+pub use column_list::ColumnList;
 pub use judging::verdicts;
 pub use rule::{Claim, ColumnOf, Reference, Rule, Side, Verdict};
