@@ -3,5 +3,5 @@ pub mod Groups
 pub mod Pairs
 pub mod Steps
 pub mod Among
-pub mod Verdicts
+pub mod Findings
 pub mod Live
