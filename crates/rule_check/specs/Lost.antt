@@ -1,4 +1,4 @@
--- Rows that break a rule by themselves.
+-- What the rows that break a rule by themselves come to.
 use Rattle.std.specs.Prelude.{◌≡◌, ℕ, List, length, slice_get}
 use Rattle.rule_check.specs.declared.filled.Lost.{Lost}
 
