@@ -1,5 +1,6 @@
 // Keys and dependencies of one relation.
-ghost use Rattle.std.specs.Prelude.{◌≡◌, ◌<◌, ◌≤◌, ◌^◌, length, true, IfOk, OnOk};
+ghost use Rattle.std.specs.Prelude.{◌≡◌, ◌<◌, ◌≤◌, ◌^◌, is_some, length, true, IfOk, IfSome, OnOk};
+ghost use Rattle.std.specs.List.{list_any};
 ghost use Rattle.col_set.specs.ColSet.{Columns};
 ghost use Rattle.col_set.specs.Target.{IsColumnTarget};
 ghost use Rattle.stripped_partition.specs.AnyOrder.{AreGroupsBy, AreGroupsOf};
@@ -7,6 +8,7 @@ ghost use Rattle.stripped_partition.specs.Removed.{HasRoom};
 ghost use Rattle.approx_fd.specs.Removal.{removed_in};
 ghost use Rattle.rule_check.specs.Breaking.{first_pair_in};
 ghost use Rattle.col_set.specs.declared.col_set.TheConstants.{MOST_COLUMNS};
+ghost use Rattle.rule_check.specs.Passes.{AreVisitsTo, Settles, after, judged_claim, judged_in_codes};
 ghost use Rattle.rule_check.specs.Rules as spec;
 ghost use Rattle.rule_check.specs.Rules.{of_pairs};
 
@@ -61,7 +63,8 @@ fn is_claim_of(columns: u8, claim: &Claim) -> bool
 // The claim of a rule, if it is one of this relation, which has so many columns.
 fn claim_at(relation: usize, columns: u8, rule: &Rule) -> Option<Claim>
     requires { columns ≤ MOST_COLUMNS }
-    ensures { result ≡ spec.claim_at relation columns rule.now }
+    ensures value { result ≡ spec.claim_at relation columns rule.now }
+    ensures within { IfSome result (λ claim. spec.is_claim_of columns claim ≡ true) }
 {
     let Rule::Determines(claim) = rule else {
         return None;
@@ -76,6 +79,7 @@ fn claim_at(relation: usize, columns: u8, rule: &Rule) -> Option<Claim>
 // Whether some rule is a claim of this relation.
 fn has_claims(relation: usize, columns: u8, rules: &[Rule]) -> bool
     requires { columns ≤ MOST_COLUMNS }
+    ensures { result ≡ list_any (λ rule. is_some (spec.claim_at relation columns rule)) rules.now }
 {
     for rule in rules {
         if claim_at(relation, columns, rule).is_some() {
@@ -83,6 +87,26 @@ fn has_claims(relation: usize, columns: u8, rules: &[Rule]) -> bool
         }
     }
     false
+}
+
+// The places of the claims of a relation, each behind its rank.
+fn ranked(
+    alloc: Global,
+    order: &[u8],
+    relation: usize,
+    columns: u8,
+    rules: &[Rule],
+) -> Result<Vec<(u128, usize)>, AllocError>
+    requires { columns ≤ MOST_COLUMNS }
+    ensures { IfOk result (λ visits. AreVisitsTo (spec.claim_at relation columns) rules.now (length rules.now) visits.items) }
+{
+    let mut visits = Vec::new(alloc);
+    for place in 0..rules.len() {
+        if let Some(claim) = claim_at(relation, columns, &rules[place]) {
+            visits.push((rank_of(order, claim.left), place))?;
+        }
+    }
+    Ok(visits)
 }
 
 // The places of the claims of a relation, in an order in which left sides share partitions, each behind its rank.
@@ -94,13 +118,9 @@ fn visits_of(
     rules: &[Rule],
 ) -> Result<Vec<(u128, usize)>, AllocError>
     requires { columns ≤ MOST_COLUMNS }
+    ensures { IfOk result (λ visits. AreVisitsTo (spec.claim_at relation columns) rules.now (length rules.now) visits.items) }
 {
-    let mut visits = Vec::new(alloc);
-    for place in 0..rules.len() {
-        if let Some(claim) = claim_at(relation, columns, &rules[place]) {
-            visits.push((rank_of(order, claim.left), place))?;
-        }
-    }
+    let mut visits = ranked(alloc, order, relation, columns, rules)?;
     visits.sort_unstable();
     Ok(visits)
 }
@@ -175,6 +195,53 @@ fn found_of(
     Ok(found_in(groups, snapshot, claim.target, tally))
 }
 
+// What is found of a rule, if it is a claim of this relation; else what stood there.
+fn judge_at(
+    path: &mut Path,
+    snapshot: &Snapshot,
+    tally: &mut Tally,
+    relation: usize,
+    rule: &Rule,
+    before: Verdict,
+) -> Result<Verdict, AllocError>
+    requires path { path.old.table ≡ snapshot.now }
+    requires columns { length snapshot.now.codes ≤ MOST_COLUMNS }
+    requires room { HasRoom snapshot.now tally.old }
+    ensures path { path.new.table ≡ snapshot.now }
+    ensures tally { tally.new ≡ tally.old }
+    ensures value { IfOk result (λ now. now ≡ after (judged_in_codes relation (length snapshot.now.codes) snapshot.now) rule.now before) }
+{
+    match claim_at(relation, snapshot.columns(), rule) {
+        None => Ok(before),
+        Some(claim) => found_of(path, snapshot, claim, tally),
+    }
+}
+
+// Writes what is found of the rules that are visited, each at its place.
+fn judge_visits(
+    path: &mut Path,
+    snapshot: &Snapshot,
+    tally: &mut Tally,
+    relation: usize,
+    rules: &[Rule],
+    visits: &[(u128, usize)],
+    found: &mut [Verdict],
+) -> Result<(), AllocError>
+    requires path { path.old.table ≡ snapshot.now }
+    requires columns { length snapshot.now.codes ≤ MOST_COLUMNS }
+    requires room { HasRoom snapshot.now tally.old }
+    requires found { length found.old ≡ length rules.now }
+    requires visits { AreVisitsTo (spec.claim_at relation (length snapshot.now.codes)) rules.now (length rules.now) visits.now }
+    ensures { OnOk result (Settles (judged_in_codes relation (length snapshot.now.codes) snapshot.now) rules.now found.old found.new) }
+{
+    for visit in visits {
+        let place = visit.1;
+        let now = judge_at(path, snapshot, tally, relation, &rules[place], found[place])?;
+        found[place] = now;
+    }
+    Ok(())
+}
+
 /// Writes what is found of the keys and dependencies of a relation, each at the place of its rule.
 ///
 /// Each left side is gone to once, on partitions by its lightest columns first, so that those which begin alike share refinements.
@@ -184,7 +251,10 @@ pub(crate) fn judge_claims(
     relation: usize,
     rules: &[Rule],
     found: &mut [Verdict],
-) -> Result<(), AllocError> {
+) -> Result<(), AllocError>
+    requires { length found.old ≡ length rules.now }
+    ensures { OnOk result (Settles (judged_claim relation rows.now) rules.now found.old found.new) }
+{
     // The names come with the clause that there are at most 128.
     let columns = rows.names().len() as u8;
     if !has_claims(relation, columns, rules) {
@@ -195,11 +265,5 @@ pub(crate) fn judge_claims(
     let visits = visits_of(alloc, &order, relation, columns, rules)?;
     let mut path = Path::new(alloc, &snapshot, &order)?;
     let mut tally = Tally::new(alloc, &snapshot)?;
-    for visit in visits.iter() {
-        let place = visit.1;
-        if let Some(claim) = claim_at(relation, columns, &rules[place]) {
-            found[place] = found_of(&mut path, &snapshot, claim, &mut tally)?;
-        }
-    }
-    Ok(())
+    judge_visits(&mut path, &snapshot, &mut tally, relation, rules, &visits, found)
 }

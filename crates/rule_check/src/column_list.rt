@@ -1,5 +1,5 @@
 // A list of columns of any length.
-ghost use Rattle.std.specs.Prelude.{◌≡◌, ◌++◌, ◌∷◌, [], OnOk};
+ghost use Rattle.std.specs.Prelude.{◌≡◌, ◌++◌, ◌∷◌, [], IfOk, OnOk};
 
 use std::alloc::{AllocError, Global};
 use std::marker::Model;
@@ -28,6 +28,15 @@ impl ColumnList {
         ColumnList {
             columns: Vec::new(alloc),
         }
+    }
+
+    // A copy of these columns.
+    pub(crate) fn copied(alloc: Global, columns: &[u8]) -> Result<ColumnList, AllocError>
+        ensures { IfOk result (λ list. list ≡ columns.now) }
+    {
+        Ok(ColumnList {
+            columns: Vec::from_slice(alloc, columns)?,
+        })
     }
 
     /// The columns, for a loop over them.

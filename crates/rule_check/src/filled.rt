@@ -1,9 +1,10 @@
 // Columns that are to have no NULL.
-ghost use Rattle.std.specs.Prelude.{◌≡◌, ◌<◌, ◌++◌, ◌∷◌, [], ℕ, List};
+ghost use Rattle.std.specs.Prelude.{◌≡◌, ◌<◌, ◌++◌, ◌∷◌, [], ℕ, List, IfSome, OnOk, length};
 ghost use Rattle.rel_base.specs.RowState.{IsRowState, width};
 ghost use Rattle.rule_check.specs.Rules as spec;
 ghost use Rattle.rule_check.specs.Rules.{of_rows, null_rows};
 ghost use Rattle.rule_check.specs.Lost.{IsLost};
+ghost use Rattle.rule_check.specs.Passes.{Settles, after, judged_column};
 
 use crate::rule::{Rule, Verdict};
 use crate::tuples::live_rows;
@@ -78,7 +79,8 @@ fn found_of(rows: &RowLog, live: &[RowNo], column: u8) -> Verdict
 
 // The column of a rule, if it is to be filled and is one of this relation, which has so many columns.
 fn column_at(relation: usize, columns: u8, rule: &Rule) -> Option<u8>
-    ensures { result ≡ spec.column_at relation columns rule.now }
+    ensures value { result ≡ spec.column_at relation columns rule.now }
+    ensures within { IfSome result (λ column. column < columns) }
 {
     let Rule::Filled(filled) = rule else {
         return None;
@@ -90,6 +92,26 @@ fn column_at(relation: usize, columns: u8, rule: &Rule) -> Option<u8>
     }
 }
 
+// What is found of a rule, if it is of a column of this relation that is to be filled; else what stood there.
+fn judge_at(
+    rows: &RowLog,
+    live: &[RowNo],
+    relation: usize,
+    columns: u8,
+    rule: &Rule,
+    before: Verdict,
+) -> Verdict
+    requires columns { columns ≡ width rows.now }
+    requires state { IsRowState rows.now }
+    requires live { live.now ≡ rows.now.live }
+    ensures { result ≡ after (judged_column relation rows.now) rule.now before }
+{
+    match column_at(relation, columns, rule) {
+        None => before,
+        Some(column) => found_of(rows, live, column),
+    }
+}
+
 /// Writes what is found of the columns of a relation that are to be filled, each at the place of its rule.
 pub(crate) fn judge_filled(
     alloc: Global,
@@ -97,14 +119,16 @@ pub(crate) fn judge_filled(
     relation: usize,
     rules: &[Rule],
     found: &mut [Verdict],
-) -> Result<(), AllocError> {
+) -> Result<(), AllocError>
+    requires { length found.old ≡ length rules.now }
+    ensures { OnOk result (Settles (judged_column relation rows.now) rules.now found.old found.new) }
+{
     // The names come with the clause that these are a row state.
     let columns = rows.names().len() as u8;
     let live = live_rows(alloc, rows)?;
     for place in 0..rules.len() {
-        if let Some(column) = column_at(relation, columns, &rules[place]) {
-            found[place] = found_of(rows, &live, column);
-        }
+        let now = judge_at(rows, &live, relation, columns, &rules[place], found[place]);
+        found[place] = now;
     }
     Ok(())
 }

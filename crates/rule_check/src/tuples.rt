@@ -1,10 +1,10 @@
 // The cells of rows in some columns as texts.
-ghost use Rattle.std.specs.Prelude.{◌≡◌, ◌<◌, ◌++◌, not, length, OnOk, IfOk};
+ghost use Rattle.std.specs.Prelude.{◌≡◌, ◌<◌, ◌^◌, ◌++◌, not, length, OnOk, IfOk};
 ghost use Rattle.std.specs.List.{All};
 ghost use Rattle.rel_base.specs.Cells.{cell};
 ghost use Rattle.rel_base.specs.RowState.{next, row, width};
 ghost use Rattle.rule_check.specs.Rules.{is_null, tuple};
-ghost use Rattle.rule_check.specs.Tuples.{cell_text, tuple_text};
+ghost use Rattle.rule_check.specs.Tuples.{IsShort, cell_text, tuple_text};
 
 use column_dict::Text;
 use rel_base::RowNo;
@@ -27,7 +27,8 @@ pub(crate) fn live_rows(alloc: Global, rows: &RowLog) -> Result<Vec<RowNo>, Allo
 
 // Adds a cell behind the number of its bytes.
 fn push_cell(text: &mut Vec<u8>, cell: &Text) -> Result<(), AllocError>
-    ensures { OnOk result (text.new.items ≡ text.old.items ++ cell_text cell.now) }
+    ensures text { OnOk result (text.new.items ≡ text.old.items ++ cell_text cell.now) }
+    ensures short { length cell.now < 2 ^ 64 }
 {
     let bytes = cell.bytes();
     text.extend_from_slice(&(bytes.len() as u64).to_be_bytes())?;
@@ -44,7 +45,8 @@ pub(crate) fn write_tuple(
 ) -> Result<(), AllocError>
     requires given { number < next rows.now }
     requires columns { All (λ column. column < width rows.now) columns.now }
-    ensures { OnOk result (text.new.items ≡ tuple_text (tuple columns.now (row rows.now number))) }
+    ensures text { OnOk result (text.new.items ≡ tuple_text (tuple columns.now (row rows.now number))) }
+    ensures short { OnOk result (IsShort (tuple columns.now (row rows.now number))) }
 {
     text.clear();
     for column in columns {
