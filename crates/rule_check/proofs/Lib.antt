@@ -3,5 +3,7 @@ pub mod Groups
 pub mod Pairs
 pub mod Steps
 pub mod Among
+pub mod Texts
+pub mod Passing
 pub mod Findings
 pub mod Live

@@ -76,7 +76,7 @@ pub record AreVisitsTo {A : Type 0} (of : Rule → Option A) (rules : List Rule)
 pub record IsSideOf (rs : List RowState) (relation : ℕ) (columns : List ℕ) : Type 0 where
   pub rows : RowState
   pub there : slice_get rs relation ≡ Some rows
-  pub columns : All (λ column. column < width rows) columns
+  pub inside : All (λ column. column < width rows) columns
 
 -- these texts are those of the tuples of a side, if its relation is there
 pub record AreTextsOf (rs : List RowState) (relation : ℕ) (columns : List ℕ) (texts : Coding) : Type 0 where

@@ -1,6 +1,5 @@
 // Keys and dependencies of one relation.
-ghost use Rattle.std.specs.Prelude.{◌≡◌, ◌<◌, ◌≤◌, ◌^◌, is_some, length, true, IfOk, IfSome, OnOk};
-ghost use Rattle.std.specs.List.{list_any};
+ghost use Rattle.std.specs.Prelude.{◌≡◌, ◌<◌, ◌≤◌, ◌^◌, ℕ, None, length, true, false, IfOk, IfSome, OnOk};
 ghost use Rattle.col_set.specs.ColSet.{Columns};
 ghost use Rattle.col_set.specs.Target.{IsColumnTarget};
 ghost use Rattle.stripped_partition.specs.AnyOrder.{AreGroupsBy, AreGroupsOf};
@@ -8,7 +7,7 @@ ghost use Rattle.stripped_partition.specs.Removed.{HasRoom};
 ghost use Rattle.approx_fd.specs.Removal.{removed_in};
 ghost use Rattle.rule_check.specs.Breaking.{first_pair_in};
 ghost use Rattle.col_set.specs.declared.col_set.TheConstants.{MOST_COLUMNS};
-ghost use Rattle.rule_check.specs.Passes.{AreVisitsTo, Settles, after, judged_claim, judged_in_codes};
+ghost use Rattle.rule_check.specs.Passes.{AreVisitsTo, Settles, after, judged_claim, judged_in_codes, rule_at};
 ghost use Rattle.rule_check.specs.Rules as spec;
 ghost use Rattle.rule_check.specs.Rules.{of_pairs};
 
@@ -79,7 +78,7 @@ fn claim_at(relation: usize, columns: u8, rule: &Rule) -> Option<Claim>
 // Whether some rule is a claim of this relation.
 fn has_claims(relation: usize, columns: u8, rules: &[Rule]) -> bool
     requires { columns ≤ MOST_COLUMNS }
-    ensures { result ≡ list_any (λ rule. is_some (spec.claim_at relation columns rule)) rules.now }
+    ensures { result ≡ false → (k : ℕ) → k < length rules.now → spec.claim_at relation columns (rule_at rules.now k) ≡ None }
 {
     for rule in rules {
         if claim_at(relation, columns, rule).is_some() {

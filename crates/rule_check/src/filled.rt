@@ -1,5 +1,5 @@
 // Columns that are to have no NULL.
-ghost use Rattle.std.specs.Prelude.{◌≡◌, ◌<◌, ◌++◌, ◌∷◌, [], ℕ, List, IfSome, OnOk, length};
+ghost use Rattle.std.specs.Prelude.{◌≡◌, ◌<◌, ◌+◌, ◌++◌, ◌∷◌, [], ℕ, List, IfSome, OnOk, length};
 ghost use Rattle.rel_base.specs.RowState.{IsRowState, width};
 ghost use Rattle.rule_check.specs.Rules as spec;
 ghost use Rattle.rule_check.specs.Rules.{of_rows, null_rows};
@@ -33,7 +33,8 @@ impl Lost {
     /// With one row more, which stands behind the others.
     pub(crate) fn with(self, row: RowNo) -> Lost
         requires { self.count < 4294967295 }
-        ensures { (rows : List ℕ) → IsLost rows self → IsLost (rows ++ row ∷ []) result }
+        ensures rows { (rows : List ℕ) → IsLost rows self → IsLost (rows ++ row ∷ []) result }
+        ensures count { result.count ≡ self.count + 1 }
     {
         let first = match self.first {
             Some(first) => first,
