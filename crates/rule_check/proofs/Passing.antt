@@ -129,7 +129,7 @@ module _ {A : Type 0} (of : Rule → Option A) (rules : List Rule) where
       old k (inr w) = inr (w.0, Contains-append_left visits ((rank, n) ∷ []) (w.0, k) w.1)
 
       by : (k : ℕ) → k < n + 1 → (k ≡ n) ⊎ (k ≢ n) → (of (rule_at rules k) ≡ None) ⊎ ((r : ℕ) × Contains (visits ++ (rank, n) ∷ []) (r, k))
-      by k l (inl same) = inr (rank, subst (λ (j : ℕ). Contains (visits ++ (rank, n) ∷ []) (rank, j)) (sym same) (Contains-append_right visits ((rank, n) ∷ []) (rank, n) (0, (omega arith, refl))))
+      by k l (inl same) = inr (rank, subst (λ (j : ℕ). Contains (visits ++ (rank, n) ∷ []) (rank, j)) (sym same) (Contains-append_right visits ((rank, n) ∷ []) (rank, n) (0, omega arith, refl)))
       by k l (inr other) = old k (are.every k (omega (arith, other, l)))
 
   pub visits-permuted : (n : ℕ) (visits others : List (ℕ × ℕ)) → IsPermutation visits others → AreVisitsTo of rules n visits → AreVisitsTo of rules n others
@@ -141,6 +141,15 @@ module _ {A : Type 0} (of : Rule → Option A) (rules : List Rule) where
       by : (k : ℕ) → (of (rule_at rules k) ≡ None) ⊎ ((rank : ℕ) × Contains visits (rank, k)) → (of (rule_at rules k) ≡ None) ⊎ ((rank : ℕ) × Contains others (rank, k))
       by k (inl none) = inl none
       by k (inr w) = inr (w.0, Contains-permutation visits others (w.0, k) p w.1)
+
+-- what was judged at a place, by the lists
+pub judged-at : (judged : Rule → Option Verdict) (rules : List Rule) (now : List Verdict) (place : ℕ) (one : Rule) (before v : Verdict) → place < length rules → place < length now
+    → one ≡ get_or rules place one → before ≡ get_or now place before → v ≡ after judged one before → v ≡ after judged (rule_at rules place) (verdict_at now place)
+judged-at judged rules now place one before v l m e f is =
+    is ∙ ap₂ (λ (r : Rule) (w : Verdict). after judged r w) (e ∙ same_default rules place one rule.Unclear l) (f ∙ same_default now place before verdict.Unclear m)
+
+pub rule-is : (rules : List Rule) (place : ℕ) (one : Rule) → place < length rules → one ≡ get_or rules place one → one ≡ rule_at rules place
+rule-is rules place one l e = e ∙ same_default rules place one rule.Unclear l
 
 -- a pass that judges nothing
 pub settles-none : (judged : Rule → Option Verdict) (rules : List Rule) (old : List Verdict) → ((k : ℕ) → k < length rules → judged (rule_at rules k) ≡ None) → Settles judged rules old old

@@ -101,8 +101,9 @@ fn ranked(
 {
     let mut visits = Vec::new(alloc);
     for place in 0..rules.len() {
-        if let Some(claim) = claim_at(relation, columns, &rules[place]) {
-            visits.push((rank_of(order, claim.left), place))?;
+        match claim_at(relation, columns, &rules[place]) {
+            None => {}
+            Some(claim) => visits.push((rank_of(order, claim.left), place))?,
         }
     }
     Ok(visits)

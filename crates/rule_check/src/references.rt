@@ -138,32 +138,6 @@ fn is_lost(
     Ok(!found)
 }
 
-// The rows that lack their like, once one more was looked at, which stands behind the others.
-fn lost_with(
-    texts: &mut Dict,
-    text: &mut Vec<u8>,
-    rows: &RowLog,
-    row: RowNo,
-    columns: &[u8],
-    lost: Lost,
-) -> Result<Lost, AllocError>
-    requires given { row < next rows.now }
-    requires columns { All (λ column. column < width rows.now) columns.now }
-    requires nulls { texts.old.nulls ≡ Equal }
-    requires count { lost.count < 4294967295 }
-    ensures texts { OnOk result (texts.new ≡ texts.old) }
-    ensures count { IfOk result (λ now. now.count ≤ lost.count + 1) }
-    ensures lost { IfOk result (λ now. (others : List Row) (so_far : List ℕ) → AreTexts (length columns.now) others texts.old.cells → IsLost so_far lost
-        → IsLost (so_far ++ (if spec.is_lost others (tuple columns.now (state.row rows.now row)) then row ∷ [] else [])) now) }
-{
-    let is = is_lost(texts, text, rows, row, columns)?;
-    if is {
-        Ok(lost.with(row))
-    } else {
-        Ok(lost)
-    }
-}
-
 // What is found of a list of columns in these rows, by the texts of the rows that it refers to.
 fn found_in(
     alloc: Global,
@@ -185,8 +159,10 @@ fn found_in(
     let mut text = Vec::new(alloc);
     let mut lost = Lost::none();
     for row in live {
-        let now = lost_with(texts, &mut text, rows, *row, columns, lost)?;
-        lost = now;
+        let is = is_lost(texts, &mut text, rows, *row, columns)?;
+        if is {
+            lost = lost.with(*row);
+        }
     }
     Ok(lost.verdict())
 }
@@ -357,8 +333,9 @@ fn ranked(
 {
     let mut visits = Vec::new(alloc);
     for place in 0..rules.len() {
-        if let Some(rank) = rank_at(relations, &rules[place]) {
-            visits.push((rank, place))?;
+        match rank_at(relations, &rules[place]) {
+            None => {}
+            Some(rank) => visits.push((rank, place))?,
         }
     }
     Ok(visits)
