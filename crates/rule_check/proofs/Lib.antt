@@ -5,5 +5,6 @@ pub mod Steps
 pub mod Among
 pub mod Texts
 pub mod Passing
+pub mod Referring
 pub mod Findings
 pub mod Live

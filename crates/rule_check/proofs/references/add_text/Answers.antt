@@ -11,4 +11,4 @@ pub returns-clause-texts : goal.returns-clause-texts
 returns-clause-texts c others are =
     text-added (length c.args.columns.now) others (tuple c.args.columns.now (row c.args.rows.now c.args.row)) c.args.texts.now c.code_of.new.texts c.requires.nulls
     (c.in_ok-code_of.ensures.cells ∙ ap (coded c.args.texts.now) (c.deref.ensures.value ∙ c.in_ok-write_tuple.ensures.text))
-    (length-map (cell (row c.args.rows.now c.args.row)) c.args.columns.now) c.in_ok-write_tuple.ensures.short are
+    (length-map c.args.columns.now (cell (row c.args.rows.now c.args.row))) c.in_ok-write_tuple.ensures.short are
