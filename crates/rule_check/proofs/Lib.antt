@@ -6,5 +6,6 @@ pub mod Among
 pub mod Texts
 pub mod Passing
 pub mod Referring
+pub mod Shown
 pub mod Findings
 pub mod Live
