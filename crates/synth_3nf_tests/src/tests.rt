@@ -282,17 +282,34 @@ fn drawn_dependencies(rt: HostRuntime) -> Result<(), Fail> {
     Ok(())
 }
 
-// Enough left sides for several blocks of the index, and many dependencies on one column.
+// Dependencies of ten columns with most of them on the left, so that few follow from one another.
+fn drawn_wide_covers(
+    rt: &impl Abort,
+    alloc: Global,
+    samples: &mut Samples,
+) -> Result<Covers, AllocError> {
+    let mut fds = Vec::new(alloc);
+    for _ in 0..160 {
+        let right = samples.below(10) as u8;
+        let bits = samples.below(1 << 10) | samples.below(1 << 10);
+        let left = ColSet::of_bits(u128::from(bits)).minus(ColSet::of_bits(1 << right));
+        fds.push(Fd { left, right })?;
+    }
+    Ok(ordered(rt, alloc, fds))
+}
+
+// Enough left sides for several blocks of the index, and many dependencies on each column. A program apart from this one drew the
+// same dependencies and kept as many.
 #[test]
 fn many_dependencies(rt: HostRuntime) -> Result<(), Fail> {
     let alloc = rt.alloc();
     let mut samples = Samples::from_seed(56);
-    let covers = drawn_covers(&rt, alloc, &mut samples, 8, 160)?;
-    assert!(rt; covers.fds().len() > 100);
+    let covers = drawn_wide_covers(&rt, alloc, &mut samples)?;
+    assert!(rt; covers.fds().len() == 140);
     let kept = canonical(alloc, &covers)?;
-    let wanted = plain::canonical(alloc, covers.fds(), 8)?;
+    assert!(rt; kept.len() == 41);
+    let wanted = plain::canonical(alloc, covers.fds(), 10)?;
     assert!(rt; kept.as_slice() == wanted.as_slice());
-    assert!(rt; kept.len() > 8);
     Ok(())
 }
 
