@@ -14,7 +14,7 @@ use Rattle.clap.proofs.WalkLemmas.{first_value-rows, one_text-rows, raw_values-r
 use Rattle.clap.specs.ValueTests.{is_unsigned_in}
 use Rattle.clap.specs.declared.builder.value_parser.ValueParser.TheVariants as vp
 use Rattle.clap.proofs.ValueTestLemmas.{Accepts-accepts, accepts-Accepts}
-use Rattle.cli_words.specs.Command.{certificate_of, errors_of, file_of, files_of, nulls_of, number_or, number_or_zero, prefix_of, seed_of, width_of, workers_of}
+use Rattle.cli_words.specs.Command.{certificate_of, errors_of, file_of, files_of, most_of, nulls_of, number_or, number_or_zero, prefix_of, rules_of, seed_of, width_of, workers_of}
 
 -- the text of a reference, or another
 text_or : (o : Option (Bor Text)) (d : Bor Text) → (unwrap_or o d).now ≡ unwrap_or (option_map (λ s. s.now) o) d.now
@@ -73,6 +73,10 @@ pub width_of-number : {E : Type 0} (G : List ℕ → Result ℕ E → Type 0) (f
     → (one_text f (codes "width") ≡ None → r ≡ None) → ((t : Text) → one_text f (codes "width") ≡ Some t → ReadsOne G t r) → unwrap_or r 2 ≡ width_of (rows_of f)
 width_of-number {E} G f r parses none value = small-read {E = E} 2 (codes "width") G f r parses none value ∙ ap (λ (o : Option Text). option_map_or (number_or 2) o 2) (one_text-rows f (codes "width"))
 
+pub most_of-number : {E : Type 0} (G : List ℕ → Result ℕ E → Type 0) (f : Found) (r : Option ℕ) → ((t : Text) (x : Result ℕ E) → G t x → ParsesUnsigned 8 10 t x)
+    → (one_text f (codes "most") ≡ None → r ≡ None) → ((t : Text) → one_text f (codes "most") ≡ Some t → ReadsOne G t r) → unwrap_or r 128 ≡ most_of (rows_of f)
+most_of-number {E} G f r parses none value = small-read {E = E} 128 (codes "most") G f r parses none value ∙ ap (λ (o : Option Text). option_map_or (number_or 128) o 128) (one_text-rows f (codes "most"))
+
 pub prefix_of-word : (f : Found) (o : Option (Bor Text)) (word d : Bor Text) → option_map (λ s. s.now) o ≡ first_value f (codes "out") → word ≡ unwrap_or o d → d.now ≡ []
     → word.now ≡ prefix_of (rows_of f)
 prefix_of-word f o word d found same default_word =
@@ -82,6 +86,11 @@ pub certificate_of-word : (f : Found) (o : Option (Bor Text)) (word d : Bor Text
     → word.now ≡ certificate_of (rows_of f)
 certificate_of-word f o word d found same default_word =
     ap (λ (s : Bor Text). s.now) same ∙ text_or o d ∙ (λ i. unwrap_or ((found ∙ first_value-rows f (codes "cert")) i) (default_word i))
+
+pub rules_of-word : (f : Found) (o : Option (Bor Text)) (word d : Bor Text) → option_map (λ s. s.now) o ≡ first_value f (codes "rules") → word ≡ unwrap_or o d → d.now ≡ []
+    → word.now ≡ rules_of (rows_of f)
+rules_of-word f o word d found same default_word =
+    ap (λ (s : Bor Text). s.now) same ∙ text_or o d ∙ (λ i. unwrap_or ((found ∙ first_value-rows f (codes "rules")) i) (default_word i))
 
 -- a seed that was parsed, or 0
 parsed_or_zero : {E : Type 0} (text : Text) (r : Result ℕ E) → ParsesUnsigned 32 10 text r → result_unwrap_or r 0 ≡ number_or_zero text

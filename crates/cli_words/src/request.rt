@@ -100,6 +100,20 @@ pub enum Request {
         name: Name,
         file: Name,
     },
+    /// The tables in third normal form that the dependencies of this file with at most so many columns on the left make, and a file for each table,
+    /// whose name begins with the prefix.
+    Synthesize {
+        workers: u8,
+        most: u8,
+        prefix: Name,
+        file: Name,
+    },
+    /// Whether the rules of this text hold in these files.
+    Verify {
+        workers: u8,
+        rules: Name,
+        files: Names,
+    },
 }
 
 // Which number of workers a request asks for.
@@ -117,6 +131,8 @@ impl Request {
             Request::Normalize { workers, .. } => *workers,
             Request::Demo { workers, .. } => *workers,
             Request::Certify { workers, .. } => *workers,
+            Request::Synthesize { workers, .. } => *workers,
+            Request::Verify { workers, .. } => *workers,
             Request::Approx { .. } | Request::Check { .. } | Request::Nary { .. } => {
                 DEFAULT_WORKERS
             }

@@ -24,6 +24,10 @@ pub fn usage_line() -> &'static [u8]
         "certify [--workers N] --out NAME FILE",
         " | ",
         "check FILE CERT",
+        " | ",
+        "synthesize [--workers N] --out PREFIX [--most N] FILE",
+        " | ",
+        "verify [--workers N] --rules RULES FILE..",
         "\n"
     )
     .as_bytes()

@@ -13,6 +13,8 @@ depprof finds the keys, functional dependencies and inclusion dependencies of ta
   depprof nary [--width W] FILE..    inclusions of several columns at once, of up to W columns, among all files
   depprof certify --out C FILE       the report, and in the file C a certificate that the report is right and complete
   depprof check FILE CERT            whether CERT proves what it lists: every minimal key and dependency of FILE
+  depprof synthesize --out P FILE    tables in third normal form that keep every dependency: P1.csv, P2.csv, ..
+  depprof verify --rules R FILE..    whether the rules in R hold in the files, and if not, where
   depprof demo SEED                  a drawn relation of 12 columns and 5,000 rows, to try it out
 
   depprof COMMAND --help             what one of them takes and writes
@@ -98,6 +100,33 @@ that hold in FILE. Then these are all minimal ones, whoever wrote CERT. Else `no
   25  a key or dependency does not hold
 docs/CERTIFICATES.md has the form, and tools/check_cert.py does the same in Python.";
 
+const SYNTHESIZE: &str = "\
+depprof synthesize [--workers N] --out PREFIX [--most N] FILE
+
+Writes the report of the file, `table,NO,COLS,KEY` for each table in third normal form that its dependencies make,
+`alternate,NO,COLS` for the table's other keys, and `reference,NO,COLS,NO` for each table that has a key of another one.
+Each dependency that counts follows from those inside the tables; the tables are the files PREFIX1.csv, PREFIX2.csv, ..,
+and they join back to the distinct rows of the file.
+
+  --out PREFIX     how the names of the files begin: a folder in it must be there
+  --most N         dependencies with at most N columns on the left count, 0 to 128 (128: all)
+  --workers N      so many threads, 1 to 16 (4)";
+
+const VERIFY: &str = "\
+depprof verify [--workers N] --rules RULES FILE..
+
+RULES has a rule a line: `key,REL,COLS`, `fd,REL,COLS,NO`, `ref,REL.COL ..,REL.COL ..` (the cells of each row in the first
+list are those of some row in the second), `filled,REL.COL` (no empty cell); with one FILE, REL may be left out. The lines
+of a report of the same FILEs are rules too. Answers in order, RECORD counted in RULES and rows in the file:
+  holds,RECORD
+  fails,RECORD,REMOVED,I,J     a key or dependency: the fewest rows to remove, and the first two that break it
+  fails,RECORD,REMOVED,I       `ref` and `filled`: how many rows break it, and the first of them
+  unclear,RECORD               no rule, or it speaks of what is not there
+Last `verified,ALL,HOLDS,FAILS,UNCLEAR`: a line that ends in `,0,0` says that all rules hold.
+
+  --rules RULES    the file of the rules
+  --workers N      so many threads, 1 to 16 (4)";
+
 const DEMO: &str = "\
 depprof demo [--workers N] SEED
 
@@ -107,7 +136,7 @@ would say of it: `demo,SEED,12,5000,KEYS,FDS,INDS,TABLES`.
   --workers N      so many threads, 1 to 16 (4)";
 
 // Each command that has a page of its own.
-const PAGES: [(&str, &str); 8] = [
+const PAGES: [(&str, &str); 10] = [
     ("profile", PROFILE),
     ("normalize", NORMALIZE),
     ("session", SESSION),
@@ -115,6 +144,8 @@ const PAGES: [(&str, &str); 8] = [
     ("nary", NARY),
     ("certify", CERTIFY),
     ("check", CHECK),
+    ("synthesize", SYNTHESIZE),
+    ("verify", VERIFY),
     ("demo", DEMO),
 ];
 

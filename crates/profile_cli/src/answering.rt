@@ -23,7 +23,9 @@ use profile_text::{reports_of, session_of};
 use std::alloc::AllocError;
 use std::sync::Wait;
 use std::thread::Threads;
+use synth_text::synthesized_of;
 use task_base::{Made, Means};
+use verify_text::verified_of;
 
 // What the request writes by what its files hold and by the input. A further command is one more case.
 fn made_of<R: Threads + Wait + Sync, G: Gate + Sync>(
@@ -73,6 +75,13 @@ fn made_of<R: Threads + Wait + Sync, G: Gate + Sync>(
         Request::Certify { name, file, .. } => {
             certified_of(rt, means, name, file, relations.swap_remove(0))
         }
+        Request::Synthesize {
+            most,
+            prefix,
+            file,
+            ..
+        } => { synthesized_of(rt, means, prefix, file, relations.swap_remove(0), *most) }
+        Request::Verify { .. } => { verified_of(rt, means, relations, texts[0].bytes()) }
     }
 }
 

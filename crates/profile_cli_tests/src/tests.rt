@@ -11,7 +11,9 @@ mod reports;
 mod sessions;
 mod sizes;
 mod surely;
+mod synthesized;
 mod tables;
+mod verified;
 mod words;
 
 use approximate::APPROXIMATE;
@@ -27,7 +29,9 @@ use std::process::Abort;
 use std::sync::Wait;
 use std::test::Fail;
 use std::thread::Threads;
+use synthesized::SYNTHESIZED;
 use tables::NORMALIZED;
+use verified::VERIFIED;
 
 pub const R: &str = "id,city,zip\n1,Berlin,10115\n2,Berlin,10115\n3,Potsdam,14467\n";
 
@@ -335,6 +339,18 @@ fn texts_that_are_certificates_and_texts_that_are_none(rt: HostRuntime) -> Resul
 #[test]
 fn certificates_of_the_rows_beside_their_report(rt: HostRuntime) -> Result<(), Fail> {
     expect_all(&rt, rt.alloc(), &CERTIFIED)?;
+    Ok(())
+}
+
+#[test]
+fn tables_in_third_normal_form_with_their_references(rt: HostRuntime) -> Result<(), Fail> {
+    expect_all(&rt, rt.alloc(), &SYNTHESIZED)?;
+    Ok(())
+}
+
+#[test]
+fn rules_that_hold_and_rules_that_do_not(rt: HostRuntime) -> Result<(), Fail> {
+    expect_all(&rt, rt.alloc(), &VERIFIED)?;
     Ok(())
 }
 

@@ -8,9 +8,9 @@ use std::test::Fail;
 use std::thread::Threads;
 
 pub const USAGE: &str =
-    "usage: depprof profile [--workers N] [--nulls equal|distinct] FILE.. | normalize [--workers N] --out PREFIX FILE | session [--workers N] [--nulls equal|distinct] FILE | demo [--workers N] SEED | approx --errors E FILE | nary [--width W] FILE.. | certify [--workers N] --out NAME FILE | check FILE CERT\n";
+    "usage: depprof profile [--workers N] [--nulls equal|distinct] FILE.. | normalize [--workers N] --out PREFIX FILE | session [--workers N] [--nulls equal|distinct] FILE | demo [--workers N] SEED | approx --errors E FILE | nary [--width W] FILE.. | certify [--workers N] --out NAME FILE | check FILE CERT | synthesize [--workers N] --out PREFIX [--most N] FILE | verify [--workers N] --rules RULES FILE..\n";
 
-static NO_COMMAND: [&[&str]; 45] = [
+static NO_COMMAND: [&[&str]; 53] = [
     &[],
     &["depprof"],
     &["depprof", "profile"],
@@ -80,6 +80,38 @@ static NO_COMMAND: [&[&str]; 45] = [
     &["depprof", "certify", "r.csv"],
     &["depprof", "certify", "--out", "c"],
     &["depprof", "certify", "--out", "c", "r.csv", "r.csv"],
+    &["depprof", "synthesize", "r.csv"],
+    &["depprof", "synthesize", "--out", "t"],
+    &[
+        "depprof",
+        "synthesize",
+        "--out",
+        "t",
+        "--most",
+        "129",
+        "r.csv",
+    ],
+    &[
+        "depprof",
+        "synthesize",
+        "--out",
+        "t",
+        "--most",
+        "-1",
+        "r.csv",
+    ],
+    &["depprof", "synthesize", "--out", "t", "r.csv", "r.csv"],
+    &["depprof", "verify", "r.csv"],
+    &["depprof", "verify", "--rules", "rules"],
+    &[
+        "depprof",
+        "verify",
+        "--rules",
+        "rules",
+        "--workers",
+        "0",
+        "r.csv",
+    ],
 ];
 
 static OPTIONS: [&[&str]; 8] = [
