@@ -12,7 +12,8 @@ from readme_parts import sections_of, usages_of
 
 TOP = os.path.dirname(os.path.dirname(os.path.abspath(__file__)))
 FILES = {"FILE", "PREFIX", "RULES", "CERT", "NAME"}  # arguments that are files
-ABOUT = {"--workers": "threads, 1 to 16", "--nulls": "how empty cells compare", "--out": "what the names of the written files begin with"}
+ABOUT = {"--workers": "threads, 1 to 16", "--nulls": "how empty cells compare", "--out": "what the names of the written files begin with",
+         "--rules": "a text of rules", "--most": "columns on the left, 0 to 128"}
 
 
 @dataclass

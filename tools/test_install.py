@@ -175,6 +175,7 @@ class Completed(unittest.TestCase):
     @unittest.skipUnless(shutil.which("bash"), "no bash")
     def test_bash(self):
         self.assertEqual(self.bash("depprof")("n"), ["nary", "normalize"])
+        self.assertEqual(self.bash("depprof")("s"), ["session", "synthesize"])
         self.assertEqual(self.bash("depprof")("c"), ["certify", "check"])
         self.assertEqual(self.bash("depprof", "profile")("--n"), ["--nulls"])
         self.assertEqual(self.bash("depprof", "profile", "--nulls")(""), ["distinct", "equal"])

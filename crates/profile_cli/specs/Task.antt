@@ -21,7 +21,7 @@ task_of (Approx errors file) = approx_task errors file
 task_of (Check file certificate) = check_task file certificate
 task_of (Nary width files) = nary_task width files
 task_of (Certify workers name file) = certify_task workers name file
-task_of (Synthesize workers most prefix file) = synthesize_task workers prefix file most
+task_of (Synthesize workers most prefix file) = synthesize_task workers most prefix file
 task_of (Verify workers rules files) = verify_task workers rules files
 
 -- how many files words that are this command, or none, have read
