@@ -1,14 +1,17 @@
 -- The places of claims in an order of visits.
-use Rattle.std.proofs.Common.{inl, inr, ◌≡◌, ◌≢◌, ◌⊎◌, ℕ, zero, suc, ◌+◌, ◌<◌, ◌≤◌, true, false, sym, ap, ◌∙◌, subst, arith, List, [], ◌∷◌, ◌++◌, length, get_or, IsPermutation}
-use Rattle.std.specs.List.{Contains}
+use Rattle.std.proofs.Common.{inl, inr, ◌≡◌, ◌≢◌, ◌⊎◌, ℕ, zero, suc, ◌+◌, ◌<◌, ◌≤◌, true, false, sym, ap, ◌∙◌, subst, arith, List, [], ◌∷◌, ◌++◌, length, map, get_or, IsPermutation, Result, Ok, Err, IfOk, MatchResult, Vec, Global, tt}
+use Rattle.std.specs.List.{AllZip, Contains, flat_map}
+use Rattle.std.specs.declared.alloc.AllocError.{AllocError}
 use Rattle.std.proofs.lemmas.Bool.{cases_eq}
 use Rattle.std.proofs.lemmas.List.Sorted.{Contains-permutation}
-use Rattle.col_set.specs.Lists.{Listed-append_left, Listed-append_right}
+use Rattle.rayon.specs.Lists.{chunks_of}
+use Rattle.rayon.proofs.ToStd.{chunks_of-concat}
+use Rattle.col_set.specs.Lists.{Listed, Listed-append_cases, Listed-append_left, Listed-append_right}
 use Rattle.col_set.proofs.Places.{Contains-listed, Listed-contained}
 use Rattle.rel_base.specs.CodeTable.{CodeTable}
 use Rattle.rel_base.specs.Shows.{holds_in}
 use Rattle.cover_cert.specs.declared.line.Claim.{Claim}
-use Rattle.cover_cert.specs.Holding.{AreVisits, HoldsAt, FailsAt, IsLeastFailing}
+use Rattle.cover_cert.specs.Holding.{AreVisits, HoldsAt, FailsAt, IsLeastFailing, IsLeastOf}
 
 pub visits-more : (n rank : ℕ) (visits more : List (ℕ × ℕ)) → AreVisits n visits → more ≡ visits ++ (rank, n) ∷ [] → AreVisits (n + 1) more
 visits-more n rank visits more are e = subst (AreVisits (n + 1)) (sym e) (record { every = λ place l. by place (cases_eq place n) l })
@@ -33,16 +36,15 @@ module _ (s : CodeTable) (claims : List Claim) (visits : List (ℕ × ℕ)) wher
   same_default (x ∷ xs) (suc k) d e l = same_default xs k d e (omega arith)
 
   -- all visits are done
-  pub seen-all : (n least : ℕ) → AreVisits (length claims) visits → Seen s claims visits n least → length visits ≤ n → least ≤ length claims → FailsAt s claims least → IsLeastFailing s claims least
-  seen-all n least are seen l bound fails = record {
+  pub seen-all : (n least : ℕ) → Seen s claims visits n least → length visits ≤ n → least ≤ length claims → FailsAt s claims least → IsLeastOf s claims visits least
+  seen-all n least seen l bound fails = record {
     bound = bound;
     fails = fails;
-    before = λ other m.
-        let w = are.every other (omega arith) in
-        let c = w.1 in let inside = c.1 in
-        let at : get_or visits c.0 (w.0, other) ≡ (w.0, other) = c.2 in
-        let is : (get_or visits c.0 (w.0, other)).1 ≡ other = ap (λ (p : ℕ × ℕ). p.1) at in
-        subst (HoldsAt s claims) is (seen c.0 (w.0, other) (omega arith) (omega arith));
+    before = λ rank other c m.
+        let inside = c.1 in
+        let at : get_or visits c.0 (rank, other) ≡ (rank, other) = c.2 in
+        let is : (get_or visits c.0 (rank, other)).1 ≡ other = ap (λ (p : ℕ × ℕ). p.1) at in
+        subst (HoldsAt s claims) is (seen c.0 (rank, other) (omega arith) (omega arith));
   }
 
   -- one visit more
@@ -69,3 +71,54 @@ fails-at s claims place e h d l = ap (λ (c : Claim). holds_in s c.left c.target
     same [] k d e l = absurd (omega arith)
     same (x ∷ xs) zero d e l = λ i. x
     same (x ∷ xs) (suc k) d e l = same xs k d e (omega arith)
+
+-- ---- stretches of visits
+module _ {X Y : Type 0} (P : X → Y → Type 0) where
+  zipped : (xs : List X) (ys : List Y) → AllZip (λ (x : X) (r : Result Y AllocError). IfOk r (P x)) xs (map (λ y. Ok y) ys) → AllZip P xs ys
+  zipped [] [] h = tt
+  zipped [] (y ∷ ys) h = absurd h
+  zipped (x ∷ xs) [] h = absurd h
+  zipped (x ∷ xs) (y ∷ ys) h = (h.0, zipped xs ys h.1)
+
+  -- what was made of each, where all was made
+  pub each_made : (xs : List X) (made : List (Result Y AllocError)) (r : Result (Vec Y Global) AllocError)
+      → AllZip (λ (x : X) (r : Result Y AllocError). IfOk r (P x)) xs made
+      → MatchResult r (λ v. (ys : List Y) × (made ≡ map (λ y. Ok y) ys) × (v.items ≡ ys)) (λ e. Contains made (Err e)) → IfOk r (λ v. AllZip P xs v.items)
+  each_made xs made (Ok v) all h = subst (AllZip P xs) (sym h.2) (zipped xs h.0 (subst (λ (rs : List (Result Y AllocError)). AllZip (λ (x : X) (r : Result Y AllocError). IfOk r (P x)) xs rs) h.1 all))
+  each_made xs made (Err e) all h = tt
+
+module _ (s : CodeTable) (claims : List Claim) where
+  -- a visit is in some stretch
+  before-least : (stretches : List (List (ℕ × ℕ))) (places : List ℕ) (least rank other : ℕ) → AllZip (IsLeastOf s claims) stretches places
+      → ((k d : ℕ) → k < length places → least ≤ get_or places k d) → other < least → Listed (rank, other) (flat_map (λ l. l) stretches) → HoldsAt s claims other
+  before-least [] places least rank other all below m here = absurd here
+  before-least (v ∷ vs) [] least rank other all below m here = absurd all
+  before-least (v ∷ vs) (p ∷ ps) least rank other all below m here = by (Listed-append_cases (rank, other) v (flat_map (λ l. l) vs) here)
+    where
+      by : Listed (rank, other) v ⊎ Listed (rank, other) (flat_map (λ l. l) vs) → HoldsAt s claims other
+      by (inl l) = let at = below 0 0 (omega arith) in all.0.before rank other (Contains-listed (rank, other) v l) (omega arith)
+      by (inr l) = before-least vs ps least rank other all.1 (λ k d i. below (suc k) d (omega arith)) m l
+
+  -- one of the places fails
+  one-fails : (stretches : List (List (ℕ × ℕ))) (places : List ℕ) (least : ℕ) → AllZip (IsLeastOf s claims) stretches places → Listed least places → FailsAt s claims least
+  one-fails stretches [] least all here = absurd here
+  one-fails [] (p ∷ ps) least all here = absurd all
+  one-fails (v ∷ vs) (p ∷ ps) least all (inl e) = subst (FailsAt s claims) (sym e) all.0.fails
+  one-fails (v ∷ vs) (p ∷ ps) least all (inr h) = one-fails vs ps least all.1 h
+
+  -- the least of all stretches
+  pub least-of-all : (visits : List (ℕ × ℕ)) (stretch : ℕ) (places : List ℕ) (least : ℕ) → 0 < stretch → AreVisits (length claims) visits
+      → AllZip (IsLeastOf s claims) (chunks_of stretch visits) places → least ≤ length claims → ((k d : ℕ) → k < length places → least ≤ get_or places k d)
+      → (least ≡ length claims) ⊎ Listed least places → IsLeastFailing s claims least
+  least-of-all visits stretch places least some are all bound below found = record {
+    bound = bound;
+    fails = fails found;
+    before = λ other m.
+        let w = are.every other (omega arith) in
+        before-least (chunks_of stretch visits) places least w.0 other all below m
+        (subst (Listed (w.0, other)) (sym (chunks_of-concat stretch visits some)) (Listed-contained (w.0, other) visits w.1));
+  }
+    where
+      fails : (least ≡ length claims) ⊎ Listed least places → FailsAt s claims least
+      fails (inl e) d l = absurd (omega arith)
+      fails (inr h) = one-fails (chunks_of stretch visits) places least all h

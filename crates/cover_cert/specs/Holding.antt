@@ -27,3 +27,9 @@ pub record IsLeastFailing (s : CodeTable) (claims : List Claim) (place : ℕ) : 
   pub bound : place ≤ length claims
   pub fails : FailsAt s claims place
   pub before : (other : ℕ) → other < place → HoldsAt s claims other
+
+-- the same of claims that are visited
+pub record IsLeastOf (s : CodeTable) (claims : List Claim) (visits : List (ℕ × ℕ)) (place : ℕ) : Type 0 where
+  pub bound : place ≤ length claims
+  pub fails : FailsAt s claims place
+  pub before : (rank other : ℕ) → Contains visits (rank, other) → other < place → HoldsAt s claims other

@@ -1,17 +1,21 @@
 // Whether what a certificate lists holds in the rows.
-ghost use Rattle.std.specs.Prelude.{◌≡◌, ◌<◌, ◌≤◌, ◌+◌, ◌^◌, ℕ, length, IfOk, OnOk};
-ghost use Rattle.std.specs.List.{All};
+ghost use Rattle.std.specs.Prelude.{◌≡◌, ◌⊎◌, ◌<◌, ◌≤◌, ◌+◌, ◌^◌, ℕ, length, slice_index_or, IfOk, OnOk};
+ghost use Rattle.std.specs.List.{All, AllZip};
+ghost use Rattle.col_set.specs.Lists.{Listed};
+ghost use Rattle.rayon.specs.Lists.{chunks_of};
 ghost use Rattle.col_set.specs.ColSet.{Columns};
 ghost use Rattle.col_set.specs.Target.{IsColumnTarget};
 ghost use Rattle.rel_base.specs.Shows.{holds_in};
 ghost use Rattle.stripped_partition.specs.AnyOrder.{AreGroupsBy, AreGroupsOf};
 ghost use Rattle.cover_cert.specs.Certificates.{rows_in, fails};
 ghost use Rattle.cover_cert.specs.Comparing.{first_where};
-ghost use Rattle.cover_cert.specs.Holding.{IsWithin, AreVisits, HoldsAt, FailsAt, IsLeastFailing};
+ghost use Rattle.cover_cert.specs.Holding.{IsWithin, AreVisits, HoldsAt, FailsAt, IsLeastFailing, IsLeastOf};
 
 use crate::line::Claim;
+use rayon::prelude::*;
 use rel_base::{ColSet, MOST_COLUMNS, Snapshot, Target};
 use std::alloc::{AllocError, Global};
+use std::thread::Threads;
 use stripped_partition::{Partition, Path, weights};
 
 // The columns by how many rows they leave together, those that tell most apart first.
@@ -129,7 +133,8 @@ fn least_with(
     Ok(place)
 }
 
-// The place of the first claim that fails, or how many there are. Once one fails, only those before it are looked at.
+// The place of the first claim that fails among those that are visited, or how many claims there are. Once one fails, only those before it are
+// looked at.
 fn least_failing(
     alloc: Global,
     snapshot: &Snapshot,
@@ -138,8 +143,7 @@ fn least_failing(
     visits: &[(u128, usize)],
 ) -> Result<usize, AllocError>
     requires within { All (IsWithin (length snapshot.now.codes)) claims.now }
-    requires visits { AreVisits (length claims.now) visits.now }
-    ensures { IfOk result (IsLeastFailing snapshot.now claims.now) }
+    ensures { IfOk result (IsLeastOf snapshot.now claims.now visits.now) }
 {
     let mut path = Path::new(alloc, snapshot, order)?;
     let mut least = claims.len();
@@ -150,14 +154,80 @@ fn least_failing(
     Ok(least)
 }
 
+// The same of each stretch of so many visits, by several threads.
+fn least_by_stretch<R: Threads + Sync>(
+    rt: &R,
+    alloc: Global,
+    snapshot: &Snapshot,
+    order: &[u8],
+    claims: &[Claim],
+    visits: &[(u128, usize)],
+    stretch: usize,
+) -> Result<Vec<usize>, AllocError>
+    requires within { All (IsWithin (length snapshot.now.codes)) claims.now }
+    requires some { 0 < stretch }
+    ensures { IfOk result (λ places. AllZip (IsLeastOf snapshot.now claims.now) (chunks_of stretch visits.now) places.items) }
+{
+    let places: Result<Vec<usize>, AllocError> = visits
+        .par_chunks(stretch)
+        .map(
+            move |part: &[(u128, usize)]| -> Result<usize, AllocError>
+                requires { All (IsWithin (length snapshot.now.codes)) claims.now }
+                ensures { IfOk result (IsLeastOf snapshot.entry.now claims.entry.now part.now) }
+            {
+                let place = least_failing(alloc, snapshot, order, claims, part)?;
+                Ok(place)
+            },
+        )
+        .collect(rt, alloc)?;
+    places
+}
+
+// The least of these places, or the bound where none is below it.
+fn least_of(places: &[usize], bound: usize) -> usize
+    ensures bound { result ≤ bound }
+    ensures least { (k d : ℕ) → k < length places.now → result ≤ slice_index_or places.now k d }
+    ensures found { (result ≡ bound) ⊎ Listed result places.now }
+{
+    let mut least = bound;
+    for place in places {
+        if *place < least {
+            least = *place;
+        }
+    }
+    least
+}
+
+// The place of the first claim that fails, or how many there are, by so many threads at most. Each has visits that stand beside each other, so
+// they share partitions as they do with one thread.
+fn least_failing_by<R: Threads + Sync>(
+    rt: &R,
+    alloc: Global,
+    snapshot: &Snapshot,
+    order: &[u8],
+    claims: &[Claim],
+    visits: &[(u128, usize)],
+    workers: u8,
+) -> Result<usize, AllocError>
+    requires within { All (IsWithin (length snapshot.now.codes)) claims.now }
+    requires visits { AreVisits (length claims.now) visits.now }
+    ensures { IfOk result (IsLeastFailing snapshot.now claims.now) }
+{
+    let stretch = visits.len().div_ceil(workers.max(1) as usize).max(1);
+    let places = least_by_stretch(rt, alloc, snapshot, order, claims, visits, stretch)?;
+    Ok(least_of(places.as_slice(), claims.len()))
+}
+
 /// The record of the first claim that fails in the rows. The first claim has this number.
 ///
 /// Each left side is gone to once, on partitions by its lightest columns first, so that those which begin alike share refinements.
-pub(crate) fn first_failing(
+pub(crate) fn first_failing<R: Threads + Sync>(
+    rt: &R,
     alloc: Global,
     snapshot: &Snapshot,
     claims: &[Claim],
     number: u64,
+    workers: u8,
 ) -> Result<Option<u64>, AllocError>
     requires within { All (IsWithin (length snapshot.now.codes)) claims.now }
     requires short { number + length claims.now < 2 ^ 64 }
@@ -166,7 +236,8 @@ pub(crate) fn first_failing(
     let order = order_of(alloc, snapshot)?;
     let visits = visits_of(alloc, order.as_slice(), claims)?;
     let order = order.as_slice();
-    let place = least_failing(alloc, snapshot, order, claims, visits.as_slice())?;
+    let visits = visits.as_slice();
+    let place = least_failing_by(rt, alloc, snapshot, order, claims, visits, workers)?;
     if place < claims.len() {
         return Ok(Some(number + place as u64));
     }

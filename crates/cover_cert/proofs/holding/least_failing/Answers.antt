@@ -11,4 +11,4 @@ loop-visit-preserved c = record {
 }
 
 pub returns : goal.returns
-returns c = seen-all c.args.snapshot.now c.args.claims.now c.args.visits.now c.loop-visit.visit-index c.loop-visit.least c.requires.visits c.loop-visit.invariant.seen c.loop-visit-test.false c.loop-visit.invariant.bound c.loop-visit.invariant.fails
+returns c = seen-all c.args.snapshot.now c.args.claims.now c.args.visits.now c.loop-visit.visit-index c.loop-visit.least c.loop-visit.invariant.seen c.loop-visit-test.false c.loop-visit.invariant.bound c.loop-visit.invariant.fails
