@@ -24,6 +24,7 @@ ghost use Rattle.cover_core.specs.KnownLefts.{AreTrueLefts};
 ghost use Rattle.cover_core.specs.Told.{IsTrueOf};
 ghost use Rattle.validator.specs.Stores.{AreOf};
 ghost use Rattle.cover_core.specs.Work.{Extends, work};
+ghost use Rattle.cover_core.specs.Waiting.{IsSought};
 ghost use Rattle.cover_core.specs.Replies.{reply_of_draw, reply_of_refutation, reply_of_mark, reply_of_release, reply_of_batch, reply_of_settle, IfJob, IfReady};
 
 use crate::answers::{Draw, Refutation, Release, Settling};
@@ -35,7 +36,7 @@ use crate::outdated::Outdated;
 use crate::renewal::renewed_after;
 use crate::searcher::Searcher;
 use crate::searching::{first_drawable, first_unfinished, move_both_back};
-use crate::sought::{Wanted, is_calm, rank_of};
+use crate::sought::{Wanted, are_dearer, is_calm, rank_of};
 use crate::waiting::{Sizes, Waiting, count, mark_each, worth_comparing};
 use candidate_cover::{CandidateCover, Marking};
 use cover_steps::evidence::{Evidence, News, news_of};
@@ -554,8 +555,12 @@ impl Book {
         let mut news = news_of(alloc, &self.witnesses, &self.candidates, found)?;
         let mut held = Vec::new(alloc);
         for size in 0..=self.candidates.columns() {
-            let (mut verdicts, asked) = self.judge_sought(judges, gate, &news.draft, size)?;
-            let is_calm = is_calm(verdicts.told, asked, news.witnesses.len());
+            let list = self.sought(judges, &news.draft, size)?;
+            if are_dearer(list.len(), self.rows.live_len()) {
+                return self.compare_all(judges);
+            }
+            let mut verdicts = self.judge_sought(judges, gate, list.as_slice())?;
+            let is_calm = is_calm(verdicts.told, list.len(), news.witnesses.len());
             held.append(&mut verdicts.held)?;
             news = news.with(verdicts.found)?;
             if is_calm {
@@ -569,29 +574,38 @@ impl Book {
         Ok(())
     }
 
-    // Validates left sides with so many columns that a draft leaves, and tells how many there are.
+    // The left sides with so many columns that a draft leaves.
+    fn sought<J: Judges>(
+        &self,
+        judges: &J,
+        draft: &Draft,
+        size: u8,
+    ) -> Result<Vec<Waiting>, AllocError>
+        requires ready { J.ready }
+        ensures { IfOk result (λ list. All (IsSought draft.now.width) list.items) }
+    {
+        let wanted = Wanted::Left { draft, size };
+        judges.collected(self.alloc, &wanted, &self.searcher.order)
+    }
+
+    // Validates these left sides.
     fn judge_sought<J: Judges, G: Gate>(
         &mut self,
         judges: &J,
         gate: &G,
-        draft: &Draft,
-        size: u8,
-    ) -> Result<(Verdicts, usize), AllocError>
+        asked: &[Waiting],
+    ) -> Result<Verdicts, AllocError>
         requires ready { J.ready }
-        requires width { draft.now.width ≡ width self.old.rows }
-        ensures held { IfOk result (λ made. All (IsSeen self.new.rows) made.0.held.items) }
-        ensures found { IfOk result (λ made. All (IsEvidence self.new.rows) made.0.found.items) }
+        requires asked { All (IsSought (width self.old.rows)) asked.now }
+        ensures held { IfOk result (λ made. All (IsSeen self.new.rows) made.held.items) }
+        ensures found { IfOk result (λ made. All (IsEvidence self.new.rows) made.found.items) }
         ensures same { self.new ≡ self.old }
         ensures sound { Sound self.new }
     {
         let alloc = self.alloc;
-        let wanted = Wanted::Left { draft, size };
-        let list = judges.collected(alloc, &wanted, &self.searcher.order)?;
         let snapshot = self.snapshot.clone()?;
         let (rows, stores) = (&self.rows, &mut self.searcher.stores);
-        let asked = list.as_slice();
-        let judged = judged_by_parts(judges, gate, alloc, rows, &snapshot, asked, stores)?;
-        Ok((judged, list.len()))
+        judged_by_parts(judges, gate, alloc, rows, &snapshot, asked, stores)
     }
 
     // Books what all pairs of live rows agree on. That is all the evidence that there is: what it leaves holds.

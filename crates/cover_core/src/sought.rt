@@ -26,6 +26,9 @@ const FEW_CANDIDATES: usize = 1 << 12;
 // So few new witnesses leave candidates that are made in no time.
 const FEW_NEWS: usize = 1 << 13;
 
+// A verdict takes as much time as so many pairs of rows that are compared, 4 µs and 10 ns each.
+const PAIRS_A_VERDICT: u64 = 400;
+
 // The target at a place: which row it is, and then the columns.
 fn target_at(place: usize, columns: u8) -> Option<Target>
     requires { columns ≤ MOST_COLUMNS }
@@ -268,6 +271,12 @@ pub(crate) fn collected_by<R: Threads + Sync>(
 // they are many or the witnesses few.
 pub(crate) fn is_calm(found: usize, asked: usize, witnesses: usize) -> bool {
     found < asked && (asked >= MANY_SOUGHT || witnesses < FEW_NEWS)
+}
+
+// Whether verdicts on so many left sides take longer than to compare all pairs of so many rows. Then there are more left sides to come.
+pub(crate) fn are_dearer(asked: usize, rows: u32) -> bool {
+    let rows = u64::from(rows);
+    asked as u64 > rows.saturating_mul(rows) / 2 / PAIRS_A_VERDICT
 }
 
 // Where a target stands among all.

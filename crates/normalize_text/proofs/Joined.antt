@@ -8,7 +8,8 @@ use Rattle.fd_closure.specs.Keys.{table_key}
 use Rattle.bcnf_split.specs.Split.{splits}
 use Rattle.lossless_join.proofs.Bcnf.{SplitToBcnf-splits}
 use Rattle.normalize_text.specs.Joined.{AreLosslessTables, projection_text}
-use Rattle.normalize_text.specs.Normalize.{normalized, table_file}
+use Rattle.table_files.specs.Files.{table_file}
+use Rattle.normalize_text.specs.Normalize.{normalized}
 
 -- the texts of the files of tables of these columns
 texts_are : (prefix : List ℕ) (r : RowState) (k : ℕ) (sets : List Columns)

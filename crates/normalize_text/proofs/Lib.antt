@@ -1,4 +1,3 @@
-pub mod RowParts
 pub mod Tables
 pub mod Drawn
 pub mod Joined

@@ -4,7 +4,6 @@
 mod demo;
 pub mod laws;
 mod normalizing;
-mod projecting;
 
 pub use demo::{demo_relation, demo_text_of};
 pub use normalizing::normalized_of;

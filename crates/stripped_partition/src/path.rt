@@ -100,7 +100,8 @@ impl<'a> Model for Path<'a> {
 impl<'a> Path<'a> {
     /// The path that has no column yet.
     ///
-    /// On the way to a column set its columns are taken in this order, and those that it lacks behind them, ascending.
+    /// On the way to a column set its columns are taken in this order, and those that it lacks behind them, ascending. The order is a hint: it
+    /// costs time alone, least where column sets that follow each other begin with the same columns of it.
     pub fn new(
         alloc: Global,
         snapshot: &'a Snapshot,

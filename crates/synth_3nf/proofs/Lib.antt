@@ -1,5 +1,8 @@
 pub mod Reaching
 pub mod Both
+pub mod Ends
+pub mod Block
+pub mod Widening
 pub mod Trials
 pub mod Tabling
 pub mod Outer

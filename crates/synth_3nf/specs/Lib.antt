@@ -1,4 +1,5 @@
 pub mod Reached
+pub mod Ending
 pub mod Canonical
 pub mod Tables
 pub mod References

@@ -4,13 +4,15 @@ use Rattle.col_set.specs.ColSet.{Columns}
 use Rattle.rel_base.specs.declared.dependency.Table.{Table}
 use Rattle.rel_base.specs.RowState.{IsRowState, RowState, width}
 use Rattle.report_text.specs.Tables.{tables_text}
-use Rattle.normalize_text.specs.Normalize.{alternates, table_file, tables}
+use Rattle.table_files.specs.Files.{table_file}
+use Rattle.table_files.specs.Keys.{alternates}
+use Rattle.normalize_text.specs.Normalize.{tables}
 use Rattle.normalize_text.proofs.Tables.{normalized-files, normalized-text, tables_below}
 use Rattle.task_base.proofs.Facts.{IfOk-map, OnOk-always}
 use Rattle.normalize_text.proofs.normalizing.push_normalized.Goals as goal
 
 pub files_of-requires-clause-columns : goal.files_of-requires-clause-columns
-files_of-requires-clause-columns g c =
+files_of-requires-clause-columns g c lifetimes lives =
     let r : RowState = c.args.book.now.rows in
     let state : IsRowState r = c.rows.ensures.sound.rows in
     let are = c.deref-4.ensures.value ∙ c.in_ok-tables.ensures ∙ ap tables c.rows.ensures.rows in

@@ -1,0 +1,4 @@
+pub mod Keeping
+pub mod ThirdNormal
+pub mod Joined
+pub mod Referred

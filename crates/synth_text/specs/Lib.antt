@@ -1,0 +1,2 @@
+pub mod Synthesize
+pub mod Tasks

@@ -1,0 +1,5 @@
+pub mod Blocks
+pub mod Made
+pub mod Rows
+pub mod Tables
+pub mod Texts
