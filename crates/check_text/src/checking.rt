@@ -33,19 +33,24 @@ pub fn checked_of<R: Threads + Sync, G>(
         Nulls::Equal,
         means.workers,
     )?;
-    let answer = answer_of(means.alloc, &rows, certificate)?;
+    let answer = answer_of(rt, means, &rows, certificate)?;
     let text = line_of(means.alloc, answer)?;
     Ok(Made::text_alone(means.alloc, text))
 }
 
 // What these bytes are found to be.
-fn answer_of(alloc: Global, rows: &RowLog, certificate: &[u8]) -> Result<Answer, AllocError>
+fn answer_of<R: Threads + Sync, G>(
+    rt: &R,
+    means: &Means<'_, G>,
+    rows: &RowLog,
+    certificate: &[u8],
+) -> Result<Answer, AllocError>
     ensures { IfOk result (λ answer. answer ≡ certificates.answer rows.now certificate.now) }
 {
     // `names` is called for its clause that these are a row state.
     let _names = rows.names();
-    let snapshot = rows.snapshot(alloc)?;
-    let answer = check(alloc, &snapshot, certificate)?;
+    let snapshot = rows.snapshot(means.alloc)?;
+    let answer = check(rt, means.alloc, &snapshot, certificate, means.workers)?;
     Ok(answer)
 }
 

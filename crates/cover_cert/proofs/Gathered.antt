@@ -59,19 +59,35 @@ module _ (n : ℕ) (ws : List ℕ) (number : ℕ) (claims : List Claim) where
       ∙ sym (then-goes_on number claims start (claims_to RowId (least n ws RowId) ++ more) f)
       ∙ told number more
 
-  pub told-more : (k : ℕ) (so_far next : Compared) → Told k so_far
-      → ((m : ℕ) (more : List Claim) → departs_then m claims so_far (claims_to (Col k) (least n ws (Col k)) ++ more) ≡ departs_then m claims next more) → Told (k + 1) next
-  told-more k so_far next before told more =
-      ap (λ (cs : List Claim). departs_at number cs claims) (gathered-more n ws k more) ∙ before (column_claims n ws k ++ more) ∙ told number more
+-- ---- how far it has been compared, by the columns that are left
+module _ (n : ℕ) (ws : List ℕ) (number : ℕ) (claims : List Claim) where
+  -- what is left to compare
+  abbrev pub left_of : List ℕ → List Claim
+  left_of rest = flat_map (column_claims n ws) rest
 
-  whole : (k : ℕ) (so_far : Compared) → k ≡ n → Told k so_far → departs_then number claims so_far [] ≡ departs_at number (claims_of (least_covers n ws)) claims
-  whole k so_far e told = sym (told []) ∙ ap (λ (cs : List Claim). departs_at number cs claims) (append-nil (gathered n ws k) ∙ ap (gathered n ws) e ∙ gathered-all n ws)
+  -- what is listed beside all that is wanted, by what has been compared and the columns that are left
+  abbrev pub Left : Compared → List ℕ → Type 0
+  Left so_far rest = departs_at number (claims_of (least_covers n ws)) claims ≡ departs_then number claims so_far (left_of rest)
 
-  pub found-departs : (k : ℕ) (so_far : Compared) → k ≡ n → Told k so_far → so_far.departs ≡ true → Some (number + so_far.place) ≡ departs_at number (claims_of (least_covers n ws)) claims
-  found-departs k so_far e told d = sym (then-departs number claims so_far [] d) ∙ whole k so_far e told
+  pub left-start : (start so_far : Compared) (rest : List ℕ) → start.place ≡ 0 → start.departs ≡ false
+      → ((m : ℕ) (more : List Claim) → departs_then m claims start (claims_to RowId (least n ws RowId) ++ more) ≡ departs_then m claims so_far more) → rest ≡ upto n → Left so_far rest
+  left-start start so_far rest e f told is =
+      ap (λ (cs : List Claim). departs_at number cs claims) (sym (gathered-all n ws) ∙ ap (λ (cs : List Claim). cs ++ left_of (upto n)) (sym (gathered-none n ws)))
+      ∙ told-start n ws number claims start so_far e f told (left_of (upto n)) ∙ ap (λ (cs : List ℕ). departs_then number claims so_far (left_of cs)) (sym is)
 
-  pub found-more : (k : ℕ) (so_far : Compared) → k ≡ n → Told k so_far → so_far.departs ≡ false → so_far.place < length claims → Some (number + so_far.place) ≡ departs_at number (claims_of (least_covers n ws)) claims
-  found-more k so_far e told d l = sym (then-goes_on number claims so_far [] d ∙ departs-more number claims so_far.place l) ∙ whole k so_far e told
+  pub left-more : (so_far next : Compared) (rest some later : List ℕ) (beside : List Claim) → Left so_far rest → some ++ later ≡ rest → beside ≡ left_of some
+      → ((m : ℕ) (more : List Claim) → departs_then m claims so_far (beside ++ more) ≡ departs_then m claims next more) → Left next later
+  left-more so_far next rest some later beside before parts is told =
+      before ∙ ap (departs_then number claims so_far) (ap left_of (sym parts) ∙ flat_map-append (column_claims n ws) some later ∙ ap (λ (cs : List Claim). cs ++ left_of later) (sym is))
+      ∙ told number (left_of later)
 
-  pub found-none : (k : ℕ) (so_far : Compared) → k ≡ n → Told k so_far → so_far.departs ≡ false → length claims ≤ so_far.place → None ≡ departs_at number (claims_of (least_covers n ws)) claims
-  found-none k so_far e told d l = sym (then-goes_on number claims so_far [] d ∙ departs-end number claims so_far.place l) ∙ whole k so_far e told
+  pub left-departs : (so_far : Compared) (rest : List ℕ) → Left so_far rest → so_far.departs ≡ true → Some (number + so_far.place) ≡ departs_at number (claims_of (least_covers n ws)) claims
+  left-departs so_far rest told d = sym (then-departs number claims so_far (left_of rest) d) ∙ sym told
+
+  pub left-too_many : (so_far : Compared) (rest : List ℕ) → Left so_far rest → rest ≡ [] → so_far.departs ≡ false → so_far.place < length claims → Some (number + so_far.place) ≡ departs_at number (claims_of (least_covers n ws)) claims
+  left-too_many so_far rest told none d l =
+      sym (then-goes_on number claims so_far [] d ∙ departs-more number claims so_far.place l) ∙ ap (λ (cs : List ℕ). departs_then number claims so_far (left_of cs)) (sym none) ∙ sym told
+
+  pub left-none : (so_far : Compared) (rest : List ℕ) → Left so_far rest → rest ≡ [] → so_far.departs ≡ false → length claims ≤ so_far.place → None ≡ departs_at number (claims_of (least_covers n ws)) claims
+  left-none so_far rest told none d l =
+      sym (then-goes_on number claims so_far [] d ∙ departs-end number claims so_far.place l) ∙ ap (λ (cs : List ℕ). departs_then number claims so_far (left_of cs)) (sym none) ∙ sym told

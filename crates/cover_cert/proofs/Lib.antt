@@ -10,6 +10,7 @@ pub mod Certified
 pub mod Past
 pub mod Pairs
 pub mod Visits
+pub mod Lists
 pub mod Told
 pub mod Numbers
 pub mod Written

@@ -1,5 +1,5 @@
 -- The places of claims in an order of visits.
-use Rattle.std.proofs.Common.{inl, inr, ◌≡◌, ◌≢◌, ◌⊎◌, ℕ, zero, suc, ◌+◌, ◌<◌, ◌≤◌, true, false, sym, ap, ◌∙◌, subst, arith, List, [], ◌∷◌, ◌++◌, length, map, get_or, IsPermutation, Result, Ok, Err, IfOk, MatchResult, Vec, Global, tt}
+use Rattle.std.proofs.Common.{inl, inr, ◌≡◌, ◌≢◌, ◌⊎◌, ℕ, zero, suc, ◌+◌, ◌<◌, ◌≤◌, true, false, sym, ap, ◌∙◌, subst, arith, List, [], ◌∷◌, ◌++◌, length, map, get_or, IsPermutation, Result, Ok, Err, IfOk, MatchResult, Vec, Global}
 use Rattle.std.specs.List.{AllZip, Contains, flat_map}
 use Rattle.std.specs.declared.alloc.AllocError.{AllocError}
 use Rattle.std.proofs.lemmas.Bool.{cases_eq}
@@ -93,11 +93,10 @@ module _ (s : CodeTable) (claims : List Claim) where
       → ((k d : ℕ) → k < length places → least ≤ get_or places k d) → other < least → Listed (rank, other) (flat_map (λ l. l) stretches) → HoldsAt s claims other
   before-least [] places least rank other all below m here = absurd here
   before-least (v ∷ vs) [] least rank other all below m here = absurd all
-  before-least (v ∷ vs) (p ∷ ps) least rank other all below m here = by (Listed-append_cases (rank, other) v (flat_map (λ l. l) vs) here)
-    where
-      by : Listed (rank, other) v ⊎ Listed (rank, other) (flat_map (λ l. l) vs) → HoldsAt s claims other
-      by (inl l) = let at = below 0 0 (omega arith) in all.0.before rank other (Contains-listed (rank, other) v l) (omega arith)
-      by (inr l) = before-least vs ps least rank other all.1 (λ k d i. below (suc k) d (omega arith)) m l
+  before-least (v ∷ vs) (p ∷ ps) least rank other all below m here = elim (Listed-append_cases (rank, other) v (flat_map (λ l. l) vs) here) as (λ _. HoldsAt s claims other) [
+    | inl l ↦ (let at = below 0 0 (omega arith) in all.0.before rank other (Contains-listed (rank, other) v l) (omega arith))
+    | inr l ↦ before-least vs ps least rank other all.1 (λ k d i. below (suc k) d (omega arith)) m l
+  ]
 
   -- one of the places fails
   one-fails : (stretches : List (List (ℕ × ℕ))) (places : List ℕ) (least : ℕ) → AllZip (IsLeastOf s claims) stretches places → Listed least places → FailsAt s claims least
@@ -120,5 +119,22 @@ module _ (s : CodeTable) (claims : List Claim) where
   }
     where
       fails : (least ≡ length claims) ⊎ Listed least places → FailsAt s claims least
-      fails (inl e) d l = absurd (omega arith)
+      fails (inl e) = λ d l. absurd (omega arith)
       fails (inr h) = one-fails (chunks_of stretch visits) places least all h
+
+-- one place more, and the least of it and those before
+module _ (places : List ℕ) (n least next bound : ℕ) (l : n < length places) (less : next ≤ least) (at : next ≤ get_or places n 0)
+    (below : (k d : ℕ) → k < n → least ≤ get_or places k d) where
+  same_place : (xs : List ℕ) (k d e : ℕ) → k < length xs → get_or xs k d ≡ get_or xs k e
+  same_place [] k d e m = absurd (omega arith)
+  same_place (x ∷ xs) zero d e m = λ i. x
+  same_place (x ∷ xs) (suc k) d e m = same_place xs k d e (omega arith)
+
+  pub below-more : (k d : ℕ) → k < n + 1 → next ≤ get_or places k d
+  below-more k d m = by (cases_eq k n)
+    where
+      by : (k ≡ n) ⊎ (k ≢ n) → next ≤ get_or places k d
+      by (inl i) =
+          let is : get_or places n 0 ≡ get_or places k d = same_place places n 0 d l ∙ ap (λ (j : ℕ). get_or places j d) (sym i) in
+          omega arith
+      by (inr other) = let before = below k d (omega arith) in omega arith

@@ -12,6 +12,12 @@ use Rattle.cover_cert.specs.declared.comparing.Compared.{Compared}
 abbrev pub claims_to : Target → List Columns → List Claim
 claims_to target lefts = map (λ left. record { left = left; target = target }) lefts
 
+-- left sides for columns, a list for each
+unfoldable pub claims_beside : List ℕ → List (List Columns) → List Claim
+claims_beside (column ∷ columns) (lefts ∷ lists) = claims_to (Col column) lefts ++ claims_beside columns lists
+claims_beside (column ∷ columns) [] = []
+claims_beside [] lists = []
+
 abbrev pub claim_of : Fd → Claim
 claim_of fd = record { left = fd.left; target = Col fd.right }
 

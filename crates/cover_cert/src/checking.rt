@@ -15,6 +15,7 @@ use crate::listing::{Listing, Reading, read};
 use csv_load::part_at_giant;
 use rel_base::Snapshot;
 use std::alloc::{AllocError, Global};
+use std::thread::Threads;
 
 /// A giant record with more fields than this is not read whole: a record of a certificate has at most three.
 const MOST_FIELDS: usize = 3;
@@ -26,17 +27,23 @@ const MOST_FIELDS: usize = 3;
 /// hold in the rows. So they are all minimal keys and dependencies, whoever wrote the text and however the pairs were found. The flaws are
 /// asked one after another, each of the whole text.
 ///
-/// The text is read once and not copied. It takes 8 bytes for a pair and some 60 for a key or dependency, the least sets of one target
-/// at a time (`least_sets`), and a partition for each column of the left side at hand; in time mostly what these take, with a refinement
-/// for each column that a left side has other than the one before it.
+/// The text is read once and not copied. It takes 8 bytes for a pair and some 60 for a key or dependency, and for each worker the least sets
+/// of one target (`least_sets`) and a partition for each column of the left side at hand; in time mostly what these take, with a refinement
+/// for each column that a left side has other than the one before it. Workers take targets, and then stretches of left sides.
 ///
 /// An `AllocError` comes where memory is refused.
-pub fn check(alloc: Global, snapshot: &Snapshot, bytes: &[u8]) -> Result<Answer, AllocError>
+pub fn check<R: Threads + Sync>(
+    rt: &R,
+    alloc: Global,
+    snapshot: &Snapshot,
+    bytes: &[u8],
+    workers: u8,
+) -> Result<Answer, AllocError>
     ensures by_codes { IfOk result (λ answer. answer ≡ answer_in snapshot.now bytes.now) }
     ensures rows { IfOk result (λ answer. (r : RowState) → IsRowState r → Shows snapshot.now r → answer ≡ spec.answer r bytes.now) }
 {
     let text = up_to_giant(bytes);
-    let answer = check_text(alloc, snapshot, text)?;
+    let answer = check_text(rt, alloc, snapshot, text, workers)?;
     Ok(answer)
 }
 
@@ -61,12 +68,18 @@ fn shape_in(snapshot: &Snapshot) -> Shape
 }
 
 // What `check` answers of a text without giant records.
-fn check_text(alloc: Global, snapshot: &Snapshot, text: &[u8]) -> Result<Answer, AllocError>
+fn check_text<R: Threads + Sync>(
+    rt: &R,
+    alloc: Global,
+    snapshot: &Snapshot,
+    text: &[u8],
+    workers: u8,
+) -> Result<Answer, AllocError>
     ensures { IfOk result (λ answer. answer ≡ answer_in snapshot.now text.now) }
 {
     match read(alloc, text, shape_in(snapshot))? {
         Reading::Listed(listing) => {
-            let answer = judge(alloc, snapshot, &listing)?;
+            let answer = judge(rt, alloc, snapshot, &listing, workers)?;
             Ok(answer)
         }
         Reading::OutOfForm(record) => Ok(Answer::No {
@@ -77,7 +90,13 @@ fn check_text(alloc: Global, snapshot: &Snapshot, text: &[u8]) -> Result<Answer,
 }
 
 // What `check` answers of a text in form.
-fn judge(alloc: Global, snapshot: &Snapshot, listing: &Listing) -> Result<Answer, AllocError>
+fn judge<R: Threads + Sync>(
+    rt: &R,
+    alloc: Global,
+    snapshot: &Snapshot,
+    listing: &Listing,
+    workers: u8,
+) -> Result<Answer, AllocError>
     requires { AreFew listing.now.pairs.items listing.now.claims.items }
     ensures { IfOk result (λ answer. (text : Said) → IsListing (shape_of (rows_in snapshot.now)) text listing.now → answer ≡ judged (rows_in snapshot.now) text) }
 {
@@ -97,13 +116,21 @@ fn judge(alloc: Global, snapshot: &Snapshot, listing: &Listing) -> Result<Answer
     let first_claim = pairs.len() as u64 + FIRST_PAIR;
     let columns = snapshot.columns();
     let sets = agree_sets(alloc, snapshot, pairs)?;
-    if let Some(record) = first_departure(alloc, columns, &sets, claims, first_claim)? {
+    if let Some(record) = first_departure(
+        rt,
+        alloc,
+        columns,
+        &sets,
+        claims,
+        first_claim,
+        workers,
+    )? {
         return Ok(Answer::No {
             record,
             flaw: Flaw::Least,
         });
     }
-    if let Some(record) = first_failing(alloc, snapshot, claims, first_claim)? {
+    if let Some(record) = first_failing(rt, alloc, snapshot, claims, first_claim, workers)? {
         return Ok(Answer::No {
             record,
             flaw: Flaw::Fails,

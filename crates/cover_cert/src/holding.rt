@@ -35,14 +35,26 @@ fn order_of(alloc: Global, snapshot: &Snapshot) -> Result<Vec<u8>, AllocError> {
     Ok(order)
 }
 
-// A number by which left sides that begin with the same columns of this order stand beside each other.
-fn rank_of(order: &[u8], left: ColSet) -> u128 {
-    let mut rank = 0;
+// For each column the bit by which it counts in a rank: those that come first in this order count most.
+fn bits_of(alloc: Global, order: &[u8]) -> Result<Vec<u128>, AllocError> {
+    let mut bits = vec![in alloc; 0; MOST_COLUMNS as usize]?;
+    let mut bit: u128 = 1 << 127;
     for column in order {
-        rank <<= 1;
-        if *column < MOST_COLUMNS && left.has(*column) {
-            rank |= 1;
+        if let Some(place) = bits.get_mut(*column as usize) {
+            *place = bit;
         }
+        bit >>= 1;
+    }
+    Ok(bits)
+}
+
+// A number by which left sides that begin with the same columns of an order stand beside each other.
+fn rank_of(bits: &[u128], left: ColSet) -> u128 {
+    let mut rank = 0;
+    let mut rest = left;
+    while let Some(column) = rest.first() {
+        rank |= bits.get(column as usize).copied().unwrap_or(0);
+        rest = rest.without(column);
     }
     rank
 }
@@ -55,18 +67,19 @@ fn visits_of(
 ) -> Result<Vec<(u128, usize)>, AllocError>
     ensures { IfOk result (λ visits. AreVisits (length claims.now) visits.items) }
 {
-    let mut visits = ranked(alloc, order, claims)?;
+    let bits = bits_of(alloc, order)?;
+    let mut visits = ranked(alloc, bits.as_slice(), claims)?;
     visits.sort_unstable();
     Ok(visits)
 }
 
 // The places of all claims, each behind its rank.
-fn ranked(alloc: Global, order: &[u8], claims: &[Claim]) -> Result<Vec<(u128, usize)>, AllocError>
+fn ranked(alloc: Global, bits: &[u128], claims: &[Claim]) -> Result<Vec<(u128, usize)>, AllocError>
     ensures { IfOk result (λ visits. AreVisits (length claims.now) visits.items) }
 {
     let mut visits = Vec::with_capacity(alloc, claims.len())?;
     for place in 0..claims.len() {
-        visits.push((rank_of(order, claims[place].left), place))?;
+        visits.push((rank_of(bits, claims[place].left), place))?;
     }
     Ok(visits)
 }

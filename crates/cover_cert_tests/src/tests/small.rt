@@ -35,11 +35,11 @@ fn what_no_pair_refutes_is_looked_up(rt: HostRuntime) -> Result<(), Fail> {
     let alloc = rt.alloc();
     let rows = two_rows(alloc, &rt, [[0u32, 0], [0u32, 1]])?;
     let fails = b"cert,2,2\nkey,\nfd,,1\nfd,,2\nend\n";
-    assert!(rt; says(alloc, &rows, fails, no(2, Flaw::Fails))?);
+    assert!(rt; says(&rt, alloc, &rows, fails, no(2, Flaw::Fails))?);
     let whole = b"cert,2,2\npair,1,2\nkey,2\nfd,,1\nfd,2,2\nend\n";
-    assert!(rt; says(alloc, &rows, whole, no(5, Flaw::Least))?);
+    assert!(rt; says(&rt, alloc, &rows, whole, no(5, Flaw::Least))?);
     let right = b"cert,2,2\npair,1,2\nkey,2\nfd,,1\nend\n";
-    assert!(rt; says(alloc, &rows, right, Answer::Yes)?);
+    assert!(rt; says(&rt, alloc, &rows, right, Answer::Yes)?);
     Ok(())
 }
 
@@ -48,9 +48,9 @@ fn equal_rows_have_no_keys(rt: HostRuntime) -> Result<(), Fail> {
     let alloc = rt.alloc();
     let rows = two_rows(alloc, &rt, [[0u32, 0], [0u32, 0]])?;
     let right = b"cert,2,2\npair,1,2\nfd,,1\nfd,,2\nend\n";
-    assert!(rt; says(alloc, &rows, right, Answer::Yes)?);
+    assert!(rt; says(&rt, alloc, &rows, right, Answer::Yes)?);
     let without = b"cert,2,2\nfd,,1\nfd,,2\nend\n";
-    assert!(rt; says(alloc, &rows, without, no(2, Flaw::Least))?);
+    assert!(rt; says(&rt, alloc, &rows, without, no(2, Flaw::Least))?);
     Ok(())
 }
 
@@ -59,15 +59,24 @@ fn no_rows_and_one_column(rt: HostRuntime) -> Result<(), Fail> {
     let alloc = rt.alloc();
     let rows = no_rows(alloc, &rt)?;
     let right = b"cert,1,0\nkey,\nfd,,1\nend\n";
-    assert!(rt; says(alloc, &rows, right, Answer::Yes)?);
+    assert!(rt; says(&rt, alloc, &rows, right, Answer::Yes)?);
     assert!(rt;
         says(
+            &rt,
             alloc,
             &rows,
             b"cert,1,0\npair,1,2\nend\n",
             no(2, Flaw::Pair)
         )?
     );
-    assert!(rt; says(alloc, &rows, b"cert,1,0\nkey,\nend\n", no(3, Flaw::Least))?);
+    assert!(rt;
+        says(
+            &rt,
+            alloc,
+            &rows,
+            b"cert,1,0\nkey,\nend\n",
+            no(3, Flaw::Least)
+        )?
+    );
     Ok(())
 }
