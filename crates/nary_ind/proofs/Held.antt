@@ -1,6 +1,6 @@
 -- Keys tell which lists are included.
-use Rattle.std.proofs.Common.{inl, inr, ◌≡◌, ◌≢◌, ◌⊎◌, ℕ, zero, suc, ◌+◌, ◌-◌, ◌<◌, ◌≤◌, Bool, true, false, refl, sym, ap, ap₂, ◌∙◌, subst, arith, List, [], ◌∷◌, ◌++◌, length, map, replicate, get_or}
-use Rattle.std.proofs.lemmas.Bool.{and_parts, and_from}
+use Rattle.std.proofs.Common.{inl, inr, ◌≡◌, ◌≢◌, ◌⊎◌, ℕ, zero, suc, ◌+◌, ◌-◌, ◌<◌, ◌≤◌, Bool, true, false, eqb, refl, sym, ap, ap₂, ◌∙◌, subst, arith, List, [], ◌∷◌, ◌++◌, length, map, replicate, get_or}
+use Rattle.std.proofs.lemmas.Bool.{and_parts, and_from, eqb-true, eqb-false}
 use Rattle.std.proofs.lemmas.List.{append_cancel_right}
 use Rattle.col_set.specs.Lists.{Listed, Listed-map, Listed-map_which}
 use Rattle.col_set.proofs.Places.{Listed-get_or}
@@ -13,8 +13,13 @@ use Rattle.nary_ind.specs.ListInclusions.{rows_at, width_at, tuple, tuples_at, i
 use Rattle.nary_ind.specs.Levels.{IsSide}
 use Rattle.nary_ind.specs.Unary.{is_used}
 use Rattle.nary_ind.specs.Tables.{AreTables, AreUsed, Coded, key_in, number_in, table_at}
-use Rattle.nary_ind.specs.Keys.{AreKeyed, AreKeysIn, IsKeyOf, null_key}
+use Rattle.nary_ind.specs.Keys.{AreKeyed, AreKeysIn, IsKeyOf, code_in, packed}
 use Rattle.nary_ind.proofs.Among.{among-each, among-from}
+use Rattle.nary_ind.proofs.Packing.{code-null, codes-keys}
+
+-- the numbers of NULLs
+abbrev null_key : List ℕ
+null_key = 0 ∷ 0 ∷ 0 ∷ 0 ∷ []
 
 heads-of : (x y : ℕ) (xs ys : List ℕ) → x ∷ xs ≡ y ∷ ys → (x ≡ y) × (xs ≡ ys)
 heads-of x y xs ys e = (cc, cc)
@@ -112,7 +117,7 @@ module _ (rs : List RowState) (ts : List Coded) (are : AreTables rs ts) where
   keyed-of s k short is used = record { short = (let e = is.long in omega arith); numbered = λ c h. are.full s.rel c is.rel (is.within c h) (used c h) }
 
   -- ---- the inclusion
-  module _ (d i : Side) (k : ℕ) (short : k ≤ 4) (sd : IsSide rs k d) (si : IsSide rs k i) (ud : AreUsed rs d.rel d.columns) (ui : AreUsed rs i.rel i.columns) (keys : List (List ℕ))
+  module _ (d i : Side) (k : ℕ) (short : k ≤ 4) (sd : IsSide rs k d) (si : IsSide rs k i) (ud : AreUsed rs d.rel d.columns) (ui : AreUsed rs i.rel i.columns) (keys : List ℕ)
       (keyed : AreKeysIn (table_at ts d.rel) d.columns keys) where
     abbrev td : Coded
     td = table_at ts d.rel
@@ -135,39 +140,45 @@ module _ (rs : List RowState) (ts : List Coded) (are : AreTables rs ts) where
     clash : false ≡ true → ⊥
     clash e = cc
 
-    pub found-holds : ((key : List ℕ) → Listed key keys → IsKeyOf ti i.columns key) → holds_among rs (from_to d i) ≡ true
+    kd : AreKeyed td d.columns
+    kd = keyed-of d k short sd ud
+
+    ki : AreKeyed ti i.columns
+    ki = keyed-of i k short si ui
+
+    pub found-holds : ((key : ℕ) → Listed key keys → IsKeyOf ti i.columns key) → holds_among rs (from_to d i) ≡ true
     found-holds f = among-from (tuples_at rs d.rel d.columns) (tuples_at rs i.rel i.columns) (λ t h.
         let w = Listed-map_which (tuple d.columns) t (rows_at rs d.rel) h in
         let v = row-listed (rows_at rs d.rel) w.0 w.1 in
-        by t v.0 v.1 (w.2 ∙ ap (tuple d.columns) (sym v.2)) (same_cell (key_in td d.columns v.0) null_key) refl)
+        by t v.0 v.1 (w.2 ∙ ap (tuple d.columns) (sym v.2)) (eqb (code_in td d.columns v.0) 0) refl)
       where
-        found : (t : Row) (a : ℕ) → a < td.rows → t ≡ tuple d.columns (get_or (rows_at rs d.rel) a []) → IsKeyOf ti i.columns (key_in td d.columns a) → Listed t (tuples_at rs i.rel i.columns)
+        found : (t : Row) (a : ℕ) → a < td.rows → t ≡ tuple d.columns (get_or (rows_at rs d.rel) a []) → IsKeyOf ti i.columns (code_in td d.columns a) → Listed t (tuples_at rs i.rel i.columns)
         found t a l e g =
-            let same = keys-cells d.rel i.rel a g.0 sd.rel si.rel l g.1 d.columns i.columns long fd fi (sym g.2) in
+            let same = keys-cells d.rel i.rel a g.0 sd.rel si.rel l g.1 d.columns i.columns long fd fi (codes-keys td ti d.columns i.columns a g.0 kd ki l g.1 (sym g.2)) in
             let m : g.0 < length (rows_at rs i.rel) = let r = are.rows i.rel si.rel in let o = g.1 in omega arith in
             subst (λ (u : Row). Listed u (tuples_at rs i.rel i.columns)) (sym (e ∙ same)) (Listed-map (tuple i.columns) (get_or (rows_at rs i.rel) g.0 []) (rows_at rs i.rel) (Listed-get_or (rows_at rs i.rel) g.0 [] m))
 
-        by : (t : Row) (a : ℕ) → a < length (rows_at rs d.rel) → t ≡ tuple d.columns (get_or (rows_at rs d.rel) a []) → (b : Bool) → same_cell (key_in td d.columns a) null_key ≡ b
+        by : (t : Row) (a : ℕ) → a < length (rows_at rs d.rel) → t ≡ tuple d.columns (get_or (rows_at rs d.rel) a []) → (b : Bool) → eqb (code_in td d.columns a) 0 ≡ b
             → (is_null t ≡ true) ⊎ Listed t (tuples_at rs i.rel i.columns)
         by t a l e true s =
             let m : a < td.rows = let r = are.rows d.rel sd.rel in omega arith in
-            inl (ap is_null e ∙ null-cells d.rel a sd.rel m d.columns four fd (same_cell-true (key_in td d.columns a) null_key s))
+            inl (ap is_null e ∙ null-cells d.rel a sd.rel m d.columns four fd (code-null td d.columns a kd m (eqb-true _ _ s)))
         by t a l e false s =
             let m : a < td.rows = let r = are.rows d.rel sd.rel in omega arith in
-            inr (found t a m e (f (key_in td d.columns a) ((keyed (key_in td d.columns a)).1 ((a, m, refl), (λ n. clash (sym s ∙ true-same_cell (key_in td d.columns a) null_key n))))))
+            inr (found t a m e (f (code_in td d.columns a) ((keyed (code_in td d.columns a)).1 ((a, m, refl), eqb-false _ _ s))))
 
-    pub holds-found : holds_among rs (from_to d i) ≡ true → (key : List ℕ) → Listed key keys → IsKeyOf ti i.columns key
+    pub holds-found : holds_among rs (from_to d i) ≡ true → (key : ℕ) → Listed key keys → IsKeyOf ti i.columns key
     holds-found e key h =
         let w = (keyed key).0 h in
         let m : w.0.0 < length (rows_at rs d.rel) = let r = are.rows d.rel sd.rel in let l = w.0.1 in omega arith in
         by w.0.0 w.0.1 w.0.2 w.1 (among-each (tuples_at rs d.rel d.columns) (tuples_at rs i.rel i.columns) e (tuple d.columns (get_or (rows_at rs d.rel) w.0.0 []))
         (Listed-map (tuple d.columns) (get_or (rows_at rs d.rel) w.0.0 []) (rows_at rs d.rel) (Listed-get_or (rows_at rs d.rel) w.0.0 [] m)))
       where
-        by : (a : ℕ) → a < td.rows → key_in td d.columns a ≡ key → key ≢ null_key
+        by : (a : ℕ) → a < td.rows → code_in td d.columns a ≡ key → key ≢ 0
             → (is_null (tuple d.columns (get_or (rows_at rs d.rel) a [])) ≡ true) ⊎ Listed (tuple d.columns (get_or (rows_at rs d.rel) a [])) (tuples_at rs i.rel i.columns) → IsKeyOf ti i.columns key
-        by a l s some (inl n) = absurd (some (sym s ∙ cells-null d.rel a sd.rel l d.columns four fd n))
+        by a l s some (inl n) = absurd (some (sym s ∙ ap packed (cells-null d.rel a sd.rel l d.columns four fd n)))
         by a l s some (inr g) =
             let v = Listed-map_which (tuple i.columns) (tuple d.columns (get_or (rows_at rs d.rel) a [])) (rows_at rs i.rel) g in
             let u = row-listed (rows_at rs i.rel) v.0 v.1 in
             let m : u.0 < ti.rows = let r = are.rows i.rel si.rel in let o = u.1 in omega arith in
-            (u.0, m, sym (cells-keys d.rel i.rel a u.0 sd.rel si.rel l m d.columns i.columns long fd fi (v.2 ∙ ap (tuple i.columns) (sym u.2))) ∙ s)
+            (u.0, m, sym (ap packed (cells-keys d.rel i.rel a u.0 sd.rel si.rel l m d.columns i.columns long fd fi (v.2 ∙ ap (tuple i.columns) (sym u.2)))) ∙ s)

@@ -1,6 +1,7 @@
 pub mod Among
 pub mod Candidates
 pub mod Held
+pub mod KeyLists
 pub mod Keying
 pub mod Levels
 pub mod Live
@@ -10,4 +11,5 @@ pub mod Places
 pub mod Starts
 pub mod Widening
 pub mod Numbers
+pub mod Packing
 pub mod OneColumn

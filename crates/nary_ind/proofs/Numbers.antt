@@ -183,6 +183,11 @@ module _ (d : Coding) (is : IsCoding d) (start : StartsWithNull d) where
     full = λ p c l m used. record {
       within = let e = (each p l).columns in omega arith;
       full = sym (length-map (get_or (table_at ts p).columns c []) (λ n. get_or d.cells n [])) ∙ ap length ((each p l).numbers c m used).same ∙ length-map (rows_at rs p) (λ (x : Row). cell x c) ∙ sym (each p l).rows;
+      small = λ i g.
+          let a = number-cell rs p c i (get_or (table_at ts p).columns c []) ((each p l).numbers c m used) (let r = (each p l).rows in omega arith) in
+          let b = a.0 in
+          let s = is.short in
+          omega arith;
     };
     same = λ p c i q e j l m used h k o asked g.
         let a = number-cell rs p c i (get_or (table_at ts p).columns c []) ((each p l).numbers c m used) (let r = (each p l).rows in omega arith) in

@@ -20,6 +20,7 @@ number_in t c i = slice_index (slice_index_or t.columns c []) i
 pub record IsNumbered (t : Coded) (c : ℕ) : Type 0 where
   pub within : c < length t.columns
   pub full : length (slice_index_or t.columns c []) ≡ t.rows
+  pub small : (i : ℕ) → i < t.rows → number_in t c i < 4294967296
 
 -- the numbers of a row in these columns, with zeros behind them up to four
 abbrev pub key_in : Coded → List ℕ → ℕ → List ℕ

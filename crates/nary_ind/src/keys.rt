@@ -1,116 +1,83 @@
-// The keys of rows, and which of them other rows have.
-ghost use Rattle.std.specs.Prelude.{◌≡◌, ◌≢◌, ◌↔◌, ◌<◌, not, true, [], ℕ, List, length, slice_index_or, IfOk};
+// The keys of rows, and whether other rows have them.
+ghost use Rattle.std.specs.Prelude.{◌≡◌, ◌↔◌, ◌<◌, true, ℕ, length, slice_index, IfOk};
+ghost use Rattle.std.specs.List.Sorted.{IsStrictlyIncreasing};
 ghost use Rattle.col_set.specs.Listing.{Listed};
-ghost use Rattle.rel_base.specs.Agreement.{same_cell};
-ghost use Rattle.nary_ind.specs.Keys.{AreKeyed, IsKeyOf, null_key};
+ghost use Rattle.nary_ind.specs.Keys.{AreKeyed, AreKeysIn, packed};
 
-use crate::column_list::MOST_WIDTH;
 use crate::table::{Key, Table};
-use indexmap::IndexSet;
 use std::alloc::{AllocError, Global};
-use std::hash::{BuildHasherDefault, DefaultHasher};
 
-/// Different keys, in no order that is told.
-pub(crate) type Keys = IndexSet<Key, BuildHasherDefault<DefaultHasher>>;
-
-/// The keys of all rows in these columns that are not NULL throughout, each once. It takes 30 bytes or so a key.
-pub(crate) fn keys_of(alloc: Global, table: &Table, columns: &[u8]) -> Result<Keys, AllocError>
+/// The keys of all rows in these columns that are not NULL throughout, each once, ascending. It takes 16 bytes a row.
+pub(crate) fn keys_of(alloc: Global, table: &Table, columns: &[u8]) -> Result<Vec<u128>, AllocError>
     requires { AreKeyed table.now columns.now }
-    ensures { IfOk result (λ found. (key : List ℕ) → Listed key found.keys ↔ (IsKeyOf table.now columns.now key × (key ≢ null_key))) }
+    ensures rises { IfOk result (λ keys. IsStrictlyIncreasing keys.items) }
+    ensures each { IfOk result (λ keys. AreKeysIn table.now columns.now keys.items) }
 {
-    let mut keys = Keys::with_hasher(alloc, BuildHasherDefault::new());
+    let keys = keys_by_row(alloc, table, columns)?;
+    Ok(distinct_in_order(keys))
+}
+
+// The keys of all rows that are not NULL throughout.
+fn keys_by_row(alloc: Global, table: &Table, columns: &[u8]) -> Result<Vec<u128>, AllocError>
+    requires { AreKeyed table.now columns.now }
+    ensures { IfOk result (λ keys. AreKeysIn table.now columns.now keys.items) }
+{
+    let mut keys = Vec::with_capacity(alloc, table.rows())?;
     for row in 0..table.rows() {
-        let key = table.key(columns, row);
-        if has_value(&key) {
-            keys.insert(key)?;
+        let key = packed(&table.key(columns, row));
+        if key != 0 {
+            keys.push(key)?;
         }
     }
     Ok(keys)
 }
 
-// Whether it is another key than that of NULLs.
-fn has_value(key: &Key) -> bool
-    ensures { result ≡ not (same_cell key.now null_key) }
+// Four numbers of 32 bits as one, so that numbers are equal where all four are.
+fn packed(key: &Key) -> u128
+    ensures { result ≡ packed key.now }
 {
-    *key != [0; MOST_WIDTH]
+    let radix = 4_294_967_296;
+    let first = u128::from(key[0]) * radix + u128::from(key[1]);
+    let second = first * radix + u128::from(key[2]);
+    second * radix + u128::from(key[3])
 }
 
-// The key at a place.
-fn key_at(keys: &Keys, place: usize) -> &Key
-    requires { place < length keys.now.keys }
-    ensures { result.now ≡ slice_index_or keys.now.keys place [] }
+fn distinct_in_order(keys: Vec<u128>) -> Vec<u128>
+    ensures rises { IsStrictlyIncreasing result.items }
+    ensures each { (key : ℕ) → Listed key result.items ↔ Listed key keys.items }
 {
-    keys.get_index(place).unwrap()
+    let mut distinct = keys;
+    distinct.sort_unstable();
+    distinct.dedup();
+    distinct.shrink_to_fit();
+    distinct
 }
 
-/// The first keys, so many at most.
-pub(crate) fn first_keys(alloc: Global, keys: &Keys, count: usize) -> Result<Keys, AllocError>
-    ensures { IfOk result (λ found. (key : List ℕ) → Listed key found.keys → Listed key keys.now.keys) }
-{
-    let mut first = Keys::with_hasher(alloc, BuildHasherDefault::new());
-    for place in 0..keys.len().min(count) {
-        first.insert(*key_at(keys, place))?;
-    }
-    Ok(first)
-}
-
-/// Whether each of these keys is that of some row in these columns. It takes a step a row, and some 30 bytes for each key that is found.
-pub(crate) fn all_found(
-    alloc: Global,
-    keys: &Keys,
-    table: &Table,
-    columns: &[u8],
-) -> Result<bool, AllocError>
-    requires { AreKeyed table.now columns.now }
-    ensures { IfOk result (λ all. (all ≡ true) ↔ ((key : List ℕ) → Listed key keys.now.keys → IsKeyOf table.now columns.now key)) }
-{
-    let found = found_keys(alloc, keys, table, columns)?;
-    Ok(has_all(&found, keys))
-}
-
-/// What `all_found` tells, by some of the keys first.
-pub(crate) fn all_found_by_sample(
-    alloc: Global,
-    keys: &Keys,
-    sample: &Keys,
-    table: &Table,
-    columns: &[u8],
-) -> Result<bool, AllocError>
-    requires columns { AreKeyed table.now columns.now }
-    requires sample { (key : List ℕ) → Listed key sample.now.keys → Listed key keys.now.keys }
-    ensures { IfOk result (λ all. (all ≡ true) ↔ ((key : List ℕ) → Listed key keys.now.keys → IsKeyOf table.now columns.now key)) }
-{
-    let some = all_found(alloc, sample, table, columns)?;
-    if !some {
-        return Ok(false);
-    }
-    let all = all_found(alloc, keys, table, columns)?;
-    Ok(all)
-}
-
-// Which of these keys are those of rows in these columns.
-fn found_keys(alloc: Global, keys: &Keys, table: &Table, columns: &[u8]) -> Result<Keys, AllocError>
-    requires { AreKeyed table.now columns.now }
-    ensures { IfOk result (λ found. (key : List ℕ) → Listed key found.keys ↔ (IsKeyOf table.now columns.now key × Listed key keys.now.keys)) }
-{
-    let mut found = Keys::with_hasher(alloc, BuildHasherDefault::new());
-    for row in 0..table.rows() {
-        let key = table.key(columns, row);
-        if keys.contains(&key) {
-            found.insert(key)?;
-        }
-    }
-    Ok(found)
-}
-
-// Whether the first keys have all of the others.
-fn has_all(found: &Keys, keys: &Keys) -> bool
-    ensures { (result ≡ true) ↔ ((key : List ℕ) → Listed key keys.now.keys → Listed key found.now.keys) }
+/// Whether all of these keys are among the first ones. It takes a search by halves for each, up to the first that is lacking.
+pub(crate) fn has_all(found: &[u128], keys: &[u128]) -> bool
+    requires { IsStrictlyIncreasing found.now }
+    ensures { (result ≡ true) ↔ ((key : ℕ) → Listed key keys.now → Listed key found.now) }
 {
     for place in 0..keys.len() {
-        if !found.contains(key_at(keys, place)) {
+        if !has(found, key_at(keys, place)) {
             return false;
         }
     }
     true
+}
+
+// The key at a place.
+fn key_at(keys: &[u128], place: usize) -> u128
+    requires { place < length keys.now }
+    ensures { result ≡ slice_index keys.now place }
+{
+    keys[place]
+}
+
+// Whether a key is among these.
+fn has(keys: &[u128], key: u128) -> bool
+    requires { IsStrictlyIncreasing keys.now }
+    ensures { (result ≡ true) ↔ Listed key keys.now }
+{
+    keys.binary_search(&key).is_ok()
 }

@@ -1,42 +1,39 @@
 // What is known of relations before lists are sought.
-ghost use Rattle.std.specs.Prelude.{◌≡◌, ◌<◌, ◌≤◌, ◌-◌, ◌==◌, not, nat_lt, length, slice_index, IfOk};
+ghost use Rattle.std.specs.Prelude.{◌≡◌, ◌<◌, ◌≤◌, ◌-◌, ◌==◌, not, nat_lt, length, slice_index, IfOk, OnOk};
 ghost use Rattle.std.specs.List.{filter, list_all};
 ghost use Rattle.col_set.specs.Listing.{Listed};
 ghost use Rattle.nary_ind.specs.declared.found.Side.{Side as SideSpec};
 ghost use Rattle.nary_ind.specs.ListInclusions.{are_different, differ_by_place, from_to, holds_among, is_ascending, is_formed, width_at};
 ghost use Rattle.nary_ind.specs.Levels.{IsSide, is_candidate, last_column};
 ghost use Rattle.nary_ind.specs.Tables.{AreUsed};
+ghost use Rattle.nary_ind.specs.Keys.{AreLists};
 
 use crate::column_list::MOST_WIDTH;
 use crate::found::Side;
 use crate::holding::held;
+use crate::key_lists::KeyLists;
 use crate::numbering::tables_of;
-use crate::table::Table;
 use crate::unary::Unary;
 use row_log::RowLog;
 use std::alloc::{AllocError, Global};
 use std::marker::Model;
 use std::thread::Threads;
 
-/// The inclusions among the columns of relations, and the rows as numbers.
+/// The inclusions among the columns of relations.
 ///
 /// Contracts see the relations.
 #[derive(Drop)]
 pub(crate) struct Known<'a> {
     unary: Unary<'a>,
-    tables: Vec<Table>,
 }
 
 impl<'a> Model for Known<'a> {
     ghost use Rattle.std.specs.Prelude.{List};
     ghost use Rattle.rel_base.specs.RowState.{RowState};
-    ghost use Rattle.nary_ind.specs.Tables.{AreTables};
 
     ghost Value = { List RowState };
 
     ghost view = { λ k. k.unary };
-
-    ghost invariant = { λ k. AreTables k.unary k.tables.items };
 }
 
 impl<'a> Known<'a> {
@@ -50,8 +47,15 @@ impl<'a> Known<'a> {
         ensures { IfOk result (λ known. known ≡ relations.now) }
     {
         let unary = Unary::among(rt, alloc, relations, workers)?;
-        let tables = tables_of(alloc, &unary)?;
-        Ok(Known { unary, tables })
+        Ok(Known { unary })
+    }
+
+    /// The rows as numbers, and no keys of them yet.
+    pub(crate) fn lists(&self, alloc: Global) -> Result<KeyLists, AllocError>
+        ensures { IfOk result (λ lists. AreLists self.now lists) }
+    {
+        let tables = tables_of(alloc, &self.unary)?;
+        Ok(KeyLists::of(alloc, tables))
     }
 
     /// How many relations there are.
@@ -87,20 +91,24 @@ impl<'a> Known<'a> {
 
     /// Those of these lists that a dependent list is included in.
     ///
-    /// It takes a step a row for the dependent list and two at most for each of the others, of which the first is by a sample of its keys.
+    /// It takes a search by halves for each key of the dependent list and each of the others, up to the first key that is lacking, and what it takes to make
+    /// keys that are not kept.
     pub(crate) fn held(
         &self,
         alloc: Global,
+        lists: &mut KeyLists,
         dependent: &Side,
         candidates: &[Side],
     ) -> Result<Vec<Side>, AllocError>
+        requires lists { AreLists self.now lists.old }
         requires dependent { IsSide self.now (length dependent.now.columns) dependent.now }
         requires short { length dependent.now.columns ≤ MOST_WIDTH }
         requires used { AreUsed self.now dependent.now.rel dependent.now.columns }
         requires candidates { (i : SideSpec) → Listed i candidates.now → IsSide self.now (length dependent.now.columns) i × AreUsed self.now i.rel i.columns }
-        ensures { IfOk result (λ held. held.items ≡ filter (λ i. holds_among self.now (from_to dependent.now i)) candidates.now) }
+        ensures lists { OnOk result (AreLists self.now lists.new) }
+        ensures held { IfOk result (λ held. held.items ≡ filter (λ i. holds_among self.now (from_to dependent.now i)) candidates.now) }
     {
-        held(alloc, &self.unary, &self.tables, dependent, candidates)
+        held(alloc, &self.unary, lists, dependent, candidates)
     }
 }
 

@@ -5,10 +5,12 @@ ghost use Rattle.col_set.specs.ColSet.{upto};
 ghost use Rattle.col_set.specs.Listing.{Listed};
 ghost use Rattle.nary_ind.specs.declared.found.Side.{Side as SideSpec};
 ghost use Rattle.nary_ind.specs.ListInclusions.{width_at};
+ghost use Rattle.nary_ind.specs.Keys.{AreLists};
 ghost use Rattle.nary_ind.specs.Levels.{IsGroup, IsSide, extend, grouped, grown, groups, has_some, is_candidate, next_groups, next_into};
 
 use crate::column_list::{ColumnList, MOST_WIDTH};
 use crate::found::{Group, Side};
+use crate::key_lists::KeyLists;
 use crate::known::Known;
 use std::alloc::{AllocError, Global};
 
@@ -53,17 +55,20 @@ fn bare_lists(alloc: Global, relations: usize) -> Result<Vec<Side>, AllocError>
 pub(crate) fn next_level(
     alloc: Global,
     known: &Known,
+    lists: &mut KeyLists,
     width: usize,
     level: &[Group],
 ) -> Result<Vec<Group>, AllocError>
     requires width { width < MOST_WIDTH }
+    requires lists { AreLists known.now lists.old }
     requires groups { map grouped level.now ≡ groups known.now width }
-    ensures { IfOk result (λ next. map grouped next.items ≡ groups known.now (suc width)) }
+    ensures lists { OnOk result (AreLists known.now lists.new) }
+    ensures groups { IfOk result (λ next. map grouped next.items ≡ groups known.now (suc width)) }
 {
     let mut next = Vec::new(alloc);
     let mut left = MOST_LISTS;
     for group in level {
-        push_next(alloc, known, width, group, &mut left, &mut next)?;
+        push_next(alloc, known, lists, width, group, &mut left, &mut next)?;
     }
     Ok(next)
 }
@@ -83,17 +88,20 @@ fn take_room(left: &mut usize, group: &Group) -> Result<(), AllocError> {
 fn push_next(
     alloc: Global,
     known: &Known,
+    lists: &mut KeyLists,
     width: usize,
     group: &Group,
     left: &mut usize,
     next: &mut Vec<Group>,
 ) -> Result<(), AllocError>
     requires width { width < MOST_WIDTH }
+    requires lists { AreLists known.now lists.old }
     requires group { IsGroup known.now width (grouped group.now) }
-    ensures { OnOk result (map grouped next.new.items ≡ map grouped next.old.items ++ next_groups known.now (grouped group.now)) }
+    ensures lists { OnOk result (AreLists known.now lists.new) }
+    ensures groups { OnOk result (map grouped next.new.items ≡ map grouped next.old.items ++ next_groups known.now (grouped group.now)) }
 {
     for column in 0..known.width(group.side.rel) {
-        let more = group_with(alloc, known, width, group, column)?;
+        let more = group_with(alloc, known, lists, width, group, column)?;
         take_room(left, &more)?;
         if has_some(&more) {
             next.push(more)?;
@@ -113,14 +121,17 @@ fn has_some(group: &Group) -> bool
 fn group_with(
     alloc: Global,
     known: &Known,
+    lists: &mut KeyLists,
     width: usize,
     group: &Group,
     column: u8,
 ) -> Result<Group, AllocError>
     requires width { width < MOST_WIDTH }
     requires group { IsGroup known.now width (grouped group.now) }
+    requires lists { AreLists known.now lists.old }
     requires column { column < width_at known.now group.now.side.rel }
-    ensures { IfOk result (λ more. grouped more ≡ (extend group.now.side column, next_into known.now (extend group.now.side column) group.now.into.items)) }
+    ensures lists { OnOk result (AreLists known.now lists.new) }
+    ensures group { IfOk result (λ more. grouped more ≡ (extend group.now.side column, next_into known.now (extend group.now.side column) group.now.into.items)) }
 {
     let side = group.side.with(column);
     let candidates = candidates_of(alloc, known, width, &side, &group.into)?;
@@ -136,7 +147,7 @@ fn group_with(
             into: candidates,
         });
     }
-    let into = known.held(alloc, &side, &candidates)?;
+    let into = known.held(alloc, lists, &side, &candidates)?;
     Ok(Group { side, into })
 }
 

@@ -4,6 +4,7 @@
 mod column_list;
 mod found;
 mod holding;
+mod key_lists;
 mod keys;
 mod known;
 pub mod laws;

@@ -17,12 +17,12 @@ use std::thread::Threads;
 ///
 /// It goes width by width (MIND, De Marchi, Lopes and Petit 2002): a list is sought among those that come of one that was found by one column more on
 /// both sides, which are included by themselves. The inclusions of single columns are found by `inclusion_merge`, by so many workers at most. Then the
-/// cells of columns that are in some inclusion get numbers, and four of them make a key of a row, so that equal keys are equal cells, and no two tuples
-/// are taken as equal for their hashes. A list is looked up by a few of its keys first, and by all of them where none of these is lacking: a step a row
-/// for each list that is looked up in.
+/// cells of columns that are in some inclusion get numbers, and four of them make a key of a row, one number of 128 bits, so that equal keys are equal
+/// cells, and no two tuples are taken as equal for their hashes. The keys of a list are sorted once and kept for the candidates to come as long as there
+/// is room. A list is included in another where each of its keys is found there by halves, up to the first that is lacking.
 ///
-/// It takes 4 bytes for each row and column that is in some inclusion, some 30 for each key of the list that is looked up, as many for each that is
-/// found, and 50 or so for each inclusion. An `AllocError` comes where memory is refused.
+/// It takes 4 bytes for each row and column that is in some inclusion, 16 for each key that is kept, half a gigabyte of them and a few lists at most, and
+/// 50 or so for each inclusion. An `AllocError` comes where memory is refused.
 pub fn included_lists<R: Threads + Sync>(
     rt: &R,
     alloc: Global,
@@ -34,10 +34,11 @@ pub fn included_lists<R: Threads + Sync>(
     ensures { IfOk result (λ found. found.items ≡ list_inclusions width relations.now) }
 {
     let known = Known::of(rt, alloc, relations, workers)?;
+    let mut lists = known.lists(alloc)?;
     let mut found = Vec::new(alloc);
     let mut level = first_level(alloc, &known)?;
     for columns in 0..width {
-        let next = next_level(alloc, &known, columns as usize, &level)?;
+        let next = next_level(alloc, &known, &mut lists, columns as usize, &level)?;
         push_level(&mut found, &next)?;
         level = next;
     }

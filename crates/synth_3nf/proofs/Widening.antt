@@ -6,7 +6,7 @@ use Rattle.col_set.specs.declared.col_set.TheConstants.{MOST_COLUMNS}
 use Rattle.col_set.specs.ColSet.{Columns, IsSubset, all, has, with, union, inter, minus, subset}
 use Rattle.col_set.specs.Members.{has-all, has-inter, has-minus, has-union}
 use Rattle.col_set.specs.Lists.{Listed, Listed-append_cases, list_any_which}
-use Rattle.col_set.specs.Subsets.{IsSubset-trans, IsSubset-with, has-with_itself, with_subset, subset-true, true-subset, same_test}
+use Rattle.col_set.specs.Subsets.{IsSubset-antisymm, IsSubset-trans, IsSubset-with, has-with_itself, with_subset, subset-true, true-subset, same_test}
 use Rattle.col_set.proofs.Places.{Contains-listed, Listed-contained}
 use Rattle.rel_base.specs.declared.dependency.Fd.{Fd}
 use Rattle.rel_base.proofs.States.{All-from, All-listed}
@@ -109,33 +109,35 @@ module _ (sides : List (ℕ × ℕ)) (kept later : List Fd) (a start b : ℕ) (n
   pub widened-behind : (result : ℕ) → has_left_inside later b a ≡ true → result ≡ with b a → Widened kept later a start result
   widened-behind result h e = subst (Widened kept later a start) (sym e) (with_own b behind-grown (λ z c s. behind-within z (right_closed kept later z c) s) h)
 
-  module _ (m : ℕ) (c : IsClosure (on_columns kept) b m) where
-    closed : IsClosure kept b m
-    closed = subst (λ (fds : List Fd). IsClosure fds b m) (columns-whole kept narrow) c
+  module _ (m : ℕ) (grown : IsSubset b m) (within : (z : Columns) → IsClosed (on_columns kept) z → IsSubset b z → IsSubset m z) (settled : m ≡ b → IsClosed (on_columns kept) b) where
+    walked-grown : IsSubset start m
+    walked-grown = IsSubset-trans behind-grown grown
 
-    closed-grown : IsSubset start m
-    closed-grown = IsSubset-trans behind-grown closed.contains
+    walked-within : (z : Columns) → IsClosed (kept ++ later) z → IsSubset start z → IsSubset m z
+    walked-within z k s = within z (subst (λ (fds : List Fd). IsClosed fds z) (sym (columns-whole kept narrow)) (left_closed kept later z k)) (behind-within z (right_closed kept later z k) s)
 
-    closed-within : (z : Columns) → IsClosed (kept ++ later) z → IsSubset start z → IsSubset m z
-    closed-within z k s = closed.smallest z (behind-within z (right_closed kept later z k) s) (left_closed kept later z k)
+    walked-closed : m ≡ start → IsClosed kept start
+    walked-closed i =
+        let e : b ≡ start = IsSubset-antisymm (subst (IsSubset b) i grown) behind-grown in
+        subst (IsClosed kept) e (subst (λ (fds : List Fd). IsClosed fds b) (columns-whole kept narrow) (settled (i ∙ sym e)))
 
     pub widened-own : (result : ℕ) → has_left_inside later m a ≡ true → result ≡ with m a → Widened kept later a start result
-    widened-own result h e = subst (Widened kept later a start) (sym e) (with_own m closed-grown closed-within h)
+    widened-own result h e = subst (Widened kept later a start) (sym e) (with_own m walked-grown walked-within h)
 
     pub widened-kept : (result : ℕ) → has_left_inside later m a ≡ false → result ≡ m → Widened kept later a start result
     widened-kept result h e = subst (Widened kept later a start) (sym e) (record {
-      grown = closed-grown;
-      within = closed-within;
-      settled = λ lacks i. both_closed kept later start (subst (IsClosed kept) i closed.closed) (record { each = λ fd g s. by fd g s i (cases_lt a fd.right) });
-      fewer = fewer-from m closed-grown closed-within;
+      grown = walked-grown;
+      within = walked-within;
+      settled = λ lacks i. both_closed kept later start (walked-closed i) (record { each = λ fd g s. by fd g s i (cases_lt a fd.right) });
+      fewer = fewer-from m walked-grown walked-within;
     })
       where
         by : (fd : Fd) → Contains later fd → IsSubset fd.left start → m ≡ start → (a < fd.right) ⊎ (fd.right ≤ a) → has start fd.right ≡ true
-        by fd g s i (inl l) = subst (λ (z : ℕ). has z fd.right ≡ true) i (closed.contains.each fd.right (behind-has fd g l s))
+        by fd g s i (inl l) = subst (λ (z : ℕ). has z fd.right ≡ true) i (grown.each fd.right (behind-has fd g l s))
         by fd g s i (inr l) =
             let low = All-listed (λ (f : Fd). a ≤ f.right) fd later t.from.from (Listed-contained fd later g) in
             let same : fd.right ≡ a = omega arith in
-            absurd (true≢false (sym (inside-some later m a fd (Listed-contained fd later g) same (true-subset (IsSubset-trans s closed-grown))) ∙ h))
+            absurd (true≢false (sym (inside-some later m a fd (Listed-contained fd later g) same (true-subset (IsSubset-trans s walked-grown))) ∙ h))
 
 -- ---- all steps
 pub closing-begin : (kept later : List Fd) (a x reached next : ℕ) → reached ≡ x → has x a ≡ false → Widened kept later a reached next → Closing kept later a x reached next

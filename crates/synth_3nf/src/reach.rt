@@ -5,15 +5,16 @@ ghost use Rattle.col_set.specs.ColSet.{Columns, IsSubset, all, has, minus};
 ghost use Rattle.col_set.specs.declared.col_set.TheConstants.{MOST_COLUMNS};
 ghost use Rattle.fd_closure.specs.Closure.{Tells};
 ghost use Rattle.fd_closure.specs.Closure as closing;
-ghost use Rattle.fd_closure.specs.Under.{IsClosed};
+ghost use Rattle.fd_closure.specs.Under.{IsClosed, on_columns};
 ghost use Rattle.rel_base.specs.declared.dependency.Fd as dependencies;
 ghost use Rattle.synth_3nf.specs.Ending.{AreFrom, IsWithLater, TellsEnd};
 
-use fd_closure::{LeftSides, closure_under};
+use fd_closure::LeftSides;
 use rel_base::{ColSet, Fd, MOST_COLUMNS};
 
 // What is reached from the start in some steps by the kept dependencies and the later ones, which are on the right column and on
-// columns behind it: all later steps on columns behind it that the start allows, and then all kept ones. Where a dependency on
+// columns behind it: the later ones on columns behind it that the start allows, and then the kept
+// ones in a walk. Where a dependency on
 // the right column itself can be taken, the walk over the kept ones is spared.
 pub(crate) fn widened(
     sides: &LeftSides,
@@ -34,11 +35,26 @@ pub(crate) fn widened(
     if has_left_inside(later, right, behind) {
         return behind.with(right);
     }
-    let closed = closure_under(kept, behind);
-    if has_left_inside(later, right, closed) {
-        return closed.with(right);
+    let more = walked(kept, behind);
+    if has_left_inside(later, right, more) {
+        return more.with(right);
     }
-    closed
+    more
+}
+
+// What is reached, and the right column of each dependency whose left side lies in what is reached when the walk comes to it.
+fn walked(fds: &[Fd], start: ColSet) -> ColSet
+    ensures grown { IsSubset start result }
+    ensures within { (z : Columns) → IsClosed (on_columns fds.now) z → IsSubset start z → IsSubset result z }
+    ensures settled { result ≡ start → IsClosed (on_columns fds.now) start }
+{
+    let mut reached = start;
+    for fd in fds {
+        if fd.right < MOST_COLUMNS && fd.left.subset_of(reached) {
+            reached = reached.with(fd.right);
+        }
+    }
+    reached
 }
 
 // The start with each column behind the right one that has a left side inside it.

@@ -282,6 +282,20 @@ fn drawn_dependencies(rt: HostRuntime) -> Result<(), Fail> {
     Ok(())
 }
 
+// Enough left sides for several blocks of the index, and many dependencies on one column.
+#[test]
+fn many_dependencies(rt: HostRuntime) -> Result<(), Fail> {
+    let alloc = rt.alloc();
+    let mut samples = Samples::from_seed(56);
+    let covers = drawn_covers(&rt, alloc, &mut samples, 8, 160)?;
+    assert!(rt; covers.fds().len() > 100);
+    let kept = canonical(alloc, &covers)?;
+    let wanted = plain::canonical(alloc, covers.fds(), 8)?;
+    assert!(rt; kept.as_slice() == wanted.as_slice());
+    assert!(rt; kept.len() > 8);
+    Ok(())
+}
+
 // Each two tables with each key, in order.
 fn plain_references(
     alloc: Global,

@@ -78,7 +78,7 @@ fn other_keys(
 {
     keys.iter()
         .copied()
-        .filter(|other| *other == key)
+        .filter(|other| *other != key)
         .map(|other| (number, other))
         .collect(alloc)
 }

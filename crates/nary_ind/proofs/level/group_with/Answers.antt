@@ -16,13 +16,13 @@ candidates_of-requires-clause-side c =
 pub candidates_of-requires-clause-into : goal.candidates_of-requires-clause-into
 candidates_of-requires-clause-into c i h = c.requires.group.into i (subst (λ (xs : List Side). Listed i xs) c.deref.ensures.value h)
 
-pub returns-then-width-eq0 : goal.returns-then-width-eq0
-returns-then-width-eq0 c =
+pub returns-then-width-eq0-clause-group : goal.returns-then-width-eq0-clause-group
+returns-then-width-eq0-clause-group c =
     group-single c.args.known.now c.args.width c.args.group.now.side c.args.group.now.into.items c.requires.group c.args.column c.requires.column c.with-side.result c.with-side.ensures c.in_ok-candidates.candidates.items
     (c.in_ok-candidates.ensures ∙ ap (λ (xs : List Side). filter (is_candidate c.args.known.now c.with-side.result) (flat_map (grown c.args.known.now) xs)) c.deref.ensures.value) (omega arith)
 
-pub returns-then-is_empty : goal.returns-then-is_empty
-returns-then-is_empty c =
+pub returns-then-is_empty-clause-group : goal.returns-then-is_empty-clause-group
+returns-then-is_empty-clause-group c =
     group-none c.args.known.now c.args.width c.args.group.now.side c.args.group.now.into.items c.requires.group c.args.column c.requires.column c.with-side.result c.with-side.ensures c.in_ok-candidates.candidates.items
     (c.in_ok-candidates.ensures ∙ ap (λ (xs : List Side). filter (is_candidate c.args.known.now c.with-side.result) (flat_map (grown c.args.known.now) xs)) c.deref.ensures.value)
     (nil_from_length c.in_ok-candidates.candidates.items (sym c.in_ok-candidates.candidates.ok.0 ∙ eqb-true _ 0 (sym c.if-is_empty.ensures)))
@@ -53,8 +53,8 @@ held-requires-clause-candidates c i h =
     (c.in_ok-candidates.ensures ∙ ap (λ (xs : List Side). filter (is_candidate c.args.known.now c.with-side.result) (flat_map (grown c.args.known.now) xs)) c.deref.ensures.value) i
     (subst (λ (xs : List Side). Listed i xs) c.deref-2.ensures.value h)
 
-pub returns : goal.returns
-returns c =
+pub returns-clause-group : goal.returns-clause-group
+returns-clause-group c =
     group-held c.args.known.now c.args.width c.args.group.now.side c.args.group.now.into.items c.requires.group c.args.column c.requires.column c.with-side.result c.with-side.ensures c.in_ok-candidates.candidates.items
     (c.in_ok-candidates.ensures ∙ ap (λ (xs : List Side). filter (is_candidate c.args.known.now c.with-side.result) (flat_map (grown c.args.known.now) xs)) c.deref.ensures.value) c.in_ok-into.into.items
-    (c.in_ok-into.ensures ∙ ap (filter (λ (i : Side). holds_among c.args.known.now (from_to c.with-side.result i))) c.deref-2.ensures.value)
+    (c.in_ok-into.ensures.held ∙ ap (filter (λ (i : Side). holds_among c.args.known.now (from_to c.with-side.result i))) c.deref-2.ensures.value)

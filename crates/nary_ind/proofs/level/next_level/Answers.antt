@@ -15,11 +15,13 @@ push_next-requires-clause-group c =
     (subst (λ (gs : List (Side × List Side)). Listed (grouped c.group-item.result) gs) c.requires.groups (Listed-map grouped c.group-item.result c.args.level.now (member-at c.args.level.now c.loop-group.group-index c.group-item.result c.loop-group-test.true c.group-item.is)))
 
 pub loop-group-preserved : goal.loop-group-preserved
-loop-group-preserved c =
-    level-more c.args.known.now grouped c.args.level.now c.loop-group.group-index c.group-item.result (map grouped c.loop-group.next.items) (map grouped c.push_next.new.next.items) c.loop-group-test.true c.group-item.is c.loop-group.invariant
-    c.in_ok-push_next.ensures
+loop-group-preserved c = record {
+  lists = c.in_ok-push_next.ensures.lists;
+  groups = level-more c.args.known.now grouped c.args.level.now c.loop-group.group-index c.group-item.result (map grouped c.loop-group.next.items) (map grouped c.push_next.new.next.items) c.loop-group-test.true c.group-item.is c.loop-group.invariant.groups
+      c.in_ok-push_next.ensures.groups;
+}
 
-pub returns : goal.returns
-returns c =
-    c.loop-group.invariant ∙ ap (λ (gs : List Group). flat_map (next_groups c.args.known.now) (map grouped gs)) (take_all c.loop-group.group-index c.args.level.now (omega arith)) ∙ ap (flat_map (next_groups c.args.known.now)) c.requires.groups
+pub returns-clause-groups : goal.returns-clause-groups
+returns-clause-groups c =
+    c.loop-group.invariant.groups ∙ ap (λ (gs : List Group). flat_map (next_groups c.args.known.now) (map grouped gs)) (take_all c.loop-group.group-index c.args.level.now (omega arith)) ∙ ap (flat_map (next_groups c.args.known.now)) c.requires.groups
     ∙ sym (groups-more c.args.known.now c.args.width)
