@@ -15,7 +15,7 @@ columns-below n (c ∷ columns) e zero d l = let w = and_parts (nat_lt c n) (are
 columns-below n (c ∷ columns) e (suc k) d l = let w = and_parts (nat_lt c n) (are_columns_of n columns) e in columns-below n columns w.1 k d (omega arith)
 
 module _ (rs : List RowState) (f : Reference) where
-  pub Sides : Type 0
+  abbrev pub Sides : Type 0
   Sides = (r : RowState) × (q : RowState) × (slice_get rs f.from.relation ≡ Some r) × (slice_get rs f.into.relation ≡ Some q) × (are_sides_of r f.from.columns q f.into.columns ≡ true)
 
   pub sides : is_reference_of rs f ≡ true → Sides
@@ -28,14 +28,14 @@ module _ (rs : List RowState) (f : Reference) where
 
   pub from-side : (r : RowState) (q : RowState) → are_sides_of r f.from.columns q f.into.columns ≡ true → All (λ column. column < width r) f.from.columns
   from-side r q e =
-      let w = and_parts (eqb (length f.from.columns) (length f.into.columns)) (are_columns_of (width r) f.from.columns && are_columns_of (width q) f.into.columns) e in
-      columns-below (width r) f.from.columns (and_parts (are_columns_of (width r) f.from.columns) (are_columns_of (width q) f.into.columns) w.1).0
+      let w = and_parts (eqb (length f.from.columns) (length f.into.columns) && are_columns_of (width r) f.from.columns) (are_columns_of (width q) f.into.columns) e in
+      columns-below (width r) f.from.columns (and_parts (eqb (length f.from.columns) (length f.into.columns)) (are_columns_of (width r) f.from.columns) w.0).1
 
   pub into-side : is_reference_of rs f ≡ true → IsSideOf rs f.into.relation f.into.columns
   into-side e =
       let s = sides e in
-      let w = and_parts (eqb (length f.from.columns) (length f.into.columns)) (are_columns_of (width s.0) f.from.columns && are_columns_of (width s.1) f.into.columns) s.4 in
-      record { rows = s.1; there = s.3; inside = columns-below (width s.1) f.into.columns (and_parts (are_columns_of (width s.0) f.from.columns) (are_columns_of (width s.1) f.into.columns) w.1).1 }
+      let w = and_parts (eqb (length f.from.columns) (length f.into.columns) && are_columns_of (width s.0) f.from.columns) (are_columns_of (width s.1) f.into.columns) s.4 in
+      record { rows = s.1; there = s.3; inside = columns-below (width s.1) f.into.columns w.1 }
 
   pub verdict-is : (r q : RowState) → slice_get rs f.from.relation ≡ Some r → slice_get rs f.into.relation ≡ Some q → are_sides_of r f.from.columns q f.into.columns ≡ true
       → of_rows (lost_rows r f.from.columns q f.into.columns) ≡ reference_verdict rs f
