@@ -7,5 +7,6 @@ pub mod Texts
 pub mod Passing
 pub mod Referring
 pub mod Shown
+pub mod Rounds
 pub mod Findings
 pub mod Live
