@@ -1,9 +1,10 @@
 -- What the passes over relations leave, one after another, is the verdict of each rule.
-use Rattle.std.proofs.Common.{inl, inr, ◌≡◌, ◌≢◌, ◌⊎◌, ℕ, zero, suc, ◌+◌, ◌<◌, ◌≤◌, Bool, true, false, ◌&&◌, nat_lt, eqb, cond, refl, sym, ap, ap₂, ◌∙◌, subst, arith, List, [], ◌∷◌, length, map, replicate, get_or, Option, Some, None, option_map, slice_get}
+use Rattle.std.proofs.Common.{inl, inr, ◌≡◌, ◌≢◌, ◌⊎◌, ℕ, zero, suc, ◌+◌, ◌<◌, ◌≤◌, Bool, true, false, ◌&&◌, nat_lt, eqb, cond, refl, sym, ap, ap₂, ◌∙◌, subst, arith, List, [], ◌∷◌, length, map, take, drop, ◌++◌, get_or, Option, Some, None, option_map, slice_get}
 use Rattle.std.specs.Option.{unwrap_or}
 use Rattle.std.proofs.lemmas.Bool.{cases_eq, eqb-true, eq-eqb, false_from_ne_true, leb-true, le-leb}
-use Rattle.std.proofs.lemmas.List.{get_or-replicate, length-map}
-use Rattle.std.proofs.lemmas.Option.{slice_get_within}
+use Rattle.std.proofs.lemmas.List.{length-map}
+use Rattle.std.proofs.Math.Seq.{take-append_seam}
+use Rattle.std.proofs.lemmas.Option.{slice_get_within, slice_get-get_or}
 use Rattle.rel_base.specs.RowState.{RowState, width}
 use Rattle.rule_check.specs.declared.rule.Claim.{Claim}
 use Rattle.rule_check.specs.declared.rule.ColumnOf.{ColumnOf}
@@ -80,7 +81,7 @@ module _ (rs : List RowState) (n : ℕ) (r : RowState) (there : slice_get rs n �
   both (rule.Refers f) = refl
   both rule.Unclear = refl
 
-  -- one relation more
+  -- one relation more, which was taken from the list twice
   pub found-next : (rules : List Rule) (old mid new : List Verdict) → Found rs rules n old → Settles (judged_claim n r) rules old mid → Settles (judged_column n r) rules mid new → Found rs rules (n + 1) new
   found-next rules old mid new f a b = record {
     long = b.long ∙ a.long ∙ f.long;
@@ -88,11 +89,8 @@ module _ (rs : List RowState) (n : ℕ) (r : RowState) (there : slice_get rs n �
   }
 
 -- before the first relation
-pub found-none : (rs : List RowState) (rules : List Rule) (found : List Verdict) → found ≡ replicate (length rules) verdict.Unclear → length found ≡ length rules → Found rs rules 0 found
-found-none rs rules found is long = record {
-  long = long;
-  each = λ k l. ap (λ (xs : List Verdict). verdict_at xs k) is ∙ get_or-replicate (length rules) k verdict.Unclear verdict.Unclear l ∙ none (rule_at rules k);
-}
+pub found-none : (rs : List RowState) (rules : List Rule) (found : List Verdict) → length found ≡ length rules → ((k : ℕ) → k < length rules → verdict_at found k ≡ verdict.Unclear) → Found rs rules 0 found
+found-none rs rules found long unclear = record { long = long; each = λ k l. unclear k l ∙ none (rule_at rules k) }
   where
     none : (one : Rule) → verdict.Unclear ≡ so_far rs 0 one
     none (rule.Determines c) = sym (ap (λ (d : Bool). cond d (claim_verdict rs c) verdict.Unclear) (lt-no c.relation 0 (omega arith)))
@@ -143,3 +141,10 @@ module _ (rs : List RowState) (n : ℕ) (l : length rs ≤ n) where
       same_verdicts new (map (verdict_of rs) rules) (long ∙ sym (length-map rules (verdict_of rs)))
       (λ k m. let b : k < length rules = omega (arith, long, m) in
       s.each k b ∙ ap (after (judged_reference rs) (rule_at rules k)) (f.each k b) ∙ last (rule_at rules k) ∙ sym (map-at (verdict_of rs) rules k b))
+
+-- ---- a list that was written through a slice
+pub written : (n : ℕ) (new old : List Verdict) → length new ≡ n → take n (new ++ drop (length new) old) ≡ new
+written n new old e = ap (λ (k : ℕ). take k (new ++ drop (length new) old)) (sym e) ∙ take-append_seam new (drop (length new) old)
+
+pub taken : (rs : List RowState) (n : ℕ) (r : RowState) → n < length rs → r ≡ get_or rs n r → slice_get rs n ≡ Some r
+taken rs n r l e = slice_get-get_or rs n r l ∙ ap Some (sym e)

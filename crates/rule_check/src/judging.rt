@@ -1,5 +1,7 @@
 // What is found of rules.
-ghost use Rattle.std.specs.Prelude.{◌≡◌, map, IfOk};
+ghost use Rattle.std.specs.Prelude.{◌≡◌, ◌<◌, ℕ, length, map, IfOk, OnOk};
+ghost use Rattle.rule_check.specs.declared.rule.Verdict.TheVariants.{Unclear};
+ghost use Rattle.rule_check.specs.Passes.{verdict_at};
 ghost use Rattle.rule_check.specs.Rules.{verdict_of};
 
 use crate::claims::judge_claims;
@@ -8,6 +10,24 @@ use crate::references::judge_references;
 use crate::rule::{Rule, Verdict};
 use row_log::RowLog;
 use std::alloc::{AllocError, Global};
+
+// Writes what is found of each rule at its place, where all are unclear so far.
+fn judge(
+    alloc: Global,
+    relations: &[RowLog],
+    rules: &[Rule],
+    found: &mut [Verdict],
+) -> Result<(), AllocError>
+    requires long { length found.old ≡ length rules.now }
+    requires unclear { (k : ℕ) → k < length rules.now → verdict_at found.old k ≡ Unclear }
+    ensures { OnOk result (found.new ≡ map (verdict_of relations.now) rules.now) }
+{
+    for relation in 0..relations.len() {
+        judge_claims(alloc, &relations[relation], relation, rules, found)?;
+        judge_filled(alloc, &relations[relation], relation, rules, found)?;
+    }
+    judge_references(alloc, relations, rules, found)
+}
 
 /// What is found of each of these rules in the live rows of relations, in the order of the rules.
 ///
@@ -24,10 +44,6 @@ pub fn verdicts(
     ensures { IfOk result (λ found. found.items ≡ map (verdict_of relations.now) rules.now) }
 {
     let mut found = vec![in alloc; Verdict::Unclear; rules.len()]?;
-    for relation in 0..relations.len() {
-        judge_claims(alloc, &relations[relation], relation, rules, &mut found)?;
-        judge_filled(alloc, &relations[relation], relation, rules, &mut found)?;
-    }
-    judge_references(alloc, relations, rules, &mut found)?;
+    judge(alloc, relations, rules, &mut found)?;
     Ok(found)
 }
