@@ -59,7 +59,7 @@ module _ (rs : List RowState) (n : ℕ) (r : RowState) (there : slice_get rs n �
           ap₂ (λ (b : Bool) (d : Bool). unwrap_or (option_map (claim_in r) (cond (b && is_claim_of (width r) c) (Some c) None)) (cond d (claim_verdict rs c) verdict.Unclear)) (eq-eqb c.relation n same) (lt-no c.relation n (omega (arith, same)))
           ∙ here (claim_in r) c (is_claim_of (width r) c)
           ∙ sym (ap (λ (d : Bool). cond d (claim_verdict rs c) verdict.Unclear) (lt-yes c.relation (n + 1) (omega (arith, same)))
-            ∙ ap (λ (o : Option RowState). if_there o (λ q. if_clear (is_claim_of (width q) c) (claim_in q c))) (ap (slice_get rs) same ∙ there))
+          ∙ ap (λ (o : Option RowState). if_there o (λ q. if_clear (is_claim_of (width q) c) (claim_in q c))) (ap (slice_get rs) same ∙ there))
       by (inr other) =
           ap₂ (λ (b : Bool) (d : Bool). unwrap_or (option_map (claim_in r) (cond (b && is_claim_of (width r) c) (Some c) None)) (cond d (claim_verdict rs c) verdict.Unclear)) (eq-no c.relation n other) (lt-more c.relation n other)
 
@@ -71,7 +71,7 @@ module _ (rs : List RowState) (n : ℕ) (r : RowState) (there : slice_get rs n �
           ap₂ (λ (b : Bool) (d : Bool). unwrap_or (option_map (λ (k : ℕ). of_rows (null_rows r k)) (cond (b && nat_lt c.column (width r)) (Some c.column) None)) (cond d (filled_verdict rs c) verdict.Unclear)) (eq-eqb c.relation n same) (lt-no c.relation n (omega (arith, same)))
           ∙ here (λ (k : ℕ). of_rows (null_rows r k)) c.column (nat_lt c.column (width r))
           ∙ sym (ap (λ (d : Bool). cond d (filled_verdict rs c) verdict.Unclear) (lt-yes c.relation (n + 1) (omega (arith, same)))
-            ∙ ap (λ (o : Option RowState). if_there o (λ q. if_clear (nat_lt c.column (width q)) (of_rows (null_rows q c.column)))) (ap (slice_get rs) same ∙ there))
+          ∙ ap (λ (o : Option RowState). if_there o (λ q. if_clear (nat_lt c.column (width q)) (of_rows (null_rows q c.column)))) (ap (slice_get rs) same ∙ there))
       by (inr other) =
           ap₂ (λ (b : Bool) (d : Bool). unwrap_or (option_map (λ (k : ℕ). of_rows (null_rows r k)) (cond (b && nat_lt c.column (width r)) (Some c.column) None)) (cond d (filled_verdict rs c) verdict.Unclear)) (eq-no c.relation n other) (lt-more c.relation n other)
 

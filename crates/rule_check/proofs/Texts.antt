@@ -37,9 +37,10 @@ prefix-same m n xs ys l k e =
     (sym (from_be_bytes-to_be_bytes_8 m l) ∙ ap (from_be_bytes w64) (ap (take 8) e) ∙ from_be_bytes-to_be_bytes_8 n k, ap (drop 8) e)
 
 split-same : (xs ys us vs : List ℕ) → length xs ≡ length ys → xs ++ us ≡ ys ++ vs → (xs ≡ ys) × (us ≡ vs)
-split-same xs ys us vs n e =
-    (sym (take-append_seam xs us) ∙ ap (take (length xs)) e ∙ ap (λ (k : ℕ). take k (ys ++ vs)) n ∙ take-append_seam ys vs,
-     sym (drop-append_seam xs us) ∙ ap (drop (length xs)) e ∙ ap (λ (k : ℕ). drop k (ys ++ vs)) n ∙ drop-append_seam ys vs)
+split-same xs ys us vs n e = (
+  sym (take-append_seam xs us) ∙ ap (take (length xs)) e ∙ ap (λ (k : ℕ). take k (ys ++ vs)) n ∙ take-append_seam ys vs,
+  sym (drop-append_seam xs us) ∙ ap (drop (length xs)) e ∙ ap (λ (k : ℕ). drop k (ys ++ vs)) n ∙ drop-append_seam ys vs,
+)
 
 texts-same : (t u : Row) → length t ≡ length u → IsShort t → IsShort u → flat_map cell_text t ≡ flat_map cell_text u → t ≡ u
 texts-same [] [] n s r e = refl
@@ -86,12 +87,12 @@ any-coded p d c equal = by (is_new d c) refl
 
 pub text-added : (n : ℕ) (others : List Row) (t : Row) (d e : Coding) → d.nulls ≡ Equal → e ≡ coded d (tuple_text t) → length t ≡ n → IsShort t → AreTexts n others d.cells → AreTexts n (others ++ t ∷ []) e.cells
 text-added n others t d e equal is long short are = record {
-    same = λ u m s.
-        ap (λ (g : Coding). list_any (same_cell (tuple_text u)) g.cells) is
-        ∙ any-coded (same_cell (tuple_text u)) d (tuple_text t) equal
-        ∙ ap₂ (λ a b. a || b) (are.same u m s) (same-tests u t (m ∙ sym long) s short)
-        ∙ sym (any-last (same_row u) others t);
-  }
+  same = λ u m s.
+      ap (λ (g : Coding). list_any (same_cell (tuple_text u)) g.cells) is
+      ∙ any-coded (same_cell (tuple_text u)) d (tuple_text t) equal
+      ∙ ap₂ (λ a b. a || b) (are.same u m s) (same-tests u t (m ∙ sym long) s short)
+      ∙ sym (any-last (same_row u) others t);
+}
 
 -- ---- a row that needs its like
 pub null-kept : (others : List Row) (t : Row) → not (is_null t) ≡ false → false ≡ is_lost others t

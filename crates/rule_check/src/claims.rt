@@ -265,5 +265,7 @@ pub(crate) fn judge_claims(
     let visits = visits_of(alloc, &order, relation, columns, rules)?;
     let mut path = Path::new(alloc, &snapshot, &order)?;
     let mut tally = Tally::new(alloc, &snapshot)?;
-    judge_visits(&mut path, &snapshot, &mut tally, relation, rules, &visits, found)
+    judge_visits(
+        &mut path, &snapshot, &mut tally, relation, rules, &visits, found,
+    )
 }

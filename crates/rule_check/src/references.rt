@@ -276,7 +276,12 @@ fn found_of(
 {
     coded.go_to(alloc, relations, &reference.into)?;
     let rows = &relations[reference.from.relation as usize];
-    found_among(alloc, &mut coded.texts, rows, reference.from.columns.as_slice())
+    found_among(
+        alloc,
+        &mut coded.texts,
+        rows,
+        reference.from.columns.as_slice(),
+    )
 }
 
 // What is found of a rule, if it is a reference whose sides are there; else what stood there.

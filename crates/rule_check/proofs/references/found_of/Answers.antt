@@ -34,6 +34,6 @@ returns-clause-value c =
     let texts = subst (λ (cs : List ℕ). AreTexts (length cs) (tuples s.1 cs) c.go_to.new.self.texts.cells) c.in_ok-go_to.ensures.columns (c.in_ok-go_to.ensures.texts.same s.1 at) in
     IfOk-weaker c.found_among.result _ _
     (λ v h. h s.1 f.into.columns (subst (λ (n : ℕ). AreTexts n (tuples s.1 f.into.columns) c.go_to.new.self.texts.cells) long texts)
-        ∙ ap (λ (cs : List ℕ). of_rows (lost_rows c.index-relations-reference.result cs s.1 f.into.columns)) c.as_slice.ensures
-        ∙ verdict-is rs f c.index-relations-reference.result s.1 g s.3 (subst (λ (r : RowState). are_sides_of r f.from.columns s.1 f.into.columns ≡ true) e s.4))
+    ∙ ap (λ (cs : List ℕ). of_rows (lost_rows c.index-relations-reference.result cs s.1 f.into.columns)) c.as_slice.ensures
+    ∙ verdict-is rs f c.index-relations-reference.result s.1 g s.3 (subst (λ (r : RowState). are_sides_of r f.from.columns s.1 f.into.columns ≡ true) e s.4))
     c.found_among.ensures.value
