@@ -1,18 +1,16 @@
 -- What is found in a snapshot or a relation is the verdict of the rule.
-use Rattle.std.proofs.Common.{inl, inr, ◌≡◌, ◌⊎◌, ℕ, Bool, true, false, ◌&&◌, nat_lt, eqb, cond, refl, sym, ap, ap₂, ◌∙◌, subst, arith, List, Option, Some, None, slice_get}
+use Rattle.std.proofs.Common.{◌≡◌, ℕ, Bool, true, false, ◌&&◌, nat_lt, eqb, cond, refl, sym, ap, ap₂, ◌∙◌, List, Option, Some, None, slice_get}
 use Rattle.std.proofs.lemmas.Bool.{and_parts, eqb-true}
-use Rattle.col_set.specs.declared.target.Target.{Target}
 use Rattle.rel_base.specs.CodeTable.{CodeTable}
 use Rattle.rel_base.specs.RowState.{RowState, IsRowState, width}
 use Rattle.rel_base.specs.Shows.{Shows}
-use Rattle.approx_fd.specs.Removal.{removed, removed_in}
+use Rattle.approx_fd.specs.Removal.{removed_in}
 use Rattle.approx_fd.proofs.Removing.{removed-shown}
 use Rattle.rule_check.specs.declared.rule.Claim.{Claim}
 use Rattle.rule_check.specs.declared.rule.ColumnOf.{ColumnOf}
 use Rattle.rule_check.specs.declared.rule.Rule.{Rule}
 use Rattle.rule_check.specs.declared.rule.Rule.TheVariants as rule
-use Rattle.rule_check.specs.declared.rule.Verdict.{Verdict}
-use Rattle.rule_check.specs.Rules.{of_pairs, of_rows, first_pair, claim_at, claim_in, claim_verdict, is_claim_of, if_clear, if_there, in_relation, column_at, filled_verdict, null_rows, verdict_of}
+use Rattle.rule_check.specs.Rules.{of_pairs, of_rows, claim_at, claim_in, claim_verdict, is_claim_of, if_clear, if_there, column_at, filled_verdict, null_rows, verdict_of}
 use Rattle.rule_check.specs.Breaking.{first_pair_in}
 use Rattle.rule_check.proofs.Pairs.{pair-shown}
 

@@ -1,5 +1,5 @@
 -- The first pair of rows that a test finds fault with.
-use Rattle.std.proofs.Common.{inl, inr, ◌≡◌, ◌⊎◌, ℕ, suc, ◌+◌, ◌<◌, ◌≤◌, Bool, true, false, ◌&&◌, ◌||◌, nat_lt, cond, refl, sym, ap, ◌∙◌, subst, arith, List, [], ◌∷◌, Option, Some, None, option_map, option_and_then}
+use Rattle.std.proofs.Common.{inl, inr, ◌≡◌, ℕ, suc, ◌<◌, ◌≤◌, Bool, true, false, ◌&&◌, ◌||◌, nat_lt, cond, refl, sym, ap, ◌∙◌, arith, List, [], ◌∷◌, Option, Some, None, option_map, option_and_then}
 use Rattle.std.specs.List.{find, list_any}
 use Rattle.std.proofs.lemmas.Bool.{and_parts, and_from, true≢false, false_from_ne_true, leb-true, le-leb}
 use Rattle.col_set.specs.Lists.{Listed, list_any_at, list_any_which}

@@ -1,28 +1,22 @@
 -- The first pair that breaks a key or a dependency, by the groups of its left side.
-use Rattle.std.proofs.Common.{inl, inr, ◌≡◌, ◌≢◌, ◌⊎◌, ℕ, zero, suc, ◌+◌, ◌<◌, ◌≤◌, Bool, true, false, not, ◌&&◌, nat_lt, eqb, cond, refl, sym, ap, ◌∙◌, subst, arith, List, [], ◌∷◌, length, get_or, drop, drop-cons, Option, Some, None, option_map}
+use Rattle.std.proofs.Common.{inl, inr, ◌≡◌, ◌⊎◌, ℕ, zero, suc, ◌+◌, ◌<◌, ◌≤◌, Bool, true, false, not, nat_lt, cond, refl, sym, ap, ◌∙◌, subst, arith, List, [], ◌∷◌, length, get_or, drop, drop-cons, Option, Some, None}
 use Rattle.std.specs.List.{find}
-use Rattle.std.proofs.lemmas.Bool.{and_parts, and_from, true≢false, false≢true, leb-true, le-leb, eqb-true, eq-eqb, not-true, not-false, cases_Bool, cases_eq, cases_lt}
+use Rattle.std.proofs.lemmas.Bool.{and_parts, and_from, true≢false, leb-true, le-leb, not-true, cases_lt}
 use Rattle.col_set.specs.declared.target.Target.{Target}
-use Rattle.col_set.specs.declared.target.Target.TheVariants.{Col, RowId}
-use Rattle.col_set.specs.ColSet.{has, subset}
-use Rattle.col_set.specs.Target.{has_target, IsColumnTarget}
+use Rattle.col_set.specs.ColSet.{subset}
+use Rattle.col_set.specs.Target.{has_target}
 use Rattle.col_set.specs.Evidence.{refutes}
 use Rattle.col_set.specs.Lists.{Listed, Listed-filter}
 use Rattle.col_set.proofs.Places.{Listed-get_or}
 use Rattle.col_set.proofs.Places.{Climbs}
-use Rattle.rel_base.specs.CodeTable.{CodeTable, code_at}
-use Rattle.rel_base.specs.RowState.{RowState, IsRowState}
+use Rattle.rel_base.specs.CodeTable.{CodeTable}
 use Rattle.rel_base.specs.Shows.{code_agree, live_numbers}
 use Rattle.stripped_partition.specs.AnyOrder.{AreGroupsBy, AreGroupsOf}
-use Rattle.stripped_partition.specs.SplitBy.{least, differ}
-use Rattle.stripped_partition.specs.Stripped.{agree_on, group_of, stripped}
-use Rattle.stripped_partition.proofs.Agreeing.{agree_same, code_agree-from, code_agree-parts}
-use Rattle.stripped_partition.proofs.Dependencies.{group_ascends, in_group, stripped-parts, together}
-use Rattle.stripped_partition.proofs.Grouped.{group_is, first_least}
-use Rattle.stripped_partition.proofs.Live.{Climbs-live}
-use Rattle.rule_check.specs.Rules.{first_fault}
-use Rattle.rule_check.specs.Breaking.{first_pair_in, pair_in_group, differing_in, earlier, pair_from}
-use Rattle.rule_check.proofs.Firsts.{no-fault, fault-is}
+use Rattle.stripped_partition.specs.Stripped.{agree_on}
+use Rattle.stripped_partition.proofs.Agreeing.{agree_same}
+use Rattle.stripped_partition.proofs.Dependencies.{stripped-parts}
+use Rattle.stripped_partition.proofs.Grouped.{group_is}
+use Rattle.rule_check.specs.Breaking.{pair_in_group, earlier, pair_from}
 
 -- ---- the earlier of two pairs
 earlier-least : (a b : Option (ℕ × ℕ)) (p : ℕ × ℕ) → (a ≡ Some p) ⊎ (b ≡ Some p) → (w : ℕ × ℕ) × ((earlier a b ≡ Some w) × (w.1 ≤ p.1))

@@ -1,7 +1,7 @@
 -- The earliest pair of the groups is the first pair of all rows.
-use Rattle.std.proofs.Common.{inl, inr, ◌≡◌, ◌≢◌, ◌⊎◌, ℕ, ◌+◌, ◌<◌, ◌≤◌, Bool, true, false, not, eqb, cond, refl, sym, ap, ◌∙◌, subst, arith, List, length, get_or, Option, Some, None, option_map}
-use Rattle.std.specs.List.{find, Contains}
-use Rattle.std.proofs.lemmas.Bool.{true≢false, eqb-true, eq-eqb, eqb-false, not-true, not-false, cases_Bool, false_from_ne_true}
+use Rattle.std.proofs.Common.{inl, inr, ◌≡◌, ◌≢◌, ◌⊎◌, ℕ, ◌<◌, ◌≤◌, true, false, not, eqb, refl, sym, ap, ◌∙◌, subst, arith, List, length, get_or, Option, Some, None, option_map}
+use Rattle.std.specs.List.{find}
+use Rattle.std.proofs.lemmas.Bool.{true≢false, eqb-true, eqb-false, not-true, not-false, cases_Bool, false_from_ne_true}
 use Rattle.col_set.specs.declared.target.Target.{Target}
 use Rattle.col_set.specs.declared.target.Target.TheVariants.{Col, RowId}
 use Rattle.col_set.specs.ColSet.{has}
@@ -14,7 +14,6 @@ use Rattle.rel_base.specs.RowState.{RowState, IsRowState}
 use Rattle.rel_base.specs.Shows.{Shows, code_agree, live_numbers}
 use Rattle.rel_base.specs.Validity.{agree_of}
 use Rattle.rel_base.proofs.Shown.{live_numbers-shown, code_agree-shown}
-use Rattle.rel_base.proofs.States.{live_climbs}
 use Rattle.stripped_partition.specs.AnyOrder.{AreGroupsBy}
 use Rattle.stripped_partition.specs.SplitBy.{least, differ}
 use Rattle.stripped_partition.specs.Stripped.{agree_on, group_of}
@@ -23,7 +22,7 @@ use Rattle.stripped_partition.proofs.Dependencies.{group_ascends, in_group, stri
 use Rattle.stripped_partition.proofs.Grouped.{first_least}
 use Rattle.stripped_partition.proofs.Live.{Climbs-live}
 use Rattle.rule_check.specs.Rules.{first_fault, first_pair}
-use Rattle.rule_check.specs.Breaking.{first_pair_in, pair_in_group, differing_in, pair_from}
+use Rattle.rule_check.specs.Breaking.{first_pair_in, pair_in_group, pair_from}
 use Rattle.rule_check.proofs.Firsts.{no-fault, fault-is, same-fault}
 use Rattle.rule_check.proofs.Groups.{OfGroups, IsPairOf, from-least, from-origin, find-listed, find-before, least-listed, second-listed, second-least, whole, fault-parts, fault-from}
 

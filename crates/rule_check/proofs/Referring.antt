@@ -1,13 +1,11 @@
 -- References whose sides are there.
-use Rattle.std.proofs.Common.{inl, inr, ◌≡◌, ℕ, zero, suc, ◌<◌, Bool, true, false, ◌&&◌, nat_lt, eqb, refl, sym, ap, ap₂, ◌∙◌, subst, arith, List, [], ◌∷◌, length, get_or, Option, Some, None, slice_get}
-use Rattle.std.specs.List.{All, list_all}
-use Rattle.std.proofs.lemmas.Bool.{and_parts, eqb-true, leb-true, false≢true}
+use Rattle.std.proofs.Common.{◌≡◌, ℕ, zero, suc, ◌<◌, true, ◌&&◌, nat_lt, eqb, refl, sym, ap, ◌∙◌, arith, List, [], ◌∷◌, length, Option, Some, None, slice_get}
+use Rattle.std.specs.List.{All}
+use Rattle.std.proofs.lemmas.Bool.{and_parts, leb-true, false≢true}
 use Rattle.rel_base.specs.RowState.{RowState, width}
 use Rattle.rule_check.specs.declared.rule.Reference.{Reference}
-use Rattle.rule_check.specs.declared.rule.Verdict.{Verdict}
-use Rattle.rule_check.specs.Passes.{AreTextsOf, IsSideOf, is_reference_of, sides_there}
-use Rattle.rule_check.specs.Rules.{are_columns_of, are_sides_of, if_clear, if_there, lost_rows, of_rows, reference_in, reference_verdict, tuples}
-use Rattle.rule_check.specs.Tuples.{AreTexts}
+use Rattle.rule_check.specs.Passes.{IsSideOf, is_reference_of, sides_there}
+use Rattle.rule_check.specs.Rules.{are_columns_of, are_sides_of, if_clear, if_there, lost_rows, of_rows, reference_in, reference_verdict}
 
 columns-below : (n : ℕ) (columns : List ℕ) → are_columns_of n columns ≡ true → All (λ column. column < n) columns
 columns-below n [] e k d l = absurd (omega arith)

@@ -1,5 +1,5 @@
 -- What the passes over relations leave, one after another, is the verdict of each rule.
-use Rattle.std.proofs.Common.{inl, inr, ◌≡◌, ◌≢◌, ◌⊎◌, ℕ, zero, suc, ◌+◌, ◌<◌, ◌≤◌, Bool, true, false, ◌&&◌, nat_lt, eqb, cond, refl, sym, ap, ap₂, ◌∙◌, subst, arith, List, [], ◌∷◌, length, map, take, drop, ◌++◌, get_or, Option, Some, None, option_map, slice_get}
+use Rattle.std.proofs.Common.{inl, inr, ◌≡◌, ◌≢◌, ◌⊎◌, ℕ, suc, ◌+◌, ◌<◌, ◌≤◌, Bool, true, false, ◌&&◌, nat_lt, eqb, cond, refl, sym, ap, ap₂, ◌∙◌, arith, List, length, map, take, drop, ◌++◌, get_or, Option, Some, None, option_map, slice_get}
 use Rattle.std.specs.Option.{unwrap_or}
 use Rattle.std.proofs.lemmas.Bool.{cases_eq, eqb-true, eq-eqb, false_from_ne_true, leb-true, le-leb}
 use Rattle.std.proofs.lemmas.List.{length-map}

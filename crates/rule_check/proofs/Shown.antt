@@ -1,19 +1,12 @@
 -- What the passes leave, one after another, is the verdict of each rule.
-use Rattle.std.proofs.Common.{inl, inr, ◌≡◌, ◌≢◌, ◌⊎◌, ℕ, zero, suc, ◌+◌, ◌<◌, ◌≤◌, Bool, true, false, ◌&&◌, nat_lt, eqb, cond, refl, sym, ap, ap₂, ◌∙◌, subst, arith, List, [], ◌∷◌, length, map, Option, Some, None, option_map, slice_get}
-use Rattle.std.specs.Option.{unwrap_or}
-use Rattle.std.proofs.lemmas.Bool.{cases_eq, and_parts, eqb-true, eq-eqb, false_from_ne_true, leb-true, le-leb}
-use Rattle.std.proofs.lemmas.List.{length-map}
+use Rattle.std.proofs.Common.{◌≡◌, ℕ, refl, ap, ap₂, ◌∙◌, length, Option, Some, None, option_map}
 use Rattle.rel_base.specs.CodeTable.{CodeTable}
 use Rattle.rel_base.specs.RowState.{RowState, IsRowState, width}
 use Rattle.rel_base.specs.Shows.{Shows}
-use Rattle.approx_fd.specs.Removal.{removed, removed_in}
 use Rattle.approx_fd.proofs.Removing.{removed-shown}
 use Rattle.rule_check.specs.declared.rule.Claim.{Claim}
 use Rattle.rule_check.specs.declared.rule.Rule.{Rule}
-use Rattle.rule_check.specs.declared.rule.Rule.TheVariants as rule
-use Rattle.rule_check.specs.declared.rule.Verdict.{Verdict}
-use Rattle.rule_check.specs.Breaking.{first_pair_in}
-use Rattle.rule_check.specs.Rules.{of_pairs, first_pair, claim_at, claim_in}
+use Rattle.rule_check.specs.Rules.{of_pairs, claim_at, claim_in}
 use Rattle.rule_check.specs.Passes.{claim_in_codes, judged_claim, judged_in_codes}
 use Rattle.rule_check.proofs.Pairs.{pair-shown}
 

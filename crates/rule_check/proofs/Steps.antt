@@ -1,6 +1,6 @@
 -- Steps over the columns of a tuple, and over rows that are counted.
-use Rattle.std.proofs.Common.{inl, inr, ◌≡◌, ◌⊎◌, ℕ, zero, suc, ◌+◌, ◌<◌, ◌≤◌, Bool, true, false, not, ◌&&◌, cond, refl, sym, ap, ◌∙◌, subst, arith, List, [], ◌∷◌, ◌++◌, length, map, take, drop, get_or, append_assoc}
-use Rattle.std.specs.List.{filter, flat_map, list_all}
+use Rattle.std.proofs.Common.{◌≡◌, ℕ, zero, suc, ◌+◌, ◌<◌, ◌&&◌, refl, sym, ap, ◌∙◌, arith, List, [], ◌∷◌, ◌++◌, length, map, take, drop, get_or, append_assoc}
+use Rattle.std.specs.List.{flat_map}
 use Rattle.rel_base.specs.Agreement.{same_cell}
 use Rattle.rel_base.specs.Cells.{Cell, Row, cell}
 use Rattle.rule_check.specs.Rules.{is_null, tuple}

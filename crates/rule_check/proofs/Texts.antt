@@ -1,22 +1,20 @@
 -- Texts of tuples are equal exactly where the tuples are.
-use Rattle.std.proofs.Common.{inl, inr, ◌≡◌, ◌≢◌, ◌⊎◌, ℕ, zero, suc, ◌+◌, ◌<◌, ◌≤◌, ◌^◌, Bool, true, false, not, ◌&&◌, ◌||◌, cond, refl, sym, ap, ap₂, ◌∙◌, subst, arith, List, [], ◌∷◌, ◌++◌, length, map, take, drop, get_or, append_assoc}
+use Rattle.std.proofs.Common.{◌≡◌, ℕ, zero, suc, ◌+◌, ◌<◌, ◌^◌, Bool, true, false, not, ◌&&◌, ◌||◌, cond, refl, sym, ap, ap₂, ◌∙◌, subst, arith, List, [], ◌∷◌, ◌++◌, length, map, take, drop, get_or, append_assoc}
 use Rattle.std.specs.Int.{to_be_bytes, from_be_bytes, w64}
-use Rattle.std.specs.List.{AllByRecursion, flat_map, list_any}
+use Rattle.std.specs.List.{flat_map, list_any}
 use Rattle.std.proofs.Math.Seq.{take-append_seam, drop-append_seam}
 use Rattle.std.proofs.lemmas.Bool.{true≢false, not-false}
-use Rattle.std.proofs.lemmas.List.{length-map}
 use Rattle.std.proofs.lemmas.List.Folds.{list_any-append}
 use Rattle.std.proofs.lemmas.Nat.{from_be_bytes-to_be_bytes_8}
-use Rattle.col_set.specs.Lists.{Listed, list_any_at, list_any_which}
+use Rattle.col_set.specs.Lists.{list_any_at, list_any_which}
 use Rattle.rel_base.specs.Agreement.{same_cell}
 use Rattle.rel_base.specs.Cells.{Cell, Row, cell}
 use Rattle.rel_base.specs.Projection.{same_row}
-use Rattle.rel_base.specs.declared.nulls.Nulls.{Nulls}
 use Rattle.rel_base.specs.declared.nulls.Nulls.TheVariants.{Equal}
 use Rattle.rel_base.proofs.Agree.{same_cell-true, true-same_cell, false-same_cell}
 use Rattle.rel_base.proofs.Parts.{same_row-true, true-same_row}
 use Rattle.column_dict.specs.Coding.{Coding, coded, is_fresh, is_new}
-use Rattle.rule_check.specs.Rules.{is_lost, is_null, tuple}
+use Rattle.rule_check.specs.Rules.{is_lost, is_null}
 use Rattle.rule_check.specs.Tuples.{AreTexts, IsShort, cell_text, tuple_text}
 
 short-step : (cells : Row) (cs : List ℕ) (i : ℕ) → i < length cs → IsShort (map (cell cells) (take i cs)) → length (cell cells (get_or cs i 0)) < 2 ^ 64 → IsShort (map (cell cells) (take (suc i) cs))

@@ -1,5 +1,5 @@
 -- What a pass over rules leaves.
-use Rattle.std.specs.Prelude.{◌≡◌, ◌<◌, ◌⊎◌, ℕ, Bool, true, false, List, length, Option, Some, None, option_map, unwrap_or, slice_get, slice_index_or, if◌then◌else◌}
+use Rattle.std.specs.Prelude.{◌≡◌, ◌<◌, ◌⊎◌, ℕ, Bool, false, List, length, Option, Some, None, option_map, unwrap_or, slice_get, slice_index_or, if◌then◌else◌}
 use Rattle.std.specs.List.{All, Contains}
 use Rattle.rel_base.specs.CodeTable.{CodeTable}
 use Rattle.rel_base.specs.RowState.{RowState, width}

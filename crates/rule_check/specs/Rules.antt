@@ -12,7 +12,6 @@ use Rattle.rel_base.specs.RowState.{RowState, width, row}
 use Rattle.rel_base.specs.Validity.{agree_of}
 use Rattle.approx_fd.specs.Removal.{removed}
 use Rattle.rule_check.specs.declared.rule.Claim.{Claim}
-use Rattle.rule_check.specs.declared.rule.Side.{Side}
 use Rattle.rule_check.specs.declared.rule.Reference.{Reference}
 use Rattle.rule_check.specs.declared.rule.ColumnOf.{ColumnOf}
 use Rattle.rule_check.specs.declared.rule.Rule.{Rule}

@@ -1,5 +1,5 @@
 -- Tuples of cells as texts, which are equal exactly where the tuples are.
-use Rattle.std.specs.Prelude.{◌≡◌, ◌<◌, ◌^◌, ℕ, ◌++◌, Bool, List, length}
+use Rattle.std.specs.Prelude.{◌≡◌, ◌<◌, ◌^◌, ℕ, ◌++◌, List, length}
 use Rattle.std.specs.Int.{to_be_bytes, w64}
 use Rattle.std.specs.List.{AllByRecursion, flat_map, list_any}
 use Rattle.rel_base.specs.Cells.{Cell, Row}

@@ -1,4 +1,4 @@
-use Rattle.std.proofs.Common.{◌<◌, arith, length, refl}
+use Rattle.std.proofs.Common.{arith}
 use Rattle.stripped_partition.proofs.Removing.{group_fits}
 use Rattle.rule_check.proofs.Groups.{group-two, pair-end, pair-step}
 use Rattle.rule_check.proofs.breaking.earliest.Goals as goal

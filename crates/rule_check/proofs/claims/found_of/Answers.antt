@@ -1,4 +1,4 @@
-use Rattle.std.proofs.Common.{ap, subst, sym, ◌^◌, ◌<◌, length}
+use Rattle.std.proofs.Common.{subst, sym, ◌^◌, ◌<◌, length}
 use Rattle.rel_base.specs.CodeTable.{CodeTable}
 use Rattle.rule_check.proofs.Among.{claim-within}
 use Rattle.rule_check.proofs.claims.found_of.Goals as goal

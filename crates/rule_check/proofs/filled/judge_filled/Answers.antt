@@ -1,4 +1,4 @@
-use Rattle.std.proofs.Common.{arith, refl, length}
+use Rattle.std.proofs.Common.{arith, refl}
 use Rattle.rule_check.specs.Passes.{judged_column}
 use Rattle.rule_check.proofs.Passing.{judged-at, passed-next}
 use Rattle.rule_check.proofs.filled.judge_filled.Goals as goal

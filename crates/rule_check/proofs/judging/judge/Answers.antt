@@ -1,4 +1,4 @@
-use Rattle.std.proofs.Common.{◌≡◌, ◌≤◌, ◌∙◌, arith, length, subst, sym, Result, Ok, Err, OnOk, List}
+use Rattle.std.proofs.Common.{◌≤◌, ◌∙◌, arith, length, subst, sym, Result, Ok, Err, OnOk}
 use Rattle.std.proofs.lemmas.Option.{same_Some}
 use Rattle.rel_base.specs.RowState.{RowState}
 use Rattle.rule_check.specs.Passes.{Settles, judged_column}

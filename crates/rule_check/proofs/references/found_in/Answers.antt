@@ -1,4 +1,4 @@
-use Rattle.std.proofs.Common.{◌∙◌, ◌≤◌, ℕ, List, arith, ap, length, subst}
+use Rattle.std.proofs.Common.{◌∙◌, ◌≤◌, ℕ, List, arith, length, subst}
 use Rattle.std.specs.List.{filter}
 use Rattle.std.proofs.lemmas.List.{take_all}
 use Rattle.rel_base.specs.RowState.{row}

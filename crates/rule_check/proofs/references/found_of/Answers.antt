@@ -6,7 +6,7 @@ use Rattle.std.proofs.lemmas.Result.{IfOk-weaker}
 use Rattle.rel_base.specs.RowState.{RowState, width}
 use Rattle.rule_check.specs.Rules.{are_columns_of, are_sides_of, lost_rows, of_rows, tuples}
 use Rattle.rule_check.specs.Tuples.{AreTexts}
-use Rattle.rule_check.proofs.Referring.{Sides, from-side, sides, verdict-is}
+use Rattle.rule_check.proofs.Referring.{from-side, sides, verdict-is}
 use Rattle.rule_check.proofs.references.found_of.Goals as goal
 
 row-is : (rs : List RowState) (p : ℕ) (r one : RowState) → slice_get rs p ≡ Some r → one ≡ slice_index_or rs p one → r ≡ one

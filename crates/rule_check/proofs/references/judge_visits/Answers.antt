@@ -1,4 +1,4 @@
-use Rattle.std.proofs.Common.{◌∙◌, ◌<◌, arith, get_or, refl, length, ℕ}
+use Rattle.std.proofs.Common.{◌<◌, arith, get_or, refl, length, ℕ}
 use Rattle.rule_check.specs.Passes.{judged_reference, reference_at}
 use Rattle.rule_check.specs.Rules.{reference_verdict}
 use Rattle.rule_check.proofs.Passing.{judged-at, visited-next, visited-none}

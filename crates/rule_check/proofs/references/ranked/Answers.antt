@@ -1,5 +1,4 @@
-use Rattle.std.proofs.Common.{◌≡◌, ◌∙◌, ◌+◌, ap, arith, subst, sym, ℕ, List}
-use Rattle.rule_check.specs.declared.rule.Rule.{Rule}
+use Rattle.std.proofs.Common.{◌∙◌, ◌+◌, ap, arith, subst, sym}
 use Rattle.rule_check.specs.Passes.{AreVisitsTo, reference_at}
 use Rattle.rule_check.proofs.Passing.{rule-is, visits-more, visits-skip}
 use Rattle.rule_check.proofs.references.ranked.Goals as goal
