@@ -14,7 +14,7 @@ use Rattle.clap.proofs.WalkLemmas.{first_value-rows, one_text-rows, raw_values-r
 use Rattle.clap.specs.ValueTests.{is_unsigned_in}
 use Rattle.clap.specs.declared.builder.value_parser.ValueParser.TheVariants as vp
 use Rattle.clap.proofs.ValueTestLemmas.{Accepts-accepts, accepts-Accepts}
-use Rattle.cli_words.specs.Command.{certificate_of, errors_of, file_of, files_of, most_of, nulls_of, number_or, number_or_zero, prefix_of, seed_of, width_of, workers_of}
+use Rattle.cli_words.specs.Command.{certificate_of, errors_of, file_of, files_of, most_of, nulls_of, number_or, number_or_zero, prefix_of, rules_of, seed_of, width_of, workers_of}
 
 -- the text of a reference, or another
 text_or : (o : Option (Bor Text)) (d : Bor Text) → (unwrap_or o d).now ≡ unwrap_or (option_map (λ s. s.now) o) d.now
@@ -86,6 +86,11 @@ pub certificate_of-word : (f : Found) (o : Option (Bor Text)) (word d : Bor Text
     → word.now ≡ certificate_of (rows_of f)
 certificate_of-word f o word d found same default_word =
     ap (λ (s : Bor Text). s.now) same ∙ text_or o d ∙ (λ i. unwrap_or ((found ∙ first_value-rows f (codes "cert")) i) (default_word i))
+
+pub rules_of-word : (f : Found) (o : Option (Bor Text)) (word d : Bor Text) → option_map (λ s. s.now) o ≡ first_value f (codes "rules") → word ≡ unwrap_or o d → d.now ≡ []
+    → word.now ≡ rules_of (rows_of f)
+rules_of-word f o word d found same default_word =
+    ap (λ (s : Bor Text). s.now) same ∙ text_or o d ∙ (λ i. unwrap_or ((found ∙ first_value-rows f (codes "rules")) i) (default_word i))
 
 -- a seed that was parsed, or 0
 parsed_or_zero : {E : Type 0} (text : Text) (r : Result ℕ E) → ParsesUnsigned 32 10 text r → result_unwrap_or r 0 ≡ number_or_zero text

@@ -30,7 +30,7 @@ use Rattle.clap.proofs.ValueTestLemmas.{accepts-Accepts}
 use Rattle.cli_words.specs.declared.request.Request.{Request}
 use Rattle.task_base.specs.Task.{AreWorkers}
 use Rattle.cli_words.specs.Words.{the_app}
-use Rattle.cli_words.specs.Command.{approx_request, certify_request, check_request, command, demo_request, nary_request, normalize_request, number_or, profile_request, request_of, session_request, synthesize_request, workers_asked, workers_of}
+use Rattle.cli_words.specs.Command.{approx_request, certify_request, check_request, command, demo_request, nary_request, normalize_request, number_or, profile_request, request_of, session_request, synthesize_request, verify_request, workers_asked, workers_of}
 
 -- ---- values from 1 to 16
 abbrev the_parser : ValueParser
@@ -416,7 +416,7 @@ fit_subs = (
           ((λ e. absurd (other_name (codes "errors") (omega arith) e)), ((λ e. absurd (other_name (codes "file") (omega arith) e)), ((λ e. absurd (other_name (codes "help") (omega arith) e)), tt))),
           (
             ((λ e. absurd (other_name (codes "file") (omega arith) e)), ((λ e. absurd (other_name (codes "cert") (omega arith) e)), ((λ e. absurd (other_name (codes "help") (omega arith) e)), tt))),
-            (((λ e. absurd (other_second (codes "width") (omega arith) e)), ((λ e. absurd (other_name (codes "files") (omega arith) e)), ((λ e. absurd (other_name (codes "help") (omega arith) e)), tt))), (((λ e. (refl, refl)), ((λ e. absurd (other_name (codes "out") (omega arith) e)), ((λ e. absurd (other_name (codes "file") (omega arith) e)), ((λ e. absurd (other_name (codes "help") (omega arith) e)), tt)))), (((λ e. (refl, refl)), ((λ e. absurd (other_name (codes "out") (omega arith) e)), ((λ e. absurd (other_name (codes "most") (omega arith) e)), ((λ e. absurd (other_name (codes "file") (omega arith) e)), ((λ e. absurd (other_name (codes "help") (omega arith) e)), tt))))), (((λ e. absurd (other_name (codes "subcommand") (omega arith) e)), tt), tt)))),
+            (((λ e. absurd (other_second (codes "width") (omega arith) e)), ((λ e. absurd (other_name (codes "files") (omega arith) e)), ((λ e. absurd (other_name (codes "help") (omega arith) e)), tt))), (((λ e. (refl, refl)), ((λ e. absurd (other_name (codes "out") (omega arith) e)), ((λ e. absurd (other_name (codes "file") (omega arith) e)), ((λ e. absurd (other_name (codes "help") (omega arith) e)), tt)))), (((λ e. (refl, refl)), ((λ e. absurd (other_name (codes "out") (omega arith) e)), ((λ e. absurd (other_name (codes "most") (omega arith) e)), ((λ e. absurd (other_name (codes "file") (omega arith) e)), ((λ e. absurd (other_name (codes "help") (omega arith) e)), tt))))), (((λ e. (refl, refl)), ((λ e. absurd (other_name (codes "rules") (omega arith) e)), ((λ e. absurd (other_name (codes "files") (omega arith) e)), ((λ e. absurd (other_name (codes "help") (omega arith) e)), tt)))), (((λ e. absurd (other_name (codes "subcommand") (omega arith) e)), tt), tt))))),
           ),
         ),
       ),
@@ -440,40 +440,43 @@ workers-range words request is = kinds (fault_of the_app words) refl is
     InRange : Request → Type 0
     InRange r = (1 ≤ workers_asked r) × (workers_asked r ≤ 16)
 
-    named : (q : Text × List Row) (b c d e f g h j k : Bool) → Good q.1
-        → cond b (Some (profile_request q.1)) (cond c (Some (session_request q.1)) (cond d (Some (normalize_request q.1)) (cond e (Some (demo_request q.1)) (cond f (Some (approx_request q.1)) (cond g (Some (check_request q.1)) (cond h (Some (nary_request q.1)) (cond j (Some (certify_request q.1)) (cond k (Some (synthesize_request q.1)) None)))))))) ≡ Some request → InRange request
-    named q true c d e f g h j k good is =
+    named : (q : Text × List Row) (b c d e f g h j k l : Bool) → Good q.1
+        → cond b (Some (profile_request q.1)) (cond c (Some (session_request q.1)) (cond d (Some (normalize_request q.1)) (cond e (Some (demo_request q.1)) (cond f (Some (approx_request q.1)) (cond g (Some (check_request q.1)) (cond h (Some (nary_request q.1)) (cond j (Some (certify_request q.1)) (cond k (Some (synthesize_request q.1)) (cond l (Some (verify_request q.1)) None))))))))) ≡ Some request → InRange request
+    named q true c d e f g h j k l good is =
         let same : profile_request q.1 ≡ request = cc in
         subst InRange same (found_in_range q.1 good)
-    named q false true d e f g h j k good is =
+    named q false true d e f g h j k l good is =
         let same : session_request q.1 ≡ request = cc in
         subst InRange same (found_in_range q.1 good)
-    named q false false true e f g h j k good is =
+    named q false false true e f g h j k l good is =
         let same : normalize_request q.1 ≡ request = cc in
         subst InRange same (found_in_range q.1 good)
-    named q false false false true f g h j k good is =
+    named q false false false true f g h j k l good is =
         let same : demo_request q.1 ≡ request = cc in
         subst InRange same (found_in_range q.1 good)
-    named q false false false false true g h j k good is =
+    named q false false false false true g h j k l good is =
         let same : approx_request q.1 ≡ request = cc in
         subst InRange same (omega arith, omega arith)
-    named q false false false false false true h j k good is =
+    named q false false false false false true h j k l good is =
         let same : check_request q.1 ≡ request = cc in
         subst InRange same (omega arith, omega arith)
-    named q false false false false false false true j k good is =
+    named q false false false false false false true j k l good is =
         let same : nary_request q.1 ≡ request = cc in
         subst InRange same (omega arith, omega arith)
-    named q false false false false false false false true k good is =
+    named q false false false false false false false true k l good is =
         let same : certify_request q.1 ≡ request = cc in
         subst InRange same (found_in_range q.1 good)
-    named q false false false false false false false false true good is =
+    named q false false false false false false false false true l good is =
         let same : synthesize_request q.1 ≡ request = cc in
         subst InRange same (found_in_range q.1 good)
-    named q false false false false false false false false false good is = absurd (some≢none request is)
+    named q false false false false false false false false false true good is =
+        let same : verify_request q.1 ≡ request = cc in
+        subst InRange same (found_in_range q.1 good)
+    named q false false false false false false false false false false good is = absurd (some≢none request is)
 
     met : (o : Option (Text × List Row)) → fault_of the_app words ≡ [] → subcommand_of the_app words ≡ o → option_and_then request_of o ≡ Some request → InRange request
     met None none same e = absurd (some≢none request e)
-    met (Some q) none same e = named q (bytes_eq q.0 (codes "profile")) (bytes_eq q.0 (codes "session")) (bytes_eq q.0 (codes "normalize")) (bytes_eq q.0 (codes "demo")) (bytes_eq q.0 (codes "approx")) (bytes_eq q.0 (codes "check")) (bytes_eq q.0 (codes "nary")) (bytes_eq q.0 (codes "certify")) (bytes_eq q.0 (codes "synthesize")) (below_good words q none same) e
+    met (Some q) none same e = named q (bytes_eq q.0 (codes "profile")) (bytes_eq q.0 (codes "session")) (bytes_eq q.0 (codes "normalize")) (bytes_eq q.0 (codes "demo")) (bytes_eq q.0 (codes "approx")) (bytes_eq q.0 (codes "check")) (bytes_eq q.0 (codes "nary")) (bytes_eq q.0 (codes "certify")) (bytes_eq q.0 (codes "synthesize")) (bytes_eq q.0 (codes "verify")) (below_good words q none same) e
 
     kinds : (ks : Kinds) → fault_of the_app words ≡ ks → cond (is_empty ks) (option_and_then request_of (subcommand_of the_app words)) None ≡ Some request → InRange request
     kinds [] none e = met (subcommand_of the_app words) none refl e

@@ -12,7 +12,7 @@ use Rattle.clap.specs.ValueTests.{is_unsigned_in}
 use Rattle.clap.specs.Faults.{fault_of}
 use Rattle.cli_words.specs.declared.request.Options.{Options}
 use Rattle.cli_words.specs.declared.request.Request.{Request}
-use Rattle.cli_words.specs.declared.request.Request.TheVariants.{Profile, Session, Normalize, Demo, Approx, Check, Nary, Certify, Synthesize}
+use Rattle.cli_words.specs.declared.request.Request.TheVariants.{Profile, Session, Normalize, Demo, Approx, Check, Nary, Certify, Synthesize, Verify}
 use Rattle.cli_words.specs.Words.{the_app}
 
 -- the bytes of each word
@@ -67,6 +67,10 @@ width_of rows = option_map_or (number_or 2) (one_of (codes "width") rows) 2
 abbrev pub most_of : List Row → ℕ
 most_of rows = option_map_or (number_or 128) (one_of (codes "most") rows) 128
 
+-- the text of rules
+abbrev pub rules_of : List Row → Text
+rules_of rows = unwrap_or (first_of (codes "rules") rows) []
+
 abbrev pub options_of : List Row → Options
 options_of rows = record { workers = workers_of rows; nulls = nulls_of rows }
 
@@ -106,6 +110,10 @@ certify_request rows = Certify (workers_of rows) (prefix_of rows) (file_of rows)
 abbrev pub synthesize_request : List Row → Request
 synthesize_request rows = Synthesize (workers_of rows) (most_of rows) (prefix_of rows) (file_of rows)
 
+-- what was found for the arguments of `verify`, as a request
+abbrev pub verify_request : List Row → Request
+verify_request rows = Verify (workers_of rows) (rules_of rows) (files_of rows)
+
 -- the request of a subcommand, by its name
 abbrev pub request_of : Text × List Row → Option Request
 request_of p =
@@ -118,6 +126,7 @@ request_of p =
     else if bytes_eq p.0 (codes "nary") then Some (nary_request p.1)
     else if bytes_eq p.0 (codes "certify") then Some (certify_request p.1)
     else if bytes_eq p.0 (codes "synthesize") then Some (synthesize_request p.1)
+    else if bytes_eq p.0 (codes "verify") then Some (verify_request p.1)
     else None
 
 -- how many workers a request asks for
@@ -131,6 +140,7 @@ workers_asked (Check file certificate) = 4
 workers_asked (Nary width files) = 4
 workers_asked (Certify workers name file) = workers
 workers_asked (Synthesize workers most prefix file) = workers
+workers_asked (Verify workers rules files) = workers
 
 -- what the words ask for, where nothing is wrong with them
 unfoldable pub command : List Text → Option Request

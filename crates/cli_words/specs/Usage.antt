@@ -29,9 +29,12 @@ certify_usage = codes "certify [--workers N] --out NAME FILE"
 abbrev pub synthesize_usage : List ℕ
 synthesize_usage = codes "synthesize [--workers N] --out PREFIX [--most N] FILE"
 
+abbrev pub verify_usage : List ℕ
+verify_usage = codes "verify [--workers N] --rules RULES FILE.."
+
 -- the pieces, in their order
 abbrev pub usages : List (List ℕ)
-usages = profile_usage ∷ normalize_usage ∷ session_usage ∷ demo_usage ∷ approx_usage ∷ nary_usage ∷ certify_usage ∷ check_usage ∷ synthesize_usage ∷ []
+usages = profile_usage ∷ normalize_usage ∷ session_usage ∷ demo_usage ∷ approx_usage ∷ nary_usage ∷ certify_usage ∷ check_usage ∷ synthesize_usage ∷ verify_usage ∷ []
 
 -- pieces with a bar between each two
 abbrev pub barred : List (List ℕ) → List ℕ

@@ -101,12 +101,20 @@ most_rule = record (new_rule (codes "most")) {
 abbrev pub synthesize_app : App
 synthesize_app = with_rule (with_rule (with_rule (with_rule (new_app (codes "synthesize")) workers_rule) out_rule) most_rule) file_rule
 
+-- `--rules RULES`
+abbrev pub rules_rule : Rule
+rules_rule = record (new_rule (codes "rules")) { long = Some (codes "rules"); required = true }
+
+-- `verify [--workers N] --rules RULES FILE..`
+abbrev pub verify_app : App
+verify_app = with_rule (with_rule (with_rule (new_app (codes "verify")) workers_rule) rules_rule) files_rule
+
 -- The program with its subcommands, of which one is required. The words of each one's `--nulls` may stand in another place.
 abbrev pub app_with : Bor (List (Bor Text)) → Bor (List (Bor Text)) → App
 app_with profile_names session_names =
     let named = with_subcommand (with_subcommand (new_app (codes "depprof")) (profile_app profile_names).top) (session_app session_names).top in
     let first = with_subcommand (with_subcommand (with_subcommand (with_subcommand named normalize_app.top) demo_app.top) approx_app.top) check_app.top in
-    let a = with_subcommand (with_subcommand (with_subcommand first nary_app.top) certify_app.top) synthesize_app.top in
+    let a = with_subcommand (with_subcommand (with_subcommand (with_subcommand first nary_app.top) certify_app.top) synthesize_app.top) verify_app.top in
     record a { top = record a.top { subcommand_required = true } }
 
 -- the words of `--nulls`

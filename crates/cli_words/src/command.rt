@@ -197,6 +197,24 @@ fn synthesize_of(alloc: Global, found: &ArgMatches) -> Result<Request, AllocErro
     })
 }
 
+fn rules_of(alloc: Global, found: &ArgMatches) -> Result<Name, AllocError>
+    ensures { IfOk result (λ rules. rules ≡ words_of.rules_of (rows_of (found_of found.now))) }
+{
+    let word = found.get_str("rules").unwrap_or("");
+    Ok(Name::of(String::from_str(alloc, word)?))
+}
+
+// What was found for the arguments of `verify`.
+fn verify_of(alloc: Global, found: &ArgMatches) -> Result<Request, AllocError>
+    ensures { IfOk result (λ request. request ≡ words_of.verify_request (rows_of (found_of found.now))) }
+{
+    Ok(Request::Verify {
+        workers: workers_of(found),
+        rules: rules_of(alloc, found)?,
+        files: Names::of(files_of(alloc, found)?),
+    })
+}
+
 // The request of the subcommand of this name.
 fn named(alloc: Global, name: &str, found: &ArgMatches) -> Result<Option<Request>, AllocError>
     ensures { IfOk result (λ request. request ≡ words_of.request_of (name.now, rows_of (found_of found.now))) }
@@ -211,6 +229,7 @@ fn named(alloc: Global, name: &str, found: &ArgMatches) -> Result<Option<Request
         "nary" => Ok(Some(nary_of(alloc, found)?)),
         "certify" => Ok(Some(certify_of(alloc, found)?)),
         "synthesize" => Ok(Some(synthesize_of(alloc, found)?)),
+        "verify" => Ok(Some(verify_of(alloc, found)?)),
         _ => Ok(None),
     }
 }

@@ -108,6 +108,12 @@ pub enum Request {
         prefix: Name,
         file: Name,
     },
+    /// Whether the rules of this text hold in these files.
+    Verify {
+        workers: u8,
+        rules: Name,
+        files: Names,
+    },
 }
 
 // Which number of workers a request asks for.
@@ -126,6 +132,7 @@ impl Request {
             Request::Demo { workers, .. } => *workers,
             Request::Certify { workers, .. } => *workers,
             Request::Synthesize { workers, .. } => *workers,
+            Request::Verify { workers, .. } => *workers,
             Request::Approx { .. } | Request::Check { .. } | Request::Nary { .. } => {
                 DEFAULT_WORKERS
             }

@@ -26,6 +26,8 @@ pub fn usage_line() -> &'static [u8]
         "check FILE CERT",
         " | ",
         "synthesize [--workers N] --out PREFIX [--most N] FILE",
+        " | ",
+        "verify [--workers N] --rules RULES FILE..",
         "\n"
     )
     .as_bytes()

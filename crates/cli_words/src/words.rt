@@ -1,7 +1,7 @@
 // The words that the program takes.
 ghost use Rattle.std.specs.Prelude.{◌≡◌, IfOk};
 ghost use Rattle.clap.specs.Words.{app_of, rule_of};
-ghost use Rattle.cli_words.specs.Words.{AreNullWords, IsTheApp, approx_app, cert_rule, certify_app, check_app, demo_app, errors_rule, file_rule, files_rule, most_rule, nary_app, normalize_app, nulls_rule, out_rule, profile_app, seed_rule, session_app, synthesize_app, width_rule, workers_rule};
+ghost use Rattle.cli_words.specs.Words.{AreNullWords, IsTheApp, approx_app, cert_rule, certify_app, check_app, demo_app, errors_rule, file_rule, files_rule, most_rule, nary_app, normalize_app, nulls_rule, out_rule, profile_app, rules_rule, seed_rule, session_app, synthesize_app, verify_app, width_rule, workers_rule};
 
 use clap::{Arg, Command, value_parser};
 use std::alloc::{AllocError, Global};
@@ -163,6 +163,21 @@ fn synthesize_words<'a>(alloc: Global) -> Result<Command<'a>, AllocError>
         .arg(file_word(alloc))
 }
 
+fn rules_option<'a>(alloc: Global) -> Arg<'a>
+    ensures { rule_of result ≡ rules_rule }
+{
+    Arg::new(alloc, "rules").long("rules").required(true)
+}
+
+fn verify_words<'a>(alloc: Global) -> Result<Command<'a>, AllocError>
+    ensures { IfOk result (λ c. app_of c ≡ verify_app) }
+{
+    Command::new(alloc, "verify")
+        .arg(workers_option(alloc))?
+        .arg(rules_option(alloc))?
+        .arg(file_words(alloc))
+}
+
 /// The words that the program takes, as the crate `clap` describes a command.
 pub(crate) fn depprof_words<'a>(alloc: Global) -> Result<Command<'a>, AllocError>
     ensures { IfOk result (λ c. IsTheApp (app_of c)) }
@@ -176,6 +191,7 @@ pub(crate) fn depprof_words<'a>(alloc: Global) -> Result<Command<'a>, AllocError
         .subcommand(check_words(alloc)?)?
         .subcommand(nary_words(alloc)?)?
         .subcommand(certify_words(alloc)?)?
-        .subcommand(synthesize_words(alloc)?)?;
+        .subcommand(synthesize_words(alloc)?)?
+        .subcommand(verify_words(alloc)?)?;
     Ok(command.subcommand_required(true))
 }

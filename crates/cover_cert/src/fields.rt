@@ -1,4 +1,4 @@
-// Numbers and columns in the fields of a certificate.
+//! Numbers and columns in the fields of a certificate, and of other texts that name columns so.
 ghost use Rattle.std.specs.Prelude.{◌≡◌, ◌<◌, ◌≤◌, ◌∷◌, length, take, drop, Some, IfSome};
 ghost use Rattle.cover_cert.specs.Fields as spec;
 
@@ -9,7 +9,7 @@ const MOST_DIGITS: usize = 10;
 
 /// The number that these bytes write in decimal digits without leading zeros, if they do and it is at most 4294967295.
 #[tactic(auto, unfolding(crate::specs::Fields::number))]
-pub(crate) fn number(field: &[u8]) -> Option<u32>
+pub fn number(field: &[u8]) -> Option<u32>
     ensures { result ≡ spec.number field.now }
 {
     if !is_plain(field) {
@@ -54,7 +54,7 @@ fn narrow(value: u64) -> Option<u32>
 }
 
 /// The column, counted from 0, that these bytes name by its number from 1.
-pub(crate) fn column_of(word: &[u8]) -> Option<u8>
+pub fn column_of(word: &[u8]) -> Option<u8>
     ensures value { result ≡ spec.column_of word.now }
     ensures bound { IfSome result (λ column. column < MOST_COLUMNS) }
 {
@@ -65,8 +65,8 @@ pub(crate) fn column_of(word: &[u8]) -> Option<u8>
     Some((number - 1) as u8)
 }
 
-// How many bytes stand before the first space.
-fn end_of_word(bytes: &[u8]) -> usize
+/// How many bytes stand before the first space.
+pub fn end_of_word(bytes: &[u8]) -> usize
     ensures bound { result ≤ length bytes.now }
     ensures words { spec.words bytes.now ≡ take result bytes.now ∷ spec.words_after (drop result bytes.now) }
 {
@@ -79,7 +79,7 @@ fn end_of_word(bytes: &[u8]) -> usize
 }
 
 /// The column set that these bytes write: the numbers of its columns, ascending, with a space between, or nothing.
-pub(crate) fn columns_of(field: &[u8]) -> Option<ColSet>
+pub fn columns_of(field: &[u8]) -> Option<ColSet>
     ensures { result ≡ spec.columns_of field.now }
 {
     let mut columns = ColSet::empty();

@@ -10,7 +10,7 @@ mod answer;
 mod checking;
 mod comparing;
 mod evidence;
-mod fields;
+pub mod fields;
 mod holding;
 pub mod laws;
 mod line;

@@ -14,6 +14,7 @@ depprof finds the keys, functional dependencies and inclusion dependencies of ta
   depprof certify --out C FILE       the report, and in the file C a certificate that the report is right and complete
   depprof check FILE CERT            whether CERT proves what it lists: every minimal key and dependency of FILE
   depprof synthesize --out P FILE    tables in third normal form that keep every dependency: P1.csv, P2.csv, ..
+  depprof verify --rules R FILE..    whether the rules in R hold in the files, and if not, where
   depprof demo SEED                  a drawn relation of 12 columns and 5,000 rows, to try it out
 
   depprof COMMAND --help             what one of them takes and writes
@@ -111,6 +112,21 @@ and they join back to the distinct rows of the file.
   --most N         dependencies with at most N columns on the left count, 0 to 128 (128: all)
   --workers N      so many threads, 1 to 16 (4)";
 
+const VERIFY: &str = "\
+depprof verify [--workers N] --rules RULES FILE..
+
+RULES has a rule a line: `key,REL,COLS`, `fd,REL,COLS,NO`, `ref,REL.COL ..,REL.COL ..` (the cells of each row in the first
+list are those of some row in the second), `filled,REL.COL` (no empty cell); with one FILE, REL may be left out. The lines
+of a report of the same FILEs are rules too. Answers in order, RECORD counted in RULES and rows in the file:
+  holds,RECORD
+  fails,RECORD,REMOVED,I,J     a key or dependency: the fewest rows to remove, and the first two that break it
+  fails,RECORD,REMOVED,I       `ref` and `filled`: how many rows break it, and the first of them
+  unclear,RECORD               no rule, or it speaks of what is not there
+Last `verified,ALL,HOLDS,FAILS,UNCLEAR`: a line that ends in `,0,0` says that all rules hold.
+
+  --rules RULES    the file of the rules
+  --workers N      so many threads, 1 to 16 (4)";
+
 const DEMO: &str = "\
 depprof demo [--workers N] SEED
 
@@ -120,7 +136,7 @@ would say of it: `demo,SEED,12,5000,KEYS,FDS,INDS,TABLES`.
   --workers N      so many threads, 1 to 16 (4)";
 
 // Each command that has a page of its own.
-const PAGES: [(&str, &str); 9] = [
+const PAGES: [(&str, &str); 10] = [
     ("profile", PROFILE),
     ("normalize", NORMALIZE),
     ("session", SESSION),
@@ -129,6 +145,7 @@ const PAGES: [(&str, &str); 9] = [
     ("certify", CERTIFY),
     ("check", CHECK),
     ("synthesize", SYNTHESIZE),
+    ("verify", VERIFY),
     ("demo", DEMO),
 ];
 

@@ -6,7 +6,7 @@ use Rattle.rel_base.specs.declared.why.Why.{Why}
 use Rattle.clap.specs.Walk.{Text}
 use Rattle.cli_words.specs.Command.{command, workers_asked}
 use Rattle.cli_words.specs.declared.request.Request.{Request}
-use Rattle.cli_words.specs.declared.request.Request.TheVariants.{Profile, Session, Normalize, Demo, Approx, Check, Nary, Certify, Synthesize}
+use Rattle.cli_words.specs.declared.request.Request.TheVariants.{Profile, Session, Normalize, Demo, Approx, Check, Nary, Certify, Synthesize, Verify}
 use Rattle.ports.specs.Files.{Files}
 use Rattle.profile_cli.specs.Output.{Output, asked, judged, output, refusal, written}
 use Rattle.profile_cli.specs.Task.{leaves_choice, task_of}
@@ -25,6 +25,7 @@ writes_none (Check file certificate) limits from w none may = ap (λ (x : Writte
 writes_none (Nary width files) limits from w none may = ap (λ (x : Written). x.files) may
 writes_none (Certify workers name file) limits from w none may = absurd (false≢true (sym none))
 writes_none (Synthesize workers most prefix file) limits from w none may = absurd (false≢true (sym none))
+writes_none (Verify workers rules files) limits from w none may = ap (λ (x : Written). x.files) may
 
 -- it has the workers that its words ask for
 pub workers_are : (request : Request) → (task_of request).workers ≡ workers_asked request
@@ -38,6 +39,7 @@ workers_are (Check file certificate) = refl
 workers_are (Nary width files) = refl
 workers_are (Certify workers name file) = refl
 workers_are (Synthesize workers most prefix file) = refl
+workers_are (Verify workers rules files) = refl
 
 -- it leaves no choice of what is written, but `certify`
 one_written : (request : Request) (limits : Limits) (from : Sources) (v w : Written) → leaves_choice (Some request) ≡ false → (task_of request).writes limits from v → (task_of request).writes limits from w → v ≡ w
@@ -50,6 +52,7 @@ one_written (Approx errors file) limits from v w fixed may can = may ∙ sym can
 one_written (Check file certificate) limits from v w fixed may can = may ∙ sym can
 one_written (Nary width files) limits from v w fixed may can = may ∙ sym can
 one_written (Synthesize workers most prefix file) limits from v w fixed may can = may ∙ sym can
+one_written (Verify workers rules files) limits from v w fixed may can = may ∙ sym can
 one_written (Certify workers name file) limits from v w fixed may can = absurd (false≢true (sym fixed))
 
 -- of its text it leaves none
@@ -63,6 +66,7 @@ one_text (Approx errors file) limits from v w may can = ap (λ (x : Written). x.
 one_text (Check file certificate) limits from v w may can = ap (λ (x : Written). x.text) (may ∙ sym can)
 one_text (Nary width files) limits from v w may can = ap (λ (x : Written). x.text) (may ∙ sym can)
 one_text (Synthesize workers most prefix file) limits from v w may can = ap (λ (x : Written). x.text) (may ∙ sym can)
+one_text (Verify workers rules files) limits from v w may can = ap (λ (x : Written). x.text) (may ∙ sym can)
 one_text (Certify workers name file) limits from v w may can = ap (λ (x : Written). x.text) may.written ∙ sym (ap (λ (x : Written). x.text) can.written)
 
 same_output : (a b : Output) → a.status ≡ b.status → a.written ≡ b.written → a ≡ b

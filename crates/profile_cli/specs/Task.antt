@@ -1,7 +1,7 @@
 -- What each command does. A further command is one more case of `task_of`.
 use Rattle.std.specs.Prelude.{ℕ, Bool, true, false, length, Option, Some, None}
 use Rattle.cli_words.specs.declared.request.Request.{Request}
-use Rattle.cli_words.specs.declared.request.Request.TheVariants.{Profile, Session, Normalize, Demo, Approx, Check, Nary, Certify, Synthesize}
+use Rattle.cli_words.specs.declared.request.Request.TheVariants.{Profile, Session, Normalize, Demo, Approx, Check, Nary, Certify, Synthesize, Verify}
 use Rattle.approx_text.specs.Tasks.{approx_task}
 use Rattle.certify_text.specs.Tasks.{certify_task}
 use Rattle.check_text.specs.Tasks.{check_task}
@@ -9,6 +9,7 @@ use Rattle.nary_text.specs.Tasks.{nary_task}
 use Rattle.normalize_text.specs.Tasks.{demo_task, normalize_task}
 use Rattle.profile_text.specs.Tasks.{profile_task, session_task}
 use Rattle.synth_text.specs.Tasks.{synthesize_task}
+use Rattle.verify_text.specs.Tasks.{verify_task}
 use Rattle.task_base.specs.Task.{Task}
 
 unfoldable pub task_of : Request → Task
@@ -21,6 +22,7 @@ task_of (Check file certificate) = check_task file certificate
 task_of (Nary width files) = nary_task width files
 task_of (Certify workers name file) = certify_task workers name file
 task_of (Synthesize workers most prefix file) = synthesize_task workers most prefix file
+task_of (Verify workers rules files) = verify_task workers rules files
 
 -- how many files words that are this command, or none, have read
 abbrev pub files_read : Option Request → ℕ
@@ -38,4 +40,5 @@ leaves_choice (Some (Approx errors file)) = false
 leaves_choice (Some (Check file certificate)) = false
 leaves_choice (Some (Nary width files)) = false
 leaves_choice (Some (Synthesize workers most prefix file)) = false
+leaves_choice (Some (Verify workers rules files)) = false
 leaves_choice (Some (Certify workers name file)) = true

@@ -25,6 +25,7 @@ use std::sync::Wait;
 use std::thread::Threads;
 use synth_text::synthesized_of;
 use task_base::{Made, Means};
+use verify_text::verified_of;
 
 // What the request writes by what its files hold and by the input. A further command is one more case.
 fn made_of<R: Threads + Wait + Sync, G: Gate + Sync>(
@@ -80,6 +81,7 @@ fn made_of<R: Threads + Wait + Sync, G: Gate + Sync>(
             file,
             ..
         } => { synthesized_of(rt, means, prefix, file, relations.swap_remove(0), *most) }
+        Request::Verify { .. } => { verified_of(rt, means, relations, texts[0].bytes()) }
     }
 }
 

@@ -25,6 +25,9 @@ pub(crate) fn reads_of<'a>(request: &'a Request) -> Reads<'a>
         Request::Nary { files, .. } => Reads::of(files.as_slice(), &[]),
         Request::Certify { file, .. } => Reads::of(slice::from_ref(file), &[]),
         Request::Synthesize { file, .. } => Reads::of(slice::from_ref(file), &[]),
+        Request::Verify { rules, files, .. } => {
+            Reads::of(files.as_slice(), slice::from_ref(rules))
+        }
     }
 }
 
@@ -52,5 +55,12 @@ pub(crate) fn into_file(request: Request, place: usize) -> Name
         Request::Nary { files, .. } => files.into_name(place),
         Request::Certify { file, .. } => file,
         Request::Synthesize { file, .. } => file,
+        Request::Verify { rules, files, .. } => {
+            if place < files.as_slice().len() {
+                files.into_name(place)
+            } else {
+                rules
+            }
+        }
     }
 }

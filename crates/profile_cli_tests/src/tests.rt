@@ -13,6 +13,7 @@ mod sizes;
 mod surely;
 mod synthesized;
 mod tables;
+mod verified;
 mod words;
 
 use approximate::APPROXIMATE;
@@ -30,6 +31,7 @@ use std::test::Fail;
 use std::thread::Threads;
 use synthesized::SYNTHESIZED;
 use tables::NORMALIZED;
+use verified::VERIFIED;
 
 pub const R: &str = "id,city,zip\n1,Berlin,10115\n2,Berlin,10115\n3,Potsdam,14467\n";
 
@@ -343,6 +345,12 @@ fn certificates_of_the_rows_beside_their_report(rt: HostRuntime) -> Result<(), F
 #[test]
 fn tables_in_third_normal_form_with_their_references(rt: HostRuntime) -> Result<(), Fail> {
     expect_all(&rt, rt.alloc(), &SYNTHESIZED)?;
+    Ok(())
+}
+
+#[test]
+fn rules_that_hold_and_rules_that_do_not(rt: HostRuntime) -> Result<(), Fail> {
+    expect_all(&rt, rt.alloc(), &VERIFIED)?;
     Ok(())
 }
 

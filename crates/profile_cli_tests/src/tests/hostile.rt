@@ -226,7 +226,7 @@ fn expect_cuts<R: Threads + Wait + Sync + Abort>(
 const R_IND: &str =
     "ind,1.1,2.1\nind,1.2,2.2\nind,1.3,2.3\nind,2.1,1.1\nind,2.2,1.2\nind,2.3,1.3\n";
 
-static HOSTILE: [Hostile; 9] = [
+static HOSTILE: [Hostile; 10] = [
     Hostile {
         case: Case {
             words: &["depprof", "normalize", "--out", "t", "r.csv"],
@@ -281,6 +281,23 @@ static HOSTILE: [Hostile; 9] = [
             (Failing::Shelf(Kind::Close), 4, 5),
             (Failing::Shelf(Kind::Create), 5, 5),
             (Failing::Shelf(Kind::Write), 5, 5),
+            (Failing::Sink, 5, 5),
+        ],
+    },
+    Hostile {
+        case: Case {
+            words: &["depprof", "verify", "--rules", "r.csv", "r.csv"],
+            files: &[("r.csv", "key,1\nkey,2\n")],
+            input: "",
+            text: &["holds,1\nholds,2\nverified,2,2,0,0\n"],
+            tables: &[],
+            status: 0,
+        },
+        fault: &["fault,read,r.csv\n"],
+        ends: &[
+            (Failing::Shelf(Kind::Open), 4, 4),
+            (Failing::Shelf(Kind::Read), 4, 4),
+            (Failing::Shelf(Kind::Close), 4, 4),
             (Failing::Sink, 5, 5),
         ],
     },

@@ -8,9 +8,9 @@ use std::test::Fail;
 use std::thread::Threads;
 
 pub const USAGE: &str =
-    "usage: depprof profile [--workers N] [--nulls equal|distinct] FILE.. | normalize [--workers N] --out PREFIX FILE | session [--workers N] [--nulls equal|distinct] FILE | demo [--workers N] SEED | approx --errors E FILE | nary [--width W] FILE.. | certify [--workers N] --out NAME FILE | check FILE CERT | synthesize [--workers N] --out PREFIX [--most N] FILE\n";
+    "usage: depprof profile [--workers N] [--nulls equal|distinct] FILE.. | normalize [--workers N] --out PREFIX FILE | session [--workers N] [--nulls equal|distinct] FILE | demo [--workers N] SEED | approx --errors E FILE | nary [--width W] FILE.. | certify [--workers N] --out NAME FILE | check FILE CERT | synthesize [--workers N] --out PREFIX [--most N] FILE | verify [--workers N] --rules RULES FILE..\n";
 
-static NO_COMMAND: [&[&str]; 50] = [
+static NO_COMMAND: [&[&str]; 53] = [
     &[],
     &["depprof"],
     &["depprof", "profile"],
@@ -101,6 +101,17 @@ static NO_COMMAND: [&[&str]; 50] = [
         "r.csv",
     ],
     &["depprof", "synthesize", "--out", "t", "r.csv", "r.csv"],
+    &["depprof", "verify", "r.csv"],
+    &["depprof", "verify", "--rules", "rules"],
+    &[
+        "depprof",
+        "verify",
+        "--rules",
+        "rules",
+        "--workers",
+        "0",
+        "r.csv",
+    ],
 ];
 
 static OPTIONS: [&[&str]; 8] = [

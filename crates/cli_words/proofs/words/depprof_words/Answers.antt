@@ -1,7 +1,7 @@
 use Rattle.std.proofs.Common.{◌≡◌, ◌∙◌, refl, ap, ap₂, true}
 use Rattle.std.specs.Prelude.{codes}
 use Rattle.clap.specs.Simple.{App, app_of, app_of_fields, new_app, with_subcommand}
-use Rattle.cli_words.specs.Words.{approx_app, certify_app, check_app, demo_app, nary_app, normalize_app, profile_app, session_app, synthesize_app}
+use Rattle.cli_words.specs.Words.{approx_app, certify_app, check_app, demo_app, nary_app, normalize_app, profile_app, session_app, synthesize_app, verify_app}
 use Rattle.cli_words.proofs.TheApp.{local_command}
 use Rattle.cli_words.proofs.words.depprof_words.Goals as goal
 
@@ -16,6 +16,7 @@ returns c =
     let y = c.in_ok-nary_words.ensures in
     let t = c.in_ok-certify_words.ensures in
     let q = c.in_ok-synthesize_words.ensures in
+    let v = c.in_ok-verify_words.ensures in
     let one : App = with_subcommand (new_app (codes "depprof")) (profile_app p.0).top in
     let two : App = with_subcommand one (session_app s.0).top in
     let three : App = with_subcommand two normalize_app.top in
@@ -24,6 +25,7 @@ returns c =
     let six : App = with_subcommand five check_app.top in
     let seven : App = with_subcommand six nary_app.top in
     let eight : App = with_subcommand seven certify_app.top in
+    let nine : App = with_subcommand eight synthesize_app.top in
     let first : app_of c.in_ok-subcommand.field-0 ≡ one =
     c.in_ok-subcommand.ensures.shape (local_command c.in_ok-profile_words.field-0 (profile_app p.0) p.2 refl)
     ∙ ap₂ with_subcommand c.new.ensures.app (ap (λ (a : App). a.top) p.2) in
@@ -48,9 +50,12 @@ returns c =
     let eighth : app_of c.in_ok-subcommand-8.field-0 ≡ eight =
     c.in_ok-subcommand-8.ensures.shape (local_command c.in_ok-certify_words.field-0 certify_app t refl)
     ∙ ap₂ with_subcommand seventh (ap (λ (a : App). a.top) t) in
-    let made : app_of c.in_ok-command.command ≡ with_subcommand eight synthesize_app.top =
-    c.in_ok-command.ensures.shape (local_command c.in_ok-synthesize_words.field-0 synthesize_app q refl)
+    let ninth : app_of c.in_ok-subcommand-9.field-0 ≡ nine =
+    c.in_ok-subcommand-9.ensures.shape (local_command c.in_ok-synthesize_words.field-0 synthesize_app q refl)
     ∙ ap₂ with_subcommand eighth (ap (λ (a : App). a.top) q) in
+    let made : app_of c.in_ok-command.command ≡ with_subcommand nine verify_app.top =
+    c.in_ok-command.ensures.shape (local_command c.in_ok-verify_words.field-0 verify_app v refl)
+    ∙ ap₂ with_subcommand ninth (ap (λ (a : App). a.top) v) in
     record {
       profile_names = p.0;
       session_names = s.0;

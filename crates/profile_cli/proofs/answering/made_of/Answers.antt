@@ -11,6 +11,7 @@ use Rattle.normalize_text.specs.Normalize.{normalized}
 use Rattle.profile_text.specs.Reports.{reports}
 use Rattle.synth_text.specs.Synthesize.{synthesized}
 use Rattle.profile_text.specs.Session.{session_text}
+use Rattle.verify_text.specs.Answers.{verify_text}
 use Rattle.profile_cli.specs.Task.{task_of}
 use Rattle.task_base.specs.Reading.{relation_names, text_names}
 use Rattle.task_base.specs.Task.{Sources, content_of}
@@ -186,3 +187,24 @@ returns-in-Synthesize g c =
     (λ made e. subst (λ (r : Request). (task_of r).writes limits from made) (sym c.in-Synthesize.is)
     (e ∙ ap (λ (r : Content). synthesized c.in-Synthesize.most c.in-Synthesize.prefix c.in-Synthesize.file (opened Equal limits.rows r)) first))
     c.synthesized_of.ensures
+
+pub index-requires-in-Verify : goal.index-requires-in-Verify
+unfolding task_of
+index-requires-in-Verify g c =
+    let one : length c.args.found.texts.items ≡ 1 = c.requires.texts ∙ ap (λ (r : Request). length (text_names (task_of r).reads)) c.in-Verify.is in
+    let long = c.args.found.texts.ok.0 in
+    omega arith
+
+pub returns-in-Verify : goal.returns-in-Verify
+unfolding task_of
+returns-in-Verify g c =
+    let limits = c.args.means.now.limits in
+    let rs : List Content = c.args.found.relations.items in
+    let texts : List (List ℕ) = c.args.found.texts.items in
+    let from : Sources = record { relations = rs; texts = texts; input = c.args.input.now } in
+    let one_text : length texts ≡ 1 = c.requires.texts ∙ ap (λ (r : Request). length (text_names (task_of r).reads)) c.in-Verify.is in
+    let second : c.bytes-in-Verify.result.now ≡ get_or texts 0 [] = c.bytes-in-Verify.ensures ∙ at_place texts 0 c.index-in-Verify.result.now [] (omega arith) c.index-in-Verify.ensures in
+    IfOk-map c.verified_of.result
+    (λ made e. subst (λ (r : Request). (task_of r).writes limits from made) (sym c.in-Verify.is)
+    (e ∙ ap (λ (bytes : List ℕ). text_alone (verify_text (map (opened Equal limits.rows) rs) bytes)) second))
+    c.verified_of.ensures

@@ -1,0 +1,12 @@
+pub mod Firsts
+pub mod Groups
+pub mod Pairs
+pub mod Steps
+pub mod Among
+pub mod Texts
+pub mod Passing
+pub mod Referring
+pub mod Shown
+pub mod Rounds
+pub mod Findings
+pub mod Live

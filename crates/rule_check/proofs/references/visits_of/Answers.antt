@@ -1,0 +1,7 @@
+use Rattle.std.proofs.Common.{length}
+use Rattle.rule_check.specs.Passes.{reference_at}
+use Rattle.rule_check.proofs.Passing.{visits-permuted}
+use Rattle.rule_check.proofs.references.visits_of.Goals as goal
+
+pub returns : goal.returns
+returns c = visits-permuted (reference_at c.args.relations.now) c.args.rules.now (length c.args.rules.now) c.in_ok-visits.visits.items c.sort_unstable.new.self.items c.sort_unstable.ensures.permutation c.in_ok-visits.ensures

@@ -1,0 +1,5 @@
+pub mod Rules
+pub mod Breaking
+pub mod Passes
+pub mod Tuples
+pub mod Lost
