@@ -2,9 +2,14 @@
 use Rattle.std.specs.Prelude.{◌++◌, ℕ, List, length}
 use Rattle.std.specs.List.{flat_map}
 use Rattle.rel_base.specs.RowState.{RowState}
+use Rattle.rel_base.specs.declared.dependency.Fd.{Fd}
 use Rattle.approx_fd.specs.declared.found.Approx.{Approx}
 use Rattle.approx_fd.specs.Approximate.{approximate}
 use Rattle.report_text.specs.Report.{head_text, approx_line}
+
+-- a dependency for which no row is to be removed
+abbrev pub exact : Fd → Approx
+exact fd = record { fd = fd; removed = 0 }
 
 -- a dependency, and how many rows are to be removed for it
 abbrev pub afd_line : Approx → List ℕ

@@ -2,5 +2,6 @@
 #![tactic(auto)]
 
 mod approximating;
+mod exact;
 
 pub use approximating::approximate_of;

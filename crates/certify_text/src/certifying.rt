@@ -11,7 +11,7 @@ ghost use Rattle.certify_text.specs.Certified.{Certifies};
 use cover_cert::make;
 use cover_core::Book;
 use ports::{Gate, Text};
-use profile_text::{push_report_of, settled};
+use profile_text::{push_report_of, settled_book};
 use rel_base::{Covers, Name, Nulls, Relation};
 use report_text::Lines;
 use std::alloc::{AllocError, Global};
@@ -49,15 +49,7 @@ pub fn certified_of<R: Threads + Wait + Sync, G: Gate + Sync>(
     requires { (0 < means.now.workers) × (means.now.workers ≤ 16) }
     ensures { IfOk result (λ made. Certifies name.now file.now (opened Equal means.now.limits.rows relation) made) }
 {
-    let coded = Book::open_by(
-        rt,
-        means.alloc,
-        relation,
-        means.limits,
-        Nulls::Equal,
-        means.workers,
-    )?;
-    let book = settled(rt, means, coded)?;
+    let book = settled_book(rt, means, Nulls::Equal, relation)?;
     let mut lines = Lines::new(means.alloc);
     let found = push_report_of(&mut lines, file, &book)?;
     let text = lines.into_text()?;

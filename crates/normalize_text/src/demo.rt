@@ -13,7 +13,7 @@ use cover_core::Book;
 use csv::ByteRecord;
 use itoa::Buffer;
 use ports::Gate;
-use profile_text::{Columns, covers_of, settled};
+use profile_text::{Columns, covers_of, settled_book};
 use rel_base::{Nulls, Relation, Row};
 use report_text::demo_line;
 use row_log::RowLog;
@@ -181,14 +181,6 @@ pub fn demo_text_of<R: Threads + Wait + Sync, G: Gate + Sync>(
     ensures { IfOk result (λ text. text.items ≡ words.demo_text seed (opened Equal means.now.limits.rows (words.demo_content seed))) }
 {
     let relation = demo_relation(means.alloc, seed)?;
-    let coded = Book::open_by(
-        rt,
-        means.alloc,
-        relation,
-        means.limits,
-        Nulls::Equal,
-        means.workers,
-    )?;
-    let book = settled(rt, means, coded)?;
+    let book = settled_book(rt, means, Nulls::Equal, relation)?;
     counted(rt, means, seed, &book)
 }

@@ -11,7 +11,7 @@ ghost use Rattle.normalize_text.specs.Normalize as words;
 use bcnf_split::split;
 use cover_core::Book;
 use ports::{Gate, Text};
-use profile_text::{push_whole_report, settled};
+use profile_text::{push_whole_report, settled_book};
 use rel_base::{ColSet, Covers, Name, Nulls, Relation, Table};
 use report_text::Lines;
 use row_log::RowLog;
@@ -86,15 +86,7 @@ pub fn normalized_of<R: Threads + Wait + Sync, G: Gate + Sync>(
     requires { (0 < means.now.workers) × (means.now.workers ≤ 16) }
     ensures { IfOk result (λ made. made ≡ words.normalized prefix.now file.now (opened Equal means.now.limits.rows relation)) }
 {
-    let coded = Book::open_by(
-        rt,
-        means.alloc,
-        relation,
-        means.limits,
-        Nulls::Equal,
-        means.workers,
-    )?;
-    let book = settled(rt, means, coded)?;
+    let book = settled_book(rt, means, Nulls::Equal, relation)?;
     let mut lines = Lines::new(means.alloc);
     let files = push_normalized(rt, means, prefix, file, &mut lines, &book)?;
     Ok(Made::of(files, lines.into_text()?))

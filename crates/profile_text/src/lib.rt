@@ -8,6 +8,6 @@ mod reports;
 mod session;
 
 pub use columns::Columns;
-pub use covering::{covers_of, settled};
+pub use covering::{covers_of, settled_book};
 pub use reports::{push_report_of, push_whole_report, reports_of};
 pub use session::session_of;

@@ -7,7 +7,7 @@ ghost use Rattle.profile_text.specs.Columns.{AreColumnsOf};
 ghost use Rattle.profile_text.specs.Reports.{report_of, reports};
 
 use crate::columns::Columns;
-use crate::covering::{covers_of, settled};
+use crate::covering::{covers_of, settled_book};
 use cover_core::Book;
 use ports::Gate;
 use rel_base::{Covers, Name, Nulls, Relation};
@@ -88,15 +88,7 @@ fn push_relation<R: Threads + Wait + Sync, G: Gate + Sync>(
     ensures columns { OnOk result ((states : List RowState) → AreColumnsOf states columns.old.widths.items columns.old.cells.items
         → AreColumnsOf (states ++ opened nulls means.now.limits.rows relation ∷ []) columns.new.widths.items columns.new.cells.items) }
 {
-    let coded = Book::open_by(
-        rt,
-        means.alloc,
-        relation,
-        means.limits,
-        nulls,
-        means.workers,
-    )?;
-    let book = settled(rt, means, coded)?;
+    let book = settled_book(rt, means, nulls, relation)?;
     push_report_of(lines, name, &book)?;
     columns.push(rt, means.alloc, book.rows(), means.workers)?;
     Ok(())

@@ -11,7 +11,7 @@ ghost use Rattle.synth_text.specs.Synthesize as words;
 
 use cover_core::Book;
 use ports::{Gate, Text};
-use profile_text::{push_whole_report, settled};
+use profile_text::{push_whole_report, settled_book};
 use rel_base::{Covers, Name, Nulls, Relation, Table};
 use report_text::Lines;
 use row_log::RowLog;
@@ -117,15 +117,7 @@ pub fn synthesized_of<R: Threads + Wait + Sync, G: Gate + Sync>(
     requires { (0 < means.now.workers) × (means.now.workers ≤ 16) }
     ensures { IfOk result (λ made. made ≡ words.synthesized most prefix.now file.now (opened Equal means.now.limits.rows relation)) }
 {
-    let coded = Book::open_by(
-        rt,
-        means.alloc,
-        relation,
-        means.limits,
-        Nulls::Equal,
-        means.workers,
-    )?;
-    let book = settled(rt, means, coded)?;
+    let book = settled_book(rt, means, Nulls::Equal, relation)?;
     let mut lines = Lines::new(means.alloc);
     let files = push_synthesized(rt, means, prefix, file, most, &mut lines, &book)?;
     Ok(Made::of(files, lines.into_text()?))
