@@ -13,7 +13,7 @@ TOP = os.path.dirname(os.path.dirname(os.path.abspath(__file__)))
 # Sections of README that the page has, and their heads there. The rest is for those who build it.
 HEADS = {"A first look": "EXAMPLE", "From files to SQL, a picture and a page": "TOOLS", "Profile files": "PROFILE", "Apply changes": "SESSION",
          "Split a wide table": "NORMALIZE AND SYNTHESIZE",
-         "Rules with a few wrong rows": "APPROX", "Inclusions of several columns": "NARY", "Certificates": "CERTIFICATES",
+         "Rules with a few wrong rows": "APPROX", "Inclusions of several columns": "NARY", "Certificates": "CERTIFICATES", "Check rules": "VERIFY",
          "Reference": "OUTPUT AND EXIT STATUS", "Limits and cost": "LIMITS AND COST", "What is guaranteed": "WHAT IS GUARANTEED"}
 
 
