@@ -1,10 +1,9 @@
 // The dependencies that hold with no row removed, as a text.
 ghost use Rattle.std.specs.Prelude.{◌≡◌, ◌<◌, ◌≤◌, ◌++◌, map, IfOk, OnOk};
 ghost use Rattle.std.specs.List.{flat_map};
-ghost use Rattle.rel_base.specs.Covers.{covers};
 ghost use Rattle.rel_base.specs.RowState.{opened};
 ghost use Rattle.rel_base.specs.declared.nulls.Nulls.TheVariants.{Equal};
-ghost use Rattle.approx_text.specs.Approximate.{approx_text, afd_line, exact};
+ghost use Rattle.approx_text.specs.Approximate.{approx_text, afd_line, exact, found_text};
 
 use ports::Gate;
 use profile_text::{covers_of, settled_book};
@@ -31,15 +30,15 @@ pub(crate) fn exact_text<R: Threads + Wait + Sync, G: Gate + Sync>(
     text_of_covers(means.alloc, file, book.rows(), &found)
 }
 
-// The lines of a relation and of its covers' dependencies.
+// The lines of a relation and of these dependencies.
+#[tactic(auto, unfolding(crate::specs::Approximate::found_text))]
 fn text_of_covers(
     alloc: Global,
     file: &Name,
     rows: &RowLog,
     found: &Covers,
 ) -> Result<Vec<u8>, AllocError>
-    requires { found.now ≡ covers rows.now }
-    ensures { IfOk result (λ text. text.items ≡ approx_text 0 file.now rows.now) }
+    ensures { IfOk result (λ text. text.items ≡ found_text file.now rows.now (map exact found.now.fds)) }
 {
     let mut lines = Lines::new(alloc);
     lines.push_head(file, rows.names(), u64::from(rows.live_len()))?;

@@ -1,0 +1,13 @@
+use Rattle.std.proofs.Common.{◌≡◌, ◌∙◌, ap}
+use Rattle.rel_base.specs.declared.nulls.Nulls.TheVariants.{Equal}
+use Rattle.rel_base.specs.RowState.{RowState, opened}
+use Rattle.approx_text.specs.Approximate.{approx_text}
+use Rattle.task_base.proofs.Facts.{IfOk-map}
+use Rattle.approx_text.proofs.Exact.{exact-text}
+use Rattle.approx_text.proofs.exact.exact_text.Goals as goal
+
+pub returns : goal.returns
+returns g c =
+    IfOk-map c.text_of_covers.result
+    (λ text e. e ∙ exact-text c.args.file.now c.in_ok-book.book.rows c.in_ok-found.found c.in_ok-found.ensures ∙ ap (λ (r : RowState). approx_text 0 c.args.file.now r) c.in_ok-book.ensures.rows)
+    c.text_of_covers.ensures
