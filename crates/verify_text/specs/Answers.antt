@@ -1,5 +1,5 @@
 -- The text of `verify`.
-use Rattle.std.specs.Prelude.{ℕ, ◌++◌, Bool, true, false, List, [], ◌∷◌, length, map, codes, count_by, decimal}
+use Rattle.std.specs.Prelude.{ℕ, ◌+◌, ◌++◌, Bool, true, false, List, [], ◌∷◌, length, map, codes, count_by, decimal}
 use Rattle.std.specs.List.{flat_map}
 use Rattle.csv_load.specs.Records.{records_of}
 use Rattle.rel_base.specs.RowState.{RowState}
@@ -7,6 +7,7 @@ use Rattle.rule_check.specs.Rules.{verdict_of}
 use Rattle.rule_check.specs.declared.rule.Rule.{Rule}
 use Rattle.rule_check.specs.declared.rule.Verdict.{Verdict}
 use Rattle.rule_check.specs.declared.rule.Verdict.TheVariants.{Holds, Pairs, Rows, Unclear}
+use Rattle.verify_text.specs.declared.answers.Counts.{Counts}
 use Rattle.verify_text.specs.Records.{asked, at_start}
 
 -- ---- lines
@@ -43,6 +44,13 @@ is_unclear (number, Holds) = false
 is_unclear (number, Pairs removed first second) = false
 is_unclear (number, Rows count first) = false
 is_unclear (number, Unclear) = true
+
+-- counts with one more verdict
+abbrev pub counted : Counts → Verdict → Counts
+counted counts Holds = record counts { all = counts.all + 1; held = counts.held + 1 }
+counted counts (Pairs removed first second) = record counts { all = counts.all + 1; broken = counts.broken + 1 }
+counted counts (Rows count first) = record counts { all = counts.all + 1; broken = counts.broken + 1 }
+counted counts Unclear = record counts { all = counts.all + 1; unclear = counts.unclear + 1 }
 
 -- the last line: how many rules there are, hold, are broken, and are unclear
 abbrev pub counts_line : List (ℕ × Verdict) → List ℕ

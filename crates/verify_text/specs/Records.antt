@@ -1,5 +1,5 @@
 -- What the records of a text of rules say.
-use Rattle.std.specs.Prelude.{ℕ, zero, suc, ◌+◌, ◌-◌, ◌==◌, Bool, ◌&&◌, ◌||◌, List, [], ◌∷◌, ◌++◌, length, Option, Some, None, option_map, if◌then◌else◌}
+use Rattle.std.specs.Prelude.{ℕ, zero, suc, ◌+◌, ◌-◌, ◌==◌, Bool, true, false, ◌&&◌, ◌||◌, List, [], ◌∷◌, ◌++◌, length, Option, Some, None, option_map, if◌then◌else◌}
 use Rattle.col_set.specs.declared.target.Target.{Target}
 use Rattle.col_set.specs.declared.target.Target.TheVariants.{Col, RowId}
 use Rattle.col_set.specs.ColSet.{Columns}
@@ -80,6 +80,11 @@ unfoldable pub at_point : Cell → Option (Cell × Cell)
 at_point [] = None
 at_point (byte ∷ bytes) = if byte == 46 then Some ([], bytes) else before_point byte (at_point bytes)
 
+-- the bytes before a point and those behind it, where the rest begins with the point, if there is one
+abbrev pub parts_at : Cell → Cell → Option (Cell × Cell)
+parts_at front [] = None
+parts_at front (point ∷ behind) = Some (front, behind)
+
 -- both, where both are there
 abbrev pub both : {A B : Type 0} → Option A → Option B → Option (A × B)
 both None b = None
@@ -115,6 +120,16 @@ side_in (word ∷ other ∷ others) = with_side (item_of word) (side_in (other �
 -- those that a field names, with a space between
 abbrev pub side_of : Cell → Option Side
 side_of field = side_in (words field)
+
+-- these columns of a relation before those of a side of the same relation
+abbrev pub before_side : ℕ → List ℕ → Option Side → Option Side
+before_side relation columns None = None
+before_side relation columns (Some side) = if relation == side.relation then Some (record { relation = relation; columns = columns ++ side.columns }) else None
+
+-- these columns of a relation before those that words name, if there are some
+unfoldable pub side_before : ℕ → List ℕ → List Cell → Option Side
+side_before relation columns [] = Some (record { relation = relation; columns = columns })
+side_before relation columns (word ∷ others) = before_side relation columns (side_in (word ∷ others))
 
 -- ---- rules
 -- where all parts are there
@@ -161,6 +176,25 @@ rule_by kind.PassedOver here row = rule.Unclear
 rule_by kind.Other here row = rule.Unclear
 
 -- ---- a text of rules
+-- whether a record of this kind is the start of what speaks of a relation, and whether it says a rule
+abbrev pub is_relation : Kind → Bool
+is_relation kind.Key = false
+is_relation kind.Fd = false
+is_relation kind.Refers = false
+is_relation kind.Filled = false
+is_relation kind.Relation = true
+is_relation kind.PassedOver = false
+is_relation kind.Other = false
+
+abbrev pub says_a_rule : Kind → Bool
+says_a_rule kind.Key = true
+says_a_rule kind.Fd = true
+says_a_rule kind.Refers = true
+says_a_rule kind.Filled = true
+says_a_rule kind.Relation = false
+says_a_rule kind.PassedOver = false
+says_a_rule kind.Other = true
+
 -- what a record adds before what comes of those behind it, which get the relation that they speak of and how many `relation` records were met
 abbrev pub asked_behind : Kind → Row → Option ℕ → ℕ → ℕ → (Option ℕ → ℕ → List (ℕ × Rule)) → List (ℕ × Rule)
 asked_behind kind.Relation row here met number rest = rest (Some met) (suc met)

@@ -1,7 +1,9 @@
 // The lines of an answer.
-ghost use Rattle.std.specs.Prelude.{◌≡◌, ◌++◌, IfOk, OnOk, length};
+ghost use Rattle.std.specs.Prelude.{◌≡◌, ◌++◌, ◌+◌, ◌∷◌, [], List, ℕ, IfOk, OnOk, length};
 ghost use Rattle.std.specs.List.{zip};
-ghost use Rattle.verify_text.specs.Answers.{answers_text, line, verdict_line};
+ghost use Rattle.rule_check.specs.declared.rule.Verdict.{Verdict as VerdictSpec};
+ghost use Rattle.verify_text.specs.Answers.{answers_text, counted, line, verdict_line};
+ghost use Rattle.verify_text.specs.Answering.{HasAnswers};
 
 use itoa::Buffer;
 use rule_check::Verdict;
@@ -21,11 +23,11 @@ fn push_line(text: &mut Vec<u8>, word: &[u8], numbers: &[u64]) -> Result<(), All
 }
 
 // Adds the line of a rule.
-fn push_verdict(text: &mut Vec<u8>, record: u64, verdict: Verdict) -> Result<(), AllocError>
-    ensures { OnOk result (text.new.items ≡ text.old.items ++ verdict_line (record, verdict)) }
+fn push_verdict(text: &mut Vec<u8>, number: u64, verdict: Verdict) -> Result<(), AllocError>
+    ensures { OnOk result (text.new.items ≡ text.old.items ++ verdict_line (number, verdict)) }
 {
     match verdict {
-        Verdict::Holds => push_line(text, b"holds", &[record]),
+        Verdict::Holds => push_line(text, b"holds", &[number]),
         Verdict::Pairs {
             removed,
             first,
@@ -34,7 +36,7 @@ fn push_verdict(text: &mut Vec<u8>, record: u64, verdict: Verdict) -> Result<(),
             text,
             b"fails",
             &[
-                record,
+                number,
                 u64::from(removed),
                 u64::from(first.number()),
                 u64::from(second.number()),
@@ -43,73 +45,115 @@ fn push_verdict(text: &mut Vec<u8>, record: u64, verdict: Verdict) -> Result<(),
         Verdict::Rows { count, first } => push_line(
             text,
             b"fails",
-            &[record, u64::from(count), u64::from(first.number())],
+            &[number, u64::from(count), u64::from(first.number())],
         ),
-        Verdict::Unclear => push_line(text, b"unclear", &[record]),
+        Verdict::Unclear => push_line(text, b"unclear", &[number]),
     }
 }
 
-// How many rules hold, are broken and are unclear.
+/// One more. No text has as many records as would pass the greatest number.
+pub(crate) fn one_more(count: u64) -> Result<u64, AllocError>
+    ensures { IfOk result (λ more. more ≡ count + 1) }
+{
+    if count == u64::MAX {
+        return Err(AllocError);
+    }
+    Ok(count + 1)
+}
+
+// How many rules there are, and how many of them hold, are broken and are unclear.
 #[derive(Clone, Copy)]
 struct Counts {
+    all: u64,
     held: u64,
     broken: u64,
     unclear: u64,
 }
 
 impl Counts {
-    fn none() -> Counts {
-        Counts {
-            held: 0,
-            broken: 0,
-            unclear: 0,
-        }
-    }
-
     // With one more.
-    fn with(self, verdict: Verdict) -> Counts {
+    fn with(self, verdict: Verdict) -> Result<Counts, AllocError>
+        ensures { IfOk result (λ counts. counts ≡ counted self verdict) }
+    {
+        let counts = Counts {
+            all: one_more(self.all)?,
+            ..self
+        };
         match verdict {
-            Verdict::Holds => Counts {
-                held: self.held.saturating_add(1),
-                ..self
-            },
-            Verdict::Pairs { .. } | Verdict::Rows { .. } => Counts {
-                broken: self.broken.saturating_add(1),
-                ..self
-            },
-            Verdict::Unclear => Counts {
-                unclear: self.unclear.saturating_add(1),
-                ..self
-            },
+            Verdict::Holds => Ok(Counts {
+                held: one_more(counts.held)?,
+                ..counts
+            }),
+            Verdict::Pairs { .. } | Verdict::Rows { .. } => Ok(Counts {
+                broken: one_more(counts.broken)?,
+                ..counts
+            }),
+            Verdict::Unclear => Ok(Counts {
+                unclear: one_more(counts.unclear)?,
+                ..counts
+            }),
         }
     }
 }
 
-/// The text of what is found: a line for each rule, by the number of its record, and the last one.
-pub(crate) fn text_of(
-    alloc: Global,
-    records: &[u64],
-    found: &[Verdict],
-) -> Result<Vec<u8>, AllocError>
-    requires { length found.now ≡ length records.now }
-    ensures { IfOk result (λ text. text.items ≡ answers_text (zip records.now found.now)) }
-{
-    let mut text = Vec::new(alloc);
-    let mut counts = Counts::none();
-    for place in 0..records.len() {
-        let verdict = found[place];
-        push_verdict(&mut text, records[place], verdict)?;
-        counts = counts.with(verdict);
+/// The lines of the rules so far, and how many of them hold.
+#[derive(Drop)]
+pub(crate) struct Answers {
+    text: Vec<u8>,
+    counts: Counts,
+}
+
+impl Answers {
+    /// No line yet, which takes no memory.
+    pub(crate) fn none(alloc: Global) -> Answers
+        ensures { HasAnswers [] result }
+    {
+        Answers {
+            text: Vec::new(alloc),
+            counts: Counts {
+                all: 0,
+                held: 0,
+                broken: 0,
+                unclear: 0,
+            },
+        }
     }
-    push_line(
-        &mut text,
-        b"verified",
-        &[
-            records.len() as u64,
-            counts.held,
-            counts.broken,
-            counts.unclear,
-        ],
-    )?;
-    Ok(text)
+
+    // Adds what is found of a rule, by the number of its record.
+    fn push(&mut self, number: u64, verdict: Verdict) -> Result<(), AllocError>
+        ensures { OnOk result ((found : List (ℕ × VerdictSpec)) → HasAnswers found self.old → HasAnswers (found ++ (number, verdict) ∷ []) self.new) }
+    {
+        push_verdict(&mut self.text, number, verdict)?;
+        self.counts = self.counts.with(verdict)?;
+        Ok(())
+    }
+
+    /// Adds what is found of each rule, by the numbers of their records.
+    pub(crate) fn push_each(
+        &mut self,
+        numbers: &[u64],
+        verdicts: &[Verdict],
+    ) -> Result<(), AllocError>
+        requires { length verdicts.now ≡ length numbers.now }
+        ensures { OnOk result ((found : List (ℕ × VerdictSpec)) → HasAnswers found self.old → HasAnswers (found ++ zip numbers.now verdicts.now) self.new) }
+    {
+        for place in 0..numbers.len() {
+            self.push(numbers[place], verdicts[place])?;
+        }
+        Ok(())
+    }
+
+    /// The text: the lines, and the last one.
+    pub(crate) fn into_text(self) -> Result<Vec<u8>, AllocError>
+        ensures { IfOk result (λ text. (found : List (ℕ × VerdictSpec)) → HasAnswers found self → text.items ≡ answers_text found) }
+    {
+        let counts = self.counts;
+        let mut text = self.text;
+        push_line(
+            &mut text,
+            b"verified",
+            &[counts.all, counts.held, counts.broken, counts.unclear],
+        )?;
+        Ok(text)
+    }
 }

@@ -1,8 +1,11 @@
 // What one record of a text of rules says.
-ghost use Rattle.std.specs.Prelude.{◌≡◌, IfOk, Some, None};
+ghost use Rattle.std.specs.Prelude.{◌≡◌, ◌≤◌, length, take, drop, IfOk};
 ghost use Rattle.csv.specs.Records.{fields_of};
 ghost use Rattle.rel_base.specs.Cells as cells;
+ghost use Rattle.cover_cert.specs.Fields.{words_after};
 ghost use Rattle.verify_text.specs.Records as spec;
+ghost use Rattle.verify_text.specs.Records.{parts_at, side_before};
+ghost use Rattle.verify_text.specs.declared.record.Kind.TheVariants.{Key, Fd, Refers, Filled};
 
 use cover_cert::fields::{column_of, columns_of, end_of_word, number};
 use csv::ByteRecord;
@@ -24,6 +27,29 @@ pub(crate) enum Kind {
     Other,
 }
 
+impl Kind {
+    /// Whether what follows speaks of the next relation.
+    pub(crate) fn is_relation(self) -> bool
+        ensures { result ≡ spec.is_relation self }
+    {
+        match self {
+            Kind::Relation => true,
+            Kind::Key | Kind::Fd | Kind::Refers | Kind::Filled | Kind::PassedOver | Kind::Other =>
+                false,
+        }
+    }
+
+    /// Whether it says a rule, clear or not.
+    pub(crate) fn says_a_rule(self) -> bool
+        ensures { result ≡ spec.says_a_rule self }
+    {
+        match self {
+            Kind::Relation | Kind::PassedOver => false,
+            Kind::Key | Kind::Fd | Kind::Refers | Kind::Filled | Kind::Other => true,
+        }
+    }
+}
+
 // The bytes of a field, or none where there is no such field.
 fn cell(fields: &ByteRecord, place: usize) -> &[u8]
     ensures { result.now ≡ cells.cell (fields_of fields.now) place }
@@ -35,6 +61,7 @@ fn cell(fields: &ByteRecord, place: usize) -> &[u8]
 }
 
 // The kind of a record with this first field.
+#[tactic(auto, unfolding(crate::specs::Records::kind_of))]
 fn kind_by(word: &[u8]) -> Kind
     ensures { result ≡ spec.kind_of word.now }
 {
@@ -76,16 +103,22 @@ pub(crate) fn kind_of(fields: &ByteRecord) -> Kind
     kind_by(cell(fields, 0))
 }
 
-// The place, counted from 0, of what has a number from 1.
+// The place, counted from 0, of what a field names by its number from 1.
 fn place_of(field: &[u8]) -> Option<u32>
     ensures { result ≡ spec.place_named field.now }
 {
     let number = number(field)?;
-    number.checked_sub(1)
+    if number == 0 {
+        return None;
+    }
+    Some(number - 1)
 }
 
 // How many bytes stand before the first point.
-fn end_at_point(bytes: &[u8]) -> usize {
+fn end_at_point(bytes: &[u8]) -> usize
+    ensures bound { result ≤ length bytes.now }
+    ensures parts { spec.at_point bytes.now ≡ parts_at (take result bytes.now) (drop result bytes.now) }
+{
     for place in 0..bytes.len() {
         if bytes[place] == b'.' {
             return place;
@@ -95,7 +128,9 @@ fn end_at_point(bytes: &[u8]) -> usize {
 }
 
 // The relation and the column that a word names by their numbers from 1, with a point between.
-fn item_of(word: &[u8]) -> Option<ColumnOf> {
+fn item_of(word: &[u8]) -> Option<(u32, u8)>
+    ensures { result ≡ spec.item_of word.now }
+{
     let (before, rest) = word.split_at(end_at_point(word));
     if rest.is_empty() {
         return None;
@@ -103,33 +138,41 @@ fn item_of(word: &[u8]) -> Option<ColumnOf> {
     let (_, behind) = rest.split_at(1);
     let relation = place_of(before)?;
     let column = column_of(behind)?;
-    Some(ColumnOf { relation, column })
+    Some((relation, column))
 }
 
 // The columns that a field names, with a space between, if all are of one relation.
-fn side_of(alloc: Global, field: &[u8]) -> Result<Option<Side>, AllocError> {
+fn side_of(alloc: Global, field: &[u8]) -> Result<Option<Side>, AllocError>
+    ensures { IfOk result (λ side. side ≡ spec.side_of field.now) }
+{
+    let (word, behind) = field.split_at(end_of_word(field));
+    let Some((relation, column)) = item_of(word) else {
+        return Ok(None);
+    };
     let mut columns = ColumnList::empty(alloc);
-    let mut relation = None;
-    let mut rest = field;
-    'words: loop {
-        let (word, behind) = rest.split_at(end_of_word(rest));
-        let Some(item) = item_of(word) else {
+    columns.push(column)?;
+    with_words(Side { relation, columns }, behind)
+}
+
+// The columns of a side and those that stand behind it, if all are of one relation.
+fn with_words(first: Side, words: &[u8]) -> Result<Option<Side>, AllocError>
+    ensures { IfOk result (λ side. side ≡ side_before first.relation first.columns (words_after words.now)) }
+{
+    let mut side = first;
+    let mut behind = words;
+    'words: while !behind.is_empty() {
+        let (_, others) = behind.split_at(1);
+        let (word, rest) = others.split_at(end_of_word(others));
+        let Some((relation, column)) = item_of(word) else {
             return Ok(None);
         };
-        if relation.is_some_and(|other| other != item.relation) {
+        if relation != side.relation {
             return Ok(None);
         }
-        relation = Some(item.relation);
-        columns.push(item.column)?;
-        if behind.is_empty() {
-            return Ok(Some(Side {
-                relation: item.relation,
-                columns,
-            }));
-        }
-        let (_, others) = behind.split_at(1);
-        rest = others;
+        side.columns.push(column)?;
+        behind = rest;
     }
+    Ok(Some(side))
 }
 
 // A key or a dependency, where all of its parts are there.
@@ -163,7 +206,9 @@ fn fd_by(relation: Option<u32>, columns: &[u8], column: &[u8]) -> Rule
 }
 
 // A key, by how many fields there are.
-fn key_in(here: Option<u32>, fields: &ByteRecord) -> Rule {
+fn key_in(here: Option<u32>, fields: &ByteRecord) -> Rule
+    ensures { result ≡ spec.rule_by Key here (fields_of fields.now) }
+{
     match fields.len() {
         2 => key_by(here, cell(fields, 1)),
         3 => key_by(place_of(cell(fields, 1)), cell(fields, 2)),
@@ -172,7 +217,9 @@ fn key_in(here: Option<u32>, fields: &ByteRecord) -> Rule {
 }
 
 // A dependency, by how many fields there are.
-fn fd_in(here: Option<u32>, fields: &ByteRecord) -> Rule {
+fn fd_in(here: Option<u32>, fields: &ByteRecord) -> Rule
+    ensures { result ≡ spec.rule_by Fd here (fields_of fields.now) }
+{
     match fields.len() {
         3 => fd_by(here, cell(fields, 1), cell(fields, 2)),
         4 => fd_by(place_of(cell(fields, 1)), cell(fields, 2), cell(fields, 3)),
@@ -180,27 +227,53 @@ fn fd_in(here: Option<u32>, fields: &ByteRecord) -> Rule {
     }
 }
 
-fn refers_in(alloc: Global, fields: &ByteRecord) -> Result<Rule, AllocError> {
+// A reference, where both of its sides are there.
+fn refers_by(from: Option<Side>, into: Option<Side>) -> Rule
+    ensures { result ≡ spec.refers_by from into }
+{
+    match (from, into) {
+        (Some(from), Some(into)) => Rule::Refers(Reference { from, into }),
+        _ => Rule::Unclear,
+    }
+}
+
+// A reference, by how many fields there are.
+fn refers_in(alloc: Global, here: Option<u32>, fields: &ByteRecord) -> Result<Rule, AllocError>
+    ensures { IfOk result (λ rule. rule ≡ spec.rule_by Refers here (fields_of fields.now)) }
+{
     if fields.len() != 3 {
         return Ok(Rule::Unclear);
     }
-    let Some(from) = side_of(alloc, cell(fields, 1))? else {
-        return Ok(Rule::Unclear);
-    };
-    let Some(into) = side_of(alloc, cell(fields, 2))? else {
-        return Ok(Rule::Unclear);
-    };
-    Ok(Rule::Refers(Reference { from, into }))
+    let from = side_of(alloc, cell(fields, 1))?;
+    let into = side_of(alloc, cell(fields, 2))?;
+    Ok(refers_by(from, into))
 }
 
-fn filled_in(fields: &ByteRecord) -> Rule {
-    if fields.len() != 2 {
+// That a column is filled, where a side has one column.
+fn filled_by(side: Option<Side>) -> Rule
+    ensures { result ≡ spec.filled_by side }
+{
+    let Some(side) = side else {
+        return Rule::Unclear;
+    };
+    let columns = side.columns.as_slice();
+    if columns.len() != 1 {
         return Rule::Unclear;
     }
-    match item_of(cell(fields, 1)) {
-        Some(column) => Rule::Filled(column),
-        None => Rule::Unclear,
+    Rule::Filled(ColumnOf {
+        relation: side.relation,
+        column: columns[0],
+    })
+}
+
+// That a column is filled, by how many fields there are.
+fn filled_in(alloc: Global, here: Option<u32>, fields: &ByteRecord) -> Result<Rule, AllocError>
+    ensures { IfOk result (λ rule. rule ≡ spec.rule_by Filled here (fields_of fields.now)) }
+{
+    if fields.len() != 2 {
+        return Ok(Rule::Unclear);
     }
+    Ok(filled_by(side_of(alloc, cell(fields, 1))?))
 }
 
 /// What a record of this kind says. A key or a dependency that names no relation speaks of this one.
@@ -215,8 +288,8 @@ pub(crate) fn rule_by(
     match kind {
         Kind::Key => Ok(key_in(here, fields)),
         Kind::Fd => Ok(fd_in(here, fields)),
-        Kind::Refers => refers_in(alloc, fields),
-        Kind::Filled => Ok(filled_in(fields)),
+        Kind::Refers => refers_in(alloc, here, fields),
+        Kind::Filled => filled_in(alloc, here, fields),
         Kind::Relation | Kind::PassedOver | Kind::Other => Ok(Rule::Unclear),
     }
 }
