@@ -1,9 +1,11 @@
 -- Relations and columns that words name.
-use Rattle.std.proofs.Common.{inl, inr, ◌≡◌, ◌≢◌, ℕ, zero, suc, ◌+◌, ◌<◌, ◌≤◌, Bool, true, false, cond, eqb, refl, sym, ap, ◌∙◌, arith, List, [], ◌∷◌, ◌++◌, append_assoc, length, get_or, take, drop, Option, Some, None}
+use Rattle.std.proofs.Common.{inl, inr, ◌≡◌, ◌≢◌, ℕ, zero, suc, ◌+◌, ◌<◌, ◌≤◌, Bool, true, false, cond, eqb, refl, sym, ap, ap₂, ◌∙◌, arith, List, [], ◌∷◌, ◌++◌, append_assoc, length, get_or, take, drop, Option, Some, None}
 use Rattle.std.proofs.lemmas.Bool.{eq-eqb, ne_eqb, cases_eq}
 use Rattle.rel_base.specs.Cells.{Cell}
 use Rattle.rule_check.specs.declared.rule.Side.{Side}
-use Rattle.verify_text.specs.Records.{at_point, before_point, parts_at, item_of, side_in, side_before, before_side, with_side, onto_side, alone}
+use Rattle.cover_cert.specs.Fields.{column_of, words, words_after}
+use Rattle.cover_cert.proofs.Words.{after-some}
+use Rattle.verify_text.specs.Records.{at_point, before_point, parts_at, parts_of, both, place_named, item_of, side_in, side_before, before_side, with_side, onto_side, alone}
 
 -- ---- points
 abbrev pub NoPoint : Cell → ℕ → Type 0
@@ -31,6 +33,42 @@ NoPoint-more xs n x f e ne k l = elim (cases_eq k n) as (λ _. get_or xs k 0 ≢
   | inl i ↦ (λ d. ne (e ∙ ap (λ (m : ℕ). get_or xs m 0) (sym i) ∙ d))
   | inr other ↦ f k (omega arith)
 ]
+
+-- ---- items
+some≢none : {X : Type 0} (x : X) → Some x ≡ None → ⊥
+some≢none x e = cc
+
+pub item-none : (word before rest : Cell) → at_point word ≡ parts_at before rest → length rest ≡ 0 → None ≡ item_of word
+unfolding item_of
+item-none word before [] e l = sym (ap parts_of e)
+item-none word before (x ∷ xs) e l = absurd (omega arith)
+
+pub item-both : (word before rest behind : Cell) → at_point word ≡ parts_at before rest → length rest ≢ 0 → behind ≡ drop 1 rest → both (place_named before) (column_of behind) ≡ item_of word
+unfolding item_of
+item-both word before [] behind e l b = absurd (l refl)
+item-both word before (x ∷ xs) behind e l b = ap (λ (s : Cell). both (place_named before) (column_of s)) b ∙ sym (ap parts_of e)
+
+pub both-first : (a b : Option ℕ) → a ≡ None → both a b ≡ None
+both-first None b e = refl
+both-first (Some x) b e = absurd (some≢none x e)
+
+pub both-second : (a b : Option ℕ) → b ≡ None → both a b ≡ None
+both-second None b e = refl
+both-second (Some x) None e = refl
+both-second (Some x) (Some y) e = absurd (some≢none y e)
+
+pub both-some : (a b : Option ℕ) (x y : ℕ) → a ≡ Some x → b ≡ Some y → Some (x, y) ≡ both a b
+both-some a b x y e f = sym (ap₂ both e f)
+
+-- ---- words
+-- the first word of some bytes, and what is behind it
+pub parted : (rest front back : Cell) (n : ℕ) → words rest ≡ take n rest ∷ words_after (drop n rest) → front ≡ take n rest → back ≡ drop n rest → words rest ≡ front ∷ words_after back
+parted rest front back n e f b = e ∙ ap₂ (λ (w t : Cell). w ∷ words_after t) (sym f) (sym b)
+
+-- the same behind a space
+pub parted-after : (behind rest front back : Cell) (n : ℕ) → length behind ≢ 0 → rest ≡ drop 1 behind → words rest ≡ take n rest ∷ words_after (drop n rest) → front ≡ take n rest → back ≡ drop n rest
+    → words_after behind ≡ front ∷ words_after back
+parted-after behind rest front back n some r e f b = after-some behind rest some r ∙ parted rest front back n e f b
 
 -- ---- sides
 -- a first word that names nothing
@@ -98,3 +136,8 @@ module _ (r : ℕ) (cs : List ℕ) (word : Cell) (others : List Cell) where
       by : (ws : List Cell) → side_before r (cs ++ c ∷ []) ws ≡ before_side r cs (side_before r (c ∷ []) ws)
       by [] = sym (same-relation r cs (c ∷ []))
       by (w ∷ ws) = before-same r c cs (side_in (w ∷ ws))
+
+-- no further word
+pub none-behind : (side : Side) → Some side ≡ side_before side.relation side.columns []
+unfolding side_before
+none-behind side = refl

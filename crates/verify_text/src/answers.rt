@@ -124,7 +124,9 @@ impl Answers {
         ensures { OnOk result ((found : List (ℕ × VerdictSpec)) → HasAnswers found self.old → HasAnswers (found ++ (number, verdict) ∷ []) self.new) }
     {
         push_verdict(&mut self.text, number, verdict)?;
-        self.counts = self.counts.with(verdict)?;
+        let counts = self.counts;
+        let more = counts.with(verdict)?;
+        self.counts = more;
         Ok(())
     }
 

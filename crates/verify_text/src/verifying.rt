@@ -1,5 +1,5 @@
 // Which of the rules in a text hold in some files, as a text.
-ghost use Rattle.std.specs.Prelude.{◌≡◌, ◌<◌, ℕ, List, true, false, length, map, IfOk, OnOk};
+ghost use Rattle.std.specs.Prelude.{◌≡◌, ◌<◌, [], ℕ, List, true, false, length, map, IfOk, OnOk};
 ghost use Rattle.rel_base.specs.declared.nulls.Nulls.TheVariants.{Equal};
 ghost use Rattle.rel_base.specs.RowState.{opened};
 ghost use Rattle.task_base.specs.Written.{text_alone};
