@@ -23,10 +23,10 @@ fn push_line(text: &mut Vec<u8>, word: &[u8], numbers: &[u64]) -> Result<(), All
 }
 
 // Adds the line of a rule.
-fn push_verdict(text: &mut Vec<u8>, number: u64, verdict: Verdict) -> Result<(), AllocError>
-    ensures { OnOk result (text.new.items ≡ text.old.items ++ verdict_line (number, verdict)) }
+fn push_verdict(text: &mut Vec<u8>, number: u64, verdict: &Verdict) -> Result<(), AllocError>
+    ensures { OnOk result (text.new.items ≡ text.old.items ++ verdict_line (number, verdict.now)) }
 {
-    match verdict {
+    match *verdict {
         Verdict::Holds => push_line(text, b"holds", &[number]),
         Verdict::Pairs {
             removed,
@@ -72,14 +72,14 @@ struct Counts {
 
 impl Counts {
     // With one more.
-    fn with(self, verdict: Verdict) -> Result<Counts, AllocError>
-        ensures { IfOk result (λ counts. counts ≡ counted self verdict) }
+    fn with(self, verdict: &Verdict) -> Result<Counts, AllocError>
+        ensures { IfOk result (λ counts. counts ≡ counted self verdict.now) }
     {
         let counts = Counts {
             all: one_more(self.all)?,
             ..self
         };
-        match verdict {
+        match *verdict {
             Verdict::Holds => Ok(Counts {
                 held: one_more(counts.held)?,
                 ..counts
@@ -120,8 +120,8 @@ impl Answers {
     }
 
     // Adds what is found of a rule, by the number of its record.
-    fn push(&mut self, number: u64, verdict: Verdict) -> Result<(), AllocError>
-        ensures { OnOk result ((found : List (ℕ × VerdictSpec)) → HasAnswers found self.old → HasAnswers (found ++ (number, verdict) ∷ []) self.new) }
+    fn push(&mut self, number: u64, verdict: &Verdict) -> Result<(), AllocError>
+        ensures { OnOk result ((found : List (ℕ × VerdictSpec)) → HasAnswers found self.old → HasAnswers (found ++ (number, verdict.now) ∷ []) self.new) }
     {
         push_verdict(&mut self.text, number, verdict)?;
         let counts = self.counts;
@@ -140,7 +140,7 @@ impl Answers {
         ensures { OnOk result ((found : List (ℕ × VerdictSpec)) → HasAnswers found self.old → HasAnswers (found ++ zip numbers.now verdicts.now) self.new) }
     {
         for place in 0..numbers.len() {
-            self.push(numbers[place], verdicts[place])?;
+            self.push(numbers[place], &verdicts[place])?;
         }
         Ok(())
     }

@@ -113,6 +113,7 @@ pub(crate) struct Reading<'t> {
 
 impl<'t> Reading<'t> {
     /// The start of a text for so many relations. It takes no memory yet.
+    #[tactic(auto, unfolding(crate::specs::Answers::rules_in))]
     pub(crate) fn new(alloc: Global, relations: usize, text: &'t [u8]) -> Reading<'t>
         ensures { unread_rules result ≡ rules_in relations text.now }
     {

@@ -4,7 +4,7 @@ use Rattle.verify_text.specs.Answers.{rules_in}
 use Rattle.verify_text.proofs.verifying.verify_text.Given as goal
 
 abbrev pub invariant-batches : goal.invariant-batches
-invariant-batches l = AreAnswered l.relations (rules_in (length l.relations) l.rules) l.reading l.answers
+invariant-batches g l = AreAnswered l.relations (rules_in (length l.relations) l.rules) l.reading l.answers
 
 abbrev pub decreases-batches : goal.decreases-batches
-decreases-batches l = length l.reading.reader.left
+decreases-batches g l = length l.reading.reader.left
