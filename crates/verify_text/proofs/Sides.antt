@@ -5,7 +5,7 @@ use Rattle.rel_base.specs.Cells.{Cell}
 use Rattle.rule_check.specs.declared.rule.Side.{Side}
 use Rattle.cover_cert.specs.Fields.{column_of, words, words_after}
 use Rattle.cover_cert.proofs.Words.{after-some}
-use Rattle.verify_text.specs.Records.{at_point, before_point, parts_at, parts_of, both, place_named, item_of, side_in, side_before, before_side, with_side, onto_side, alone}
+use Rattle.verify_text.specs.Records.{at_point, before_point, parts_at, parts_of, both, place_named, item_of, side_in, side_before, before_side, with_side, alone}
 
 -- ---- points
 abbrev pub NoPoint : Cell → ℕ → Type 0

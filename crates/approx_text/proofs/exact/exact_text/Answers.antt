@@ -1,6 +1,5 @@
-use Rattle.std.proofs.Common.{◌≡◌, ◌∙◌, ap, map}
-use Rattle.rel_base.specs.declared.nulls.Nulls.TheVariants.{Equal}
-use Rattle.rel_base.specs.RowState.{RowState, opened}
+use Rattle.std.proofs.Common.{◌∙◌, ap, map}
+use Rattle.rel_base.specs.RowState.{RowState}
 use Rattle.approx_text.specs.Approximate.{approx_text, exact, found_text}
 use Rattle.task_base.proofs.Facts.{IfOk-map}
 use Rattle.approx_text.proofs.NoErrors.{exact-text}

@@ -1,4 +1,4 @@
-use Rattle.std.proofs.Common.{◌≡◌, ◌∙◌, ap₂, sym, length, take, drop}
+use Rattle.std.proofs.Common.{◌≡◌, ◌∙◌, ap₂, sym, length}
 use Rattle.std.proofs.lemmas.Bool.{eqb-true, eqb-false}
 use Rattle.rel_base.specs.Cells.{Cell}
 use Rattle.verify_text.specs.Records.{at_point, parts_at}

@@ -1,5 +1,5 @@
-use Rattle.std.proofs.Common.{◌≡◌, ◌∙◌, ◌∷◌, ◌++◌, [], ap, sym, ℕ, List}
-use Rattle.cover_cert.specs.Fields.{words, words_after}
+use Rattle.std.proofs.Common.{◌∙◌, ◌∷◌, ◌++◌, [], ap, sym, ℕ, List}
+use Rattle.cover_cert.specs.Fields.{words_after}
 use Rattle.verify_text.specs.Records.{side_before, side_in}
 use Rattle.verify_text.proofs.Sides.{parted, first-none, first-some}
 use Rattle.task_base.proofs.Facts.{IfOk-map}

@@ -1,4 +1,4 @@
-use Rattle.std.proofs.Common.{◌≡◌, ℕ, length}
+use Rattle.std.proofs.Common.{◌≡◌, length}
 use Rattle.cover_cert.specs.Fields.{words_after}
 use Rattle.verify_text.specs.Records.{side_before}
 use Rattle.verify_text.proofs.record.with_words.Given as goal

@@ -1,4 +1,4 @@
-use Rattle.std.proofs.Common.{ℕ, length}
+use Rattle.std.proofs.Common.{length}
 use Rattle.verify_text.specs.Answering.{AreAnswered}
 use Rattle.verify_text.specs.Answers.{rules_in}
 use Rattle.verify_text.proofs.verifying.verify_text.Given as goal

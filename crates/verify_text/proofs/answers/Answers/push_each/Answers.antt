@@ -1,4 +1,4 @@
-use Rattle.std.proofs.Common.{◌≡◌, ◌∙◌, ◌++◌, ◌∷◌, [], ℕ, List, append_assoc, ap, sym, subst, refl, arith}
+use Rattle.std.proofs.Common.{◌∙◌, ◌++◌, ℕ, List, append_assoc, ap, sym, subst, refl, arith}
 use Rattle.rule_check.specs.declared.rule.Verdict.{Verdict}
 use Rattle.verify_text.specs.Answering.{HasAnswers}
 use Rattle.verify_text.proofs.Asking.{zip-more, zip-all}

@@ -1,4 +1,4 @@
-use Rattle.std.proofs.Common.{◌≡◌, ◌+◌, ◌++◌, ◌≤◌, ℕ, length}
+use Rattle.std.proofs.Common.{◌≡◌, ◌+◌, ◌++◌, ◌≤◌, length}
 use Rattle.std.specs.List.{zip}
 use Rattle.verify_text.specs.Answering.{unread_rules}
 use Rattle.verify_text.proofs.reading.Reading.next_batch.Given as goal
