@@ -4,6 +4,7 @@ pub mod Ends
 pub mod Block
 pub mod Widening
 pub mod Trials
+pub mod Lasting
 pub mod Tabling
 pub mod Outer
 pub mod Rest

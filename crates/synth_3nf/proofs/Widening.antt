@@ -11,7 +11,7 @@ use Rattle.col_set.proofs.Places.{Contains-listed, Listed-contained}
 use Rattle.rel_base.specs.declared.dependency.Fd.{Fd}
 use Rattle.rel_base.proofs.States.{All-from, All-listed}
 use Rattle.fd_closure.specs.Closure.{closure_of, has_left_inside}
-use Rattle.fd_closure.specs.Under.{IsClosed, IsClosure, on_columns}
+use Rattle.fd_closure.specs.Under.{IsClosed, on_columns}
 use Rattle.fd_closure.proofs.Closing.{has-closure_of}
 use Rattle.fd_closure.proofs.Grouping.{inside-some}
 use Rattle.fd_closure.proofs.Walking.{columns-whole}

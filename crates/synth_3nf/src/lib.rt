@@ -3,6 +3,7 @@
 
 mod choosing;
 mod keeping;
+pub mod laws;
 mod reach;
 mod reference;
 mod referring;
