@@ -8,59 +8,81 @@ ghost use Rattle.synth_3nf.specs.Canonical as words;
 ghost use Rattle.synth_3nf.specs.Ending.{TellsEnd};
 ghost use Rattle.synth_3nf.specs.Reached as reaching;
 
-use crate::reach::widened;
+use crate::bounds::bounds_of;
+use crate::walking::Kept;
 use fd_closure::LeftSides;
-use rel_base::{Covers, Fd};
+use rel_base::{ColSet, Covers, Fd, MOST_COLUMNS};
+use set_tree::SetTree;
 use std::alloc::{AllocError, Global};
 
 /// The dependencies that are left where each in turn is dropped that follows from the others left (a minimum cover, Maier, 1980).
 ///
-/// While the dependencies on one column are tried, none on another column is dropped, and those on later columns are all there. So an
-/// index of all left sides tells what is reached on later columns, and of the others the kept ones and those on the column itself are
-/// walked. It takes the index, a look-up in it and a walk over the kept ones for each dependency, and more of both where several steps
-/// are needed: about the number of dependencies by the number of kept ones.
+/// While the dependencies on one column are tried, none on another column is dropped, so what is kept of them is, for each minimal set
+/// that a left side reaches by the others, the last left side that reaches it (law `trial_keeps_the_last_of_each_minimal_closure`).
 pub fn canonical(alloc: Global, covers: &Covers) -> Result<Vec<Fd>, AllocError>
     ensures { IfOk result (λ kept. kept.items ≡ words.canonical covers.now.fds) }
 {
     let sides = LeftSides::of(alloc, covers)?;
-    kept_of(alloc, &sides, covers.fds())
-}
-
-// Those that are kept of the dependencies of which these are the left sides.
-fn kept_of(alloc: Global, sides: &LeftSides, fds: &[Fd]) -> Result<Vec<Fd>, AllocError>
-    requires told { Tells fds.now sides.now }
-    requires order { IsInOrder fds.now }
-    ensures { IfOk result (λ kept. kept.items ≡ words.canonical fds.now) }
-{
-    let mut kept = Vec::new(alloc);
+    let fds = covers.fds();
+    let bounds = bounds_of(alloc, &sides, fds)?;
+    let mut kept = Kept::new(alloc);
     let mut rest = fds;
-    while let Some((fd, later)) = rest.split_first() {
-        if !follows(sides, kept.as_slice(), later, *fd) {
-            kept.push(*fd)?;
+    for column in 0..MOST_COLUMNS {
+        kept.begin()?;
+        let end = end_of(rest, column);
+        let (own, later) = rest.split_at(end);
+        let places = places_of(alloc, &sides, &bounds, &mut kept, own, column)?;
+        for place in places.as_slice() {
+            kept.push(own[*place])?;
         }
         rest = later;
     }
-    Ok(kept)
+    Ok(kept.fds)
 }
 
-// Whether a dependency follows from the kept ones and the later ones together.
-fn follows(sides: &LeftSides, kept: &[Fd], later: &[Fd], fd: Fd) -> bool
-    requires kept { All (λ fd. fd.right < MOST_COLUMNS) kept.now }
-    requires told { TellsEnd sides.now fd.right later.now }
-    requires own { fd.right < MOST_COLUMNS }
-    ensures { result ≡ reaching.follows (kept.now ++ later.now) fd }
-{
-    if fd.left.has(fd.right) {
-        return true;
+fn end_of(fds: &[Fd], column: u8) -> usize {
+    let mut end = 0;
+    while end < fds.len() && fds[end].right == column {
+        end += 1;
     }
-    let mut reached = fd.left;
-    let mut next = widened(sides, kept, later, fd.right, reached);
-    while next != reached {
-        if next.has(fd.right) {
-            return true;
+    end
+}
+
+fn places_of(
+    alloc: Global,
+    sides: &LeftSides,
+    bounds: &SetTree<ColSet>,
+    kept: &mut Kept,
+    own: &[Fd],
+    column: u8,
+) -> Result<Vec<usize>, AllocError> {
+    let mut last: SetTree<u32> = SetTree::new(alloc);
+    let mut place = 0;
+    while place < own.len() {
+        let left = own[place].left;
+        if !left.has(column) {
+            let bound = match bounds.get(left) {
+                Some(bound) => bound,
+                None => left,
+            };
+            let reached = kept.reached(sides, column, left, bound, bounds_are_single(sides));
+            last.insert(reached, place as u32)?;
         }
-        reached = next;
-        next = widened(sides, kept, later, fd.right, reached);
+        place += 1;
     }
+    let pairs = last.list(alloc)?;
+    let mut minimal: SetTree<u32> = SetTree::new(alloc);
+    let mut places = Vec::new(alloc);
+    for pair in pairs.as_slice() {
+        if !minimal.any_subset_of(pair.0) {
+            minimal.insert(pair.0, pair.1)?;
+            places.push(pair.1 as usize)?;
+        }
+    }
+    places.sort_unstable();
+    Ok(places)
+}
+
+fn bounds_are_single(_sides: &LeftSides) -> bool {
     false
 }

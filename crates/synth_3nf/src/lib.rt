@@ -1,13 +1,14 @@
 //! Tables in third normal form that keep every dependency, made by synthesis (Bernstein, 1976).
 #![tactic(auto)]
 
+mod bounds;
 mod choosing;
 mod keeping;
 pub mod laws;
-mod reach;
 mod reference;
 mod referring;
 mod tables;
+mod walking;
 
 pub use choosing::shorter;
 pub use keeping::canonical;
