@@ -1,9 +1,11 @@
 ghost use Rattle.std.specs.Prelude.{◌≤◌};
 
 mod below;
+mod joined;
 mod plain;
 
 use self::below::lie_below;
+use self::joined::join_to_rows;
 use plain_base::{Samples, covers, relation_of};
 use rel_base::{ColSet, Covers, Fd, MOST_COLUMNS, Nulls, Row, Table};
 use std::alloc::{AllocError, Global};
@@ -344,5 +346,57 @@ fn drawn_references(rt: HostRuntime) -> Result<(), Fail> {
         }
     }
     assert!(rt; found_some > 10);
+    Ok(())
+}
+
+// Relations whose tables join to their distinct rows.
+static JOINED: [&[&[&[u8]]]; 7] = [
+    &[
+        &[b"1", b"Berlin", b"10115"],
+        &[b"2", b"Berlin", b"10115"],
+        &[b"3", b"Potsdam", b"14467"],
+    ],
+    &[&[b"1", b"x"], &[b"2", b"x"]],
+    &[
+        &[b"0", b"0", b"0"],
+        &[b"0", b"1", b"1"],
+        &[b"1", b"0", b"1"],
+        &[b"1", b"1", b"0"],
+    ],
+    // Equal rows.
+    &[
+        &[b"1", b"x", b"7"],
+        &[b"1", b"x", b"7"],
+        &[b"2", b"y", b"7"],
+        &[b"2", b"y", b"7"],
+    ],
+    &[&[b"0", b"0"], &[b"0", b"1"], &[b"1", b"0"], &[b"0", b"1"]],
+    &[&[b"1", b"x"], &[b"1", b"x"]],
+    &[
+        &[b"1", b"p", b"u", b"8"],
+        &[b"2", b"p", b"u", b"8"],
+        &[b"3", b"q", b"v", b"8"],
+        &[b"4", b"q", b"v", b"9"],
+        &[b"4", b"q", b"v", b"9"],
+    ],
+];
+
+// By all dependencies and by those with few columns on the left.
+#[test]
+fn tables_join_to_the_distinct_rows(rt: HostRuntime) -> Result<(), Fail> {
+    let alloc = rt.alloc();
+    let names: [&[u8]; 4] = [b"a", b"b", b"c", b"d"];
+    for rows in JOINED {
+        let n = rows.first().map_or(0, |row| row.len()).min(4);
+        let covers = covers_of(alloc, &names[..n], rows)?;
+        for most in [0, 1, 128] {
+            let chosen = shorter(alloc, &covers, most)?;
+            let tables = tables_of(&rt, alloc, &chosen, n as u8)?;
+            assert!(rt;
+                join_to_rows(tables.as_slice(), rows, n as u8),
+                "{n} {most}"
+            );
+        }
+    }
     Ok(())
 }
