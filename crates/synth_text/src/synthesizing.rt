@@ -96,9 +96,11 @@ fn push_synthesized<R: Threads + Sync, G>(
     let found = push_whole_report(rt, means, lines, file, book)?;
     let tables = tables_of(means.alloc, book.rows(), &found, most)?;
     let tables = tables.as_slice();
+    // Files that are too large are refused before the keys are looked for.
+    let files = files_of(rt, means.alloc, means.workers, prefix, book.rows(), tables)?;
     let keys = keys_of(means.alloc, book, tables)?;
     push_tables(means.alloc, lines, tables, &keys)?;
-    files_of(rt, means.alloc, means.workers, prefix, book.rows(), tables)
+    Ok(files)
 }
 
 /// What `synthesize` writes for the relation of this file, by the dependencies with at most `most` columns on the left.

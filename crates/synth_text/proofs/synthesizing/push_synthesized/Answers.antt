@@ -8,7 +8,6 @@ use Rattle.table_files.specs.Keys.{all_keys, alternates}
 use Rattle.synth_text.specs.Synthesize.{tables, tables_and_references}
 use Rattle.synth_text.proofs.Chosen.{tables_below}
 use Rattle.synth_text.proofs.Written.{synthesized-files, synthesized-text}
-use Rattle.task_base.proofs.Facts.{IfOk-map, OnOk-always}
 use Rattle.synth_text.proofs.synthesizing.push_synthesized.Goals as goal
 
 pub keys_of-requires-clause-below : goal.keys_of-requires-clause-below
@@ -28,7 +27,6 @@ returns-clause-text g c =
     let r : RowState = c.args.book.now.rows in
     let ts : List Table = c.as_slice-tables.result.now in
     let are : ts ≡ tables c.args.most r = c.as_slice-tables.ensures.value ∙ c.in_ok-tables.ensures ∙ ap (tables c.args.most) c.rows.ensures.rows in
-    OnOk-always c.files_of.result
     (synthesized-text c.args.most c.args.prefix.now c.args.file.now r ts c.in_ok-keys.keys.others.items c.in_ok-keys.keys.all.items c.args.lines.now c.push_whole_report.new.lines c.push_tables.new.lines
     are c.in_ok-keys.ensures.others c.in_ok-keys.ensures.all c.in_ok-found.ensures.text c.in_ok-push_tables.ensures)
 
@@ -37,6 +35,5 @@ returns-clause-files g c =
     let r : RowState = c.args.book.now.rows in
     let ts : List Table = c.as_slice-tables.result.now in
     let are : ts ≡ tables c.args.most r = c.as_slice-tables.ensures.value ∙ c.in_ok-tables.ensures ∙ ap (tables c.args.most) c.rows.ensures.rows in
-    IfOk-map c.files_of.result
-    (λ files e. synthesized-files c.args.most c.args.prefix.now c.args.file.now r ts files.items are
-    (e ∙ ap (λ (s : RowState). map (table_file c.args.prefix.now s) (enumerate_from 1 ts)) c.rows-2.ensures.rows)) c.files_of.ensures
+    synthesized-files c.args.most c.args.prefix.now c.args.file.now r ts c.in_ok-files.files.items are
+    (c.in_ok-files.ensures ∙ ap (λ (s : RowState). map (table_file c.args.prefix.now s) (enumerate_from 1 ts)) c.rows-2.ensures.rows)
