@@ -1,21 +1,14 @@
 -- What every schedule of the threads comes to: laws of legal histories of the book.
-use Rattle.std.specs.Prelude.{◌≡◌, ℕ, None, [], ◌∷◌, ◌++◌}
+use Rattle.std.specs.Prelude.{◌≡◌, ℕ, None, List, [], ◌∷◌, ◌++◌}
 use Rattle.std.specs.List.{Contains}
 use Rattle.rel_base.specs.JobParts.{JobParts}
 use Rattle.rel_base.specs.Covers.{CoverLists, covers}
 use Rattle.negative_cover.specs.declared.negative_cover.Witness.{Witness}
-use Rattle.cover_steps.specs.declared.step.Call.{Call}
-use Rattle.cover_steps.specs.declared.step.Call.TheVariants.{Refute}
 use Rattle.cover_steps.specs.Core.{Core, first_unfinished, witness_of}
 use Rattle.cover_steps.specs.Sound.{Sound, SoundWith, Fits}
-use Rattle.cover_steps.specs.Histories.{Runs, rows_after, IsQuiet}
-use Rattle.cover_steps.specs.Laws.{JobsOfTheSameRows, RowsAreAfter, Stands}
-use Rattle.cover_core.specs.declared.answers.Refutation.TheVariants.{Booked}
-use Rattle.cover_core.specs.declared.answers.Settling.TheVariants.{Ready}
-use Rattle.desk_lock.specs.declared.history.Entry.{Entry}
+use Rattle.cover_steps.specs.Histories.{Runs, rows_after, IsQuiet, Entry as Turn}
+use Rattle.cover_steps.specs.Laws.{JobsOfTheSameRows, RowsAreAfter, Stands, booking, ready}
 use Rattle.desk_lock.specs.History.{Begins, Legal, LegalFrom}
-use Rattle.desk.specs.declared.turns.Reply.{Reply}
-use Rattle.desk.specs.declared.turns.Reply.TheVariants.{Refuted, Settled}
 use Rattle.desk.specs.Turns.{booked, allowed, turns_of, jobs_in}
 use Rattle.desk.specs.Desks.{History}
 
@@ -51,14 +44,14 @@ QuietTurnsKeepFinished = (opened x y : Core) (past quiet : History) → Sound op
 pub record WitnessesStand (opened : Core) : Type 0 where
   pub there : (x y : Core) (past more : History) (w : Witness) → Legal booked allowed opened past x → LegalFrom booked allowed opened past x more y
       → Contains x.witnesses w → Stands y.rows w → Contains y.witnesses w
-  pub booked : (y : Core) (before later : History) (e : Entry Call Reply) (i j : ℕ) → Legal booked allowed opened (before ++ e ∷ later) y
-      → e.call ≡ Refute i j → e.reply ≡ Refuted Booked tt → Stands y.rows (witness_of (rows_after opened.rows (turns_of before)) i j)
-      → Contains y.witnesses (witness_of (rows_after opened.rows (turns_of before)) i j)
+  pub booked : (y : Core) (history : History) (before later : List Turn) (i j : ℕ) → Legal booked allowed opened history y
+      → turns_of history ≡ before ++ booking i j ∷ later → Stands y.rows (witness_of (rows_after opened.rows before) i j)
+      → Contains y.witnesses (witness_of (rows_after opened.rows before) i j)
 
 abbrev pub WitnessesStay : Type 0
 WitnessesStay = (opened : Core) → Sound opened → WitnessesStand opened
 
 -- Each answer that all is settled carries the covers of the rows after the batches that were accepted before it.
 abbrev pub ReadyIsExact : Type 0
-ReadyIsExact = (opened y : Core) (before later : History) (e : Entry Call Reply) (found : CoverLists) → Sound opened
-    → Legal booked allowed opened (before ++ e ∷ later) y → e.reply ≡ Settled (Ready found) → found ≡ covers (rows_after opened.rows (turns_of before))
+ReadyIsExact = (opened y : Core) (history : History) (before later : List Turn) (found : CoverLists) → Sound opened
+    → Legal booked allowed opened history y → turns_of history ≡ before ++ ready found ∷ later → found ≡ covers (rows_after opened.rows before)

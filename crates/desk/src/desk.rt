@@ -14,10 +14,13 @@ ghost use Rattle.desk_lock.specs.History.{NoneIn, GoesOn};
 ghost use Rattle.desk_lock.specs.Views.{InHome, fresh, kept_of, given_of, united};
 ghost use Rattle.desk_lock.specs.Passes.{view};
 ghost use Rattle.desk.specs.declared.turns.Reply.TheVariants as replies;
-ghost use Rattle.desk.specs.Desks.{History, opened_book, numbers, seen, IsAt, TookTurn, WasDrawn, TellsRows, AreExact, LeadsTo, reply_of_drawing, reply_of_refuting, reply_of_settling, reply_of_applying};
+ghost use Rattle.desk.specs.declared.turns.Request.TheVariants as requests;
+ghost use Rattle.desk.specs.declared.turns.Response.TheVariants as responses;
+ghost use Rattle.desk.specs.Turns.{IsFull, HasRoom};
+ghost use Rattle.desk.specs.Desks.{History, opened_book, numbers, seen, IsAt, TookTurn, TookTurns, WasDrawn, IsBookable, AreTo, TellsRows, AreExact, LeadsTo, reply_of_drawing, reply_of_refuting, reply_of_settling, reply_of_applying};
 
 use crate::passes::{DeskPass, FeederPass, Lock, WorkerPass};
-use crate::turns::Reply;
+use crate::turns::{End, Reply, Request, Response};
 use cover_core::{Applying, Book, Draw, Marking, Refutation, Release, Settling};
 use cover_steps::Call;
 use desk_lock::NoMemory;
@@ -33,6 +36,13 @@ use std::sync::Wait;
 #[derive(Drop)]
 pub struct Desk {
     lock: Lock,
+}
+
+/// What draws in one turn answer.
+#[derive(Drop)]
+pub struct Drawing {
+    pub jobs: Vec<Job>,
+    pub end: End,
 }
 
 impl Desk {
@@ -71,6 +81,51 @@ impl Desk {
             Reply::NoMemory => Err(AllocError),
             _ => unreachable!(),
         }
+    }
+
+    /// The book's next jobs, as many as the list has room for, in one turn: draws one after another, up to the first that answers no job.
+    ///
+    /// The jobs are of one snapshot. Each may be validated, and marked or given back at any later time. It takes no memory. Where no
+    /// further owner of the snapshot can be counted, the jobs that were drawn before come back, and the draw that failed changed nothing.
+    pub fn draw_many<R: Wait, P: DeskPass>(&self, rt: &R, pass: &mut P, room: Vec<Job>) -> Drawing
+        requires own { IsAt self.now (P.seat pass.old) }
+        requires room { room.items ≡ [] }
+        ensures own { IsAt self.now (P.seat pass.new) }
+        ensures turned { TookTurns self.now (P.seat pass.old) (requests.Draws room) (responses.Drew result.jobs result.end) (P.seat pass.new) }
+        ensures full { IsFull room result.jobs result.end }
+        ensures jobs { All (WasDrawn self.now (P.seat pass.new)) result.jobs.items }
+        ensures rows { All (TellsRows self.now (P.seat pass.new)) result.jobs.items }
+        ensures drawn { (job : JobParts) → WasDrawn self.now (P.seat pass.old) job → WasDrawn self.now (P.seat pass.new) job }
+    {
+        let Response::Drew(jobs, end) = pass.turns(rt, &self.lock, Request::Draws(room)) else {
+            unreachable!()
+        };
+        Drawing { jobs, end }
+    }
+
+    /// Marks, refutations and releases, one after another in one turn: the reply to each, in order, in the list that is handed in.
+    ///
+    /// A refutation for which there was no memory changed nothing; what was asked before it and after it stands. Nothing else takes memory.
+    /// Jobs that were handed in, and what refutations put others in place of, come back with the replies, to be let go of after the turn.
+    pub fn book<R: Wait, P: DeskPass>(
+        &self,
+        rt: &R,
+        pass: &mut P,
+        calls: Vec<Call>,
+        room: Vec<Reply>,
+    ) -> Vec<Reply>
+        requires own { IsAt self.now (P.seat pass.old) }
+        requires bookable { All (IsBookable self.now (P.seat pass.old)) calls.items }
+        requires room { HasRoom calls.items room }
+        ensures own { IsAt self.now (P.seat pass.new) }
+        ensures turned { TookTurns self.now (P.seat pass.old) (requests.Many calls room) (responses.Many result) (P.seat pass.new) }
+        ensures replies { AreTo calls.items result.items }
+        ensures drawn { (job : JobParts) → WasDrawn self.now (P.seat pass.old) job → WasDrawn self.now (P.seat pass.new) job }
+    {
+        let Response::Many(replies) = pass.turns(rt, &self.lock, Request::Many(calls, room)) else {
+            unreachable!()
+        };
+        replies
     }
 
     /// Says that two different rows agree on some columns only, which refutes dependencies.

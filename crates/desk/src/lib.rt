@@ -1,7 +1,7 @@
 //! The book at a desk: any number of threads draw, refute, mark, release and settle, and one of them changes the rows.
 //!
-//! Each call is one turn at a ticket lock, one step of the shared cover, and one entry of one history, which exists in the
-//! proofs alone. A pass knows a beginning of it, in which each of its calls stands once with its reply. So what is true of
+//! Each call is one turn at a ticket lock, and one entry of one history, which exists in the proofs alone: one step of the shared
+//! cover, or as many as it has draws or bookings, one after another. A pass knows a beginning of it, in which each of its calls stands once with its reply. So what is true of
 //! every list of steps of the shared cover is true of every schedule of the threads: the book is sound between any two turns,
 //! a job that was drawn may come back at any time, and an answer that all is settled has the covers of the rows after the
 //! batches that were accepted before it.
@@ -14,6 +14,7 @@ pub mod laws;
 mod passes;
 mod turns;
 
-pub use desk::Desk;
+pub use desk::{Desk, Drawing};
 pub use desk_lock::NoMemory;
 pub use passes::{DeskPass, FeederPass, WorkerPass};
+pub use turns::{End, Reply};
