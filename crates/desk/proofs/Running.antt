@@ -1,7 +1,9 @@
 -- A legal history at the desk is a list of steps of the shared cover.
-use Rattle.std.proofs.Common.{◌≡◌, ℕ, None, List, [], ◌∷◌, ◌++◌, refl, sym, subst}
-use Rattle.std.specs.List.{Contains}
-use Rattle.std.proofs.lemmas.List.{map-append}
+use Rattle.std.proofs.Common.{◌≡◌, ℕ, None, List, [], ◌∷◌, ◌++◌, refl, sym, ap, ◌∙◌, subst, Vec}
+use Rattle.std.specs.List.{All, Contains}
+use Rattle.std.specs.declared.alloc.Global.{Global}
+use Rattle.rel_base.proofs.States.{All-from, All-listed}
+use Rattle.std.proofs.lemmas.Grind.{flat_map-append}
 use Rattle.rel_base.specs.JobParts.{JobParts}
 use Rattle.rel_base.specs.Covers.{CoverLists, covers}
 use Rattle.negative_cover.specs.declared.negative_cover.Witness.{Witness}
@@ -10,47 +12,46 @@ use Rattle.cover_steps.specs.declared.step.Call.TheVariants as calls
 use Rattle.cover_steps.specs.Core.{Core, first_unfinished, witness_of}
 use Rattle.cover_steps.specs.Sound.{Sound, Fits}
 use Rattle.cover_steps.specs.Laws.{ready, booking, Stands, JobsOfTheSameRows, RowsAreAfter, WitnessesStay}
-use Rattle.cover_steps.specs.Histories.{Runs, rows_after, IsQuiet, Entry as Turn}
+use Rattle.cover_steps.specs.Histories.{Runs, rows_after, IsQuiet, all_drawn, Entry as Turn}
 use Rattle.cover_steps.proofs.Whole.{ready-exact}
-use Rattle.cover_steps.proofs.Going.{rows_are_after, quiet_keeps, witnesses_stay}
+use Rattle.cover_steps.proofs.Going.{runs-go_on, rows_are_after, quiet_keeps, witnesses_stay}
 use Rattle.cover_steps.proofs.Same.{jobs_alike}
 use Rattle.cover_core.specs.declared.answers.Draw.{Draw}
 use Rattle.cover_core.specs.declared.answers.Draw.TheVariants as draws
 use Rattle.cover_core.specs.declared.answers.Settling.{Settling}
 use Rattle.cover_core.specs.declared.answers.Settling.TheVariants as settlings
-use Rattle.cover_core.specs.declared.answers.Refutation.TheVariants as refutations
 use Rattle.cover_core.specs.Replies.{IfJob, IfReady}
 use Rattle.desk_lock.specs.declared.history.Entry.{Entry}
 use Rattle.desk_lock.specs.History.{entry, Begins, LegalFrom, Legal}
 use Rattle.desk_lock.specs.Passes.{view, IsEnd}
-use Rattle.desk_lock.proofs.Histories.{legal-begins}
 use Rattle.desk.specs.declared.turns.Reply.{Reply}
 use Rattle.desk.specs.declared.turns.Reply.TheVariants as replies
+use Rattle.desk.specs.declared.turns.Request.{Request}
+use Rattle.desk.specs.declared.turns.Request.TheVariants.{One, Draws}
+use Rattle.desk.specs.declared.turns.Response.{Response}
+use Rattle.desk.specs.declared.turns.Response.TheVariants as responses
+use Rattle.desk.specs.declared.turns.End.{End}
 use Rattle.desk.specs.declared.desk.Desk.{Desk}
-use Rattle.desk.specs.Turns.{answer, booked, allowed, jobs_in, turn_of, turns_of, drawn_later, IsTo}
-use Rattle.desk.specs.Desks.{Place, History, opened_book, seen, TookTurn, TellsRows, AreExact, LeadsTo}
+use Rattle.desk.specs.Turns.{booked, allowed, jobs_in, turns_in, turns_of, drawn_later, Sits}
+use Rattle.desk.specs.Desks.{Place, History, opened_book, seen, TookTurn, TookTurns, WasDrawn, TellsRows, AreExact, LeadsTo}
 use Rattle.desk.specs.Laws.{IsRun, WitnessesStand}
-use Rattle.desk.proofs.Sitting.{Sits, jobs_in-snoc, may_of, sits_first, sits_on, sits, fits_at}
-use Rattle.desk.proofs.Answering.{seen_is, still_drawn, was_drawn}
+use Rattle.desk.proofs.Sitting.{jobs_in-snoc, turn_runs, sits_first, sits_on, sits, fits_at}
+use Rattle.desk.proofs.Answering.{seen_is, still_drawn, was_drawn, all_were_drawn}
 
-pub runs_from : (opened : Core) (past : History) (x : Core) (es : History) (y : Core) → Sits opened past x → LegalFrom booked allowed opened past x es y → Runs (jobs_in past) x (turns_of es) y
+pub runs_from : (opened : Core) (past : History) (x : Core) (es : History) (y : Core) → Sits opened (jobs_in past) x → LegalFrom booked allowed opened past x es y → Runs (jobs_in past) x (turns_of es) y
 runs_from opened past x [] y p l = sym l
-runs_from opened past x (e ∷ es) y p l = (
-  l.1.0,
-  may_of opened x e.number past e.call p l.0.1,
-  l.1.1.0,
-  subst (λ (jobs : List JobParts). Runs jobs l.1.0 (turns_of es) y) (jobs_in-snoc past e) (runs_from opened (past ++ e ∷ []) l.1.0 es y (sits_on opened x l.1.0 past e p l.0 l.1.1) l.1.2),
-)
+runs_from opened past x (e ∷ es) y p l =
+    let mid : Core = l.1.0 in
+    let first : Runs (jobs_in past) x (turns_in e) mid = (turn_runs opened x mid past e p l.0 l.1.1).runs in
+    let rest : Runs (jobs_in past ++ all_drawn (turns_in e)) mid (turns_of es) y =
+    subst (λ (jobs : List JobParts). Runs jobs mid (turns_of es) y) (jobs_in-snoc past e) (runs_from opened (past ++ e ∷ []) mid es y (sits_on opened x mid past e p l.0 l.1.1) l.1.2) in
+    (runs-go_on (jobs_in past) x y).both mid (turns_in e) (turns_of es) first rest
 
 pub runs : (opened : Core) → Sound opened → (past : History) (x : Core) → Legal booked allowed opened past x → Runs [] opened (turns_of past) x
 runs opened sound past x l = runs_from opened [] opened past x (sits_first opened sound) l
 
 pub turns_of-append : (es fs : History) → turns_of (es ++ fs) ≡ turns_of es ++ turns_of fs
-turns_of-append es fs = map-append turn_of es fs
-
--- a legal history in two parts is a list of steps
-runs_parts : (opened : Core) → Sound opened → (before later : History) (e : Entry Call Reply) (y : Core) → Legal booked allowed opened (before ++ e ∷ later) y → Runs [] opened (turns_of before ++ turn_of e ∷ turns_of later) y
-runs_parts opened sound before later e y l = subst (λ (ts : List Turn). Runs [] opened ts y) (turns_of-append before (e ∷ later)) (runs opened sound (before ++ e ∷ later) y l)
+turns_of-append es fs = flat_map-append turns_in es fs
 
 -- an end at the lock is one at the desk
 pub leads_to : (desk : Desk) (history : History) (book : Core) → Sound (opened_book desk) → IsEnd booked allowed desk.lock history book → LeadsTo desk history book
@@ -63,30 +64,45 @@ ends_sound desk history book sound end = (sits (opened_book desk) sound history 
 pub are_exact : (desk : Desk) (before after : Place) (settling : Settling) → Sound (opened_book desk) → TookTurn desk before calls.Settle (replies.Settled settling) after → IfReady settling (AreExact desk after)
 are_exact desk before after (settlings.Ready found) sound t =
     let o : Core = opened_book desk in
-    let e : Entry Call Reply = entry (view before).low calls.Settle (replies.Settled (settlings.Ready found)) in
+    let e : Entry Request Response = entry (view before).low (One calls.Settle) (responses.One (replies.Settled (settlings.Ready found))) in
     let past : History = seen before ++ t.0 in
-    let is = seen_is (view before) (view after) o calls.Settle (replies.Settled (settlings.Ready found)) t in
-    let l = subst (λ (h : History). Legal booked allowed o h t.1) is t.4 in
+    let is = seen_is (view before) (view after) o (One calls.Settle) (responses.One (replies.Settled (settlings.Ready found))) t in
+    let l = runs o sound (seen after) t.1 t.4 in
+    let turns : turns_of (seen after) ≡ turns_of past ++ ready found ∷ [] = ap turns_of is ∙ turns_of-append past (e ∷ []) in
     record {
       before = past;
       last = e;
       parts = is;
-      exact = ready-exact [] o t.1 (turns_of past) [] found (sits_first o sound).keeps (runs_parts o sound past [] e t.1 l);
+      exact = ready-exact [] o t.1 (turns_of past) [] found (sits_first o sound).keeps (subst (λ (ts : List Turn). Runs [] o ts t.1) turns l);
     }
 are_exact desk before after (settlings.NotYet t x number) sound h = tt
 
--- what a job tells of the rows, beside those that were drawn before
-pub tells_rows : (desk : Desk) (before after : Place) (draw : Draw) → Sound (opened_book desk) → TookTurn desk before calls.Draw (replies.Drawn draw) after → IfJob draw (TellsRows desk before)
-tells_rows desk before after (draws.Job job) sound t =
-    let o : Core = opened_book desk in
-    let tells : JobsOfTheSameRows [] o t.1 (turns_of (seen after)) = jobs_alike [] o t.1 (turns_of (seen after)) (sits_first o sound).keeps (runs o sound (seen after) t.1 t.4) in
-    let here : Contains (jobs_in (seen after)) job = (was_drawn desk before after (draws.Job job) sound t).drawn in
-    record {
-      alike = λ other drawn to count. tells.alike other job (still_drawn desk before after calls.Draw (replies.Drawn (draws.Job job)) other t drawn).drawn here to count;
-      opened = λ to count. tells.of_beginning job here to count;
-    }
-tells_rows desk before after (draws.Busy t x) sound h = tt
-tells_rows desk before after draws.Settled sound h = tt
+-- what a job tells of the rows, beside those that were drawn
+module _ (desk : Desk) (before after : Place) (sound : Sound (opened_book desk)) where
+  same_after : (request : Request) (response : Response) (t : TookTurns desk before request response after) → JobsOfTheSameRows [] (opened_book desk) t.1 (turns_of (seen after))
+  same_after request response t = jobs_alike [] (opened_book desk) t.1 (turns_of (seen after)) (sits_first (opened_book desk) sound).keeps (runs (opened_book desk) sound (seen after) t.1 t.4)
+
+  tells : (request : Request) (response : Response) (t : TookTurns desk before request response after) (job : JobParts) → WasDrawn desk after job → TellsRows desk after job
+  tells request response t job here = let same = same_after request response t in record {
+    alike = λ other drawn to count. same.alike other job drawn.drawn here.drawn to count;
+    opened = λ to count. same.of_beginning job here.drawn to count;
+  }
+
+  pub tells_rows : (draw : Draw) → TookTurn desk before calls.Draw (replies.Drawn draw) after → IfJob draw (TellsRows desk before)
+  tells_rows (draws.Job job) t =
+      let now = tells (One calls.Draw) (responses.One (replies.Drawn (draws.Job job))) t job (was_drawn desk before after (draws.Job job) sound t) in
+      record {
+        alike = λ other drawn to count. now.alike other (still_drawn desk before after (One calls.Draw) (responses.One (replies.Drawn (draws.Job job))) other t drawn) to count;
+        opened = now.opened;
+      }
+  tells_rows (draws.Busy t x) h = tt
+  tells_rows draws.Settled h = tt
+
+  pub all_tell_rows : (room jobs : Vec JobParts Global) (end : End) → TookTurns desk before (Draws room) (responses.Drew jobs end) after → All (TellsRows desk after) jobs.items
+  all_tell_rows room jobs end t =
+      let were = all_were_drawn desk before after room jobs end sound t in
+      All-from (TellsRows desk after) jobs.items
+      (λ job listed. tells (Draws room) (responses.Drew jobs end) t job (All-listed (WasDrawn desk after) job jobs.items were listed))
 
 -- ---- the laws
 pub is_run : (opened x : Core) (history : History) → Sound opened → Legal booked allowed opened history x → IsRun opened x history
@@ -115,22 +131,11 @@ witnesses_stand opened sound = record { there = there; booked = booked_stand }
         let stay : WitnessesStay (jobs_in past) x y = witnesses_stay (jobs_in past) x y p.keeps in
         stay.there (turns_of more) w (runs_from opened past x more y p m) listed stands
 
-    booked_stand : (y : Core) (before later : History) (e : Entry Call Reply) (i j : ℕ) → Legal booked allowed opened (before ++ e ∷ later) y → e.call ≡ calls.Refute i j → e.reply ≡ replies.Refuted refutations.Booked tt → Stands y.rows (witness_of (rows_after opened.rows (turns_of before)) i j) → Contains y.witnesses (witness_of (rows_after opened.rows (turns_of before)) i j)
-    booked_stand y before later e i j l called replied stands =
+    booked_stand : (y : Core) (history : History) (before later : List Turn) (i j : ℕ) → Legal booked allowed opened history y → turns_of history ≡ before ++ booking i j ∷ later → Stands y.rows (witness_of (rows_after opened.rows before) i j) → Contains y.witnesses (witness_of (rows_after opened.rows before) i j)
+    booked_stand y history before later i j l parts stands =
         let stay : WitnessesStay [] opened y = witnesses_stay [] opened y (sits_first opened sound).keeps in
-        let is : turn_of e ≡ booking i j = λ k. record { call = called k; reply = answer (replied k) } in
-        stay.booked (turns_of before) (turns_of later) i j (subst (λ (u : Turn). Runs [] opened (turns_of before ++ u ∷ turns_of later) y) is (runs_parts opened sound before later e y l)) stands
+        stay.booked before later i j (subst (λ (ts : List Turn). Runs [] opened ts y) parts (runs opened sound history y l)) stands
 
--- who is answered the covers asked for them
-settles : (call : Call) (settling : Settling) → IsTo call (replies.Settled settling) → call ≡ calls.Settle
-settles calls.Settle settling h = refl
-settles _ settling h = absurd h
-
-pub ready_exact : (opened y : Core) (before later : History) (e : Entry Call Reply) (found : CoverLists) → Sound opened → Legal booked allowed opened (before ++ e ∷ later) y → e.reply ≡ replies.Settled (settlings.Ready found) → found ≡ covers (rows_after opened.rows (turns_of before))
-ready_exact opened y before later e found sound l replied =
-    let parts = legal-begins booked allowed opened before (e ∷ later) y l in
-    let to : IsTo e.call (replies.Settled (settlings.Ready found)) = subst (IsTo e.call) replied parts.2.1.1.1 in
-    let called : e.call ≡ calls.Settle = settles e.call (settlings.Ready found) to in
-    let is : turn_of e ≡ ready found = λ k. record { call = called k; reply = answer (replied k) } in
-    ready-exact [] opened y (turns_of before) (turns_of later) found (sits_first opened sound).keeps
-    (subst (λ (u : Turn). Runs [] opened (turns_of before ++ u ∷ turns_of later) y) is (runs_parts opened sound before later e y l))
+pub ready_exact : (opened y : Core) (history : History) (before later : List Turn) (found : CoverLists) → Sound opened → Legal booked allowed opened history y → turns_of history ≡ before ++ ready found ∷ later → found ≡ covers (rows_after opened.rows before)
+ready_exact opened y history before later found sound l parts =
+    ready-exact [] opened y before later found (sits_first opened sound).keeps (subst (λ (ts : List Turn). Runs [] opened ts y) parts (runs opened sound history y l))

@@ -1,72 +1,53 @@
 -- After each legal history the book is sound, and each job fits that was drawn.
-use Rattle.std.proofs.Common.{◌≡◌, ℕ, ◌^◌, ◌<◌, List, [], ◌∷◌, ◌++◌, length, refl, sym, ap, ◌∙◌, subst}
+use Rattle.std.proofs.Common.{◌≡◌, ℕ, List, [], ◌∷◌, ◌++◌, refl, sym, ap, ◌∙◌, subst, Vec}
+use Rattle.std.specs.declared.alloc.Global.{Global}
 use Rattle.std.specs.List.{All, Contains}
 use Rattle.std.proofs.lemmas.List.{append-nil}
-use Rattle.col_set.specs.Target.{IsColumnTarget}
 use Rattle.col_set.proofs.Places.{Listed-contained}
-use Rattle.rel_base.specs.declared.batch.Op.{Op}
 use Rattle.rel_base.specs.JobParts.{JobParts}
-use Rattle.rel_base.specs.RowState.{IsRowState, width}
-use Rattle.rel_base.specs.Batches.{IsAsWide}
 use Rattle.rel_base.proofs.States.{All-from, All-listed}
 use Rattle.cover_steps.specs.declared.step.Call.{Call}
-use Rattle.cover_steps.specs.declared.step.Call.TheVariants.{Draw, Refute, Mark, Release, Apply, Settle}
-use Rattle.cover_steps.specs.declared.step.Reply.{Reply as Answer}
 use Rattle.cover_steps.specs.Core.{Core}
-use Rattle.cover_steps.specs.Steps.{Step}
 use Rattle.cover_steps.specs.Sound.{Sound, SoundWith, Fits}
-use Rattle.cover_steps.specs.Histories.{May, drawn}
-use Rattle.cover_steps.proofs.Keeping.{step_keeps}
-use Rattle.cover_steps.proofs.Going.{step_follows}
+use Rattle.cover_steps.specs.Histories.{all_drawn}
 use Rattle.desk_lock.specs.declared.history.Entry.{Entry}
 use Rattle.desk_lock.specs.History.{Legal, MayTurn}
 use Rattle.desk_lock.proofs.Histories.{legal-stays}
 use Rattle.desk.specs.declared.turns.Reply.{Reply}
-use Rattle.desk.specs.Turns.{answer, booked, jobs_in, jobs_in-append, Suits, allowed}
+use Rattle.desk.specs.declared.turns.Request.{Request}
+use Rattle.desk.specs.declared.turns.Request.TheVariants.{One, Draws, Many}
+use Rattle.desk.specs.declared.turns.Response.{Response}
+use Rattle.desk.specs.Turns.{booked, allowed, calls_in, replies_in, turns_in, jobs_in, jobs_in-append, HasRoom, Sits, MayStep, MayEach}
+use Rattle.desk.proofs.Folding.{may_of, each_runs, all_suit, Ran}
 
-pub jobs_in-snoc : (past : List (Entry Call Reply)) (e : Entry Call Reply) → jobs_in (past ++ e ∷ []) ≡ jobs_in past ++ drawn (answer e.reply)
-jobs_in-snoc past e = jobs_in-append past (e ∷ []) ∙ ap (λ (l : List JobParts). jobs_in past ++ l) (append-nil (drawn (answer e.reply)))
-
-pub step_width : (jobs : List JobParts) (s new : Core) (call : Call) (reply : Answer) → IsRowState s.rows → May jobs s.rows call → Step s call reply new → width new.rows ≡ width s.rows
-step_width jobs s new call reply is may d = ap length (step_follows jobs s new call reply is may d).names
-
--- after these turns the book is sound, the jobs fit that were drawn, and the width is that of the opened book
-pub record Sits (opened : Core) (past : List (Entry Call Reply)) (x : Core) : Type 0 where
-  pub keeps : SoundWith x (jobs_in past)
-  pub wide : width x.rows ≡ width opened.rows
-
-pub may_of : (opened x : Core) (number : ℕ) (past : List (Entry Call Reply)) (call : Call) → Sits opened past x → Suits opened number past call → May (jobs_in past) x.rows call
-may_of opened x number past Draw p m = tt
-may_of opened x number past (Refute i j) p m = m
-may_of opened x number past (Mark job) p m = m
-may_of opened x number past (Release job) p m = subst (λ (n : ℕ). IsColumnTarget n job.target × (job.left < 2 ^ n)) (sym p.wide) m
-may_of opened x number past (Apply ops) p m = subst (λ (n : ℕ). All (IsAsWide n) ops) (sym p.wide) m.1
-may_of opened x number past Settle p m = tt
+pub jobs_in-snoc : (past : List (Entry Request Response)) (e : Entry Request Response) → jobs_in (past ++ e ∷ []) ≡ jobs_in past ++ all_drawn (turns_in e)
+jobs_in-snoc past e = jobs_in-append past (e ∷ []) ∙ ap (λ l. jobs_in past ++ all_drawn l) (append-nil (turns_in e))
 
 pub sits_first : (opened : Core) → Sound opened → Sits opened [] opened
 sits_first opened sound = record { keeps = record { sound = sound; fits = All-from (Fits opened.rows) [] (λ j h. absurd h) }; wide = refl }
 
-pub sits_on : (opened x y : Core) (past : List (Entry Call Reply)) (e : Entry Call Reply) → Sits opened past x → allowed opened e.number past e.call → booked x e.call e.reply y → Sits opened (past ++ e ∷ []) y
-sits_on opened x y past e p m s = let may = may_of opened x e.number past e.call p m.1 in record {
-  keeps = subst (SoundWith y) (sym (jobs_in-snoc past e)) (step_keeps (jobs_in past) x y e.call (answer e.reply) p.keeps may s.0);
-  wide = step_width (jobs_in past) x y e.call (answer e.reply) p.keeps.sound.rows may s.0 ∙ p.wide;
-}
+-- a turn is a list of steps
+pub turn_runs : (opened x y : Core) (past : List (Entry Request Response)) (e : Entry Request Response) → Sits opened (jobs_in past) x → allowed opened e.number past e.call → booked x e.call e.reply y → Ran opened x y (jobs_in past) (calls_in e.call e.reply) (replies_in e.reply)
+turn_runs opened x y past e p m s = each_runs opened x y e.number (jobs_in past) (calls_in e.call e.reply) (replies_in e.reply) p (all_suit opened e.number (jobs_in past) e.call e.reply m.1) s.0
 
-pub sits : (opened : Core) → Sound opened → (past : List (Entry Call Reply)) (x : Core) → Legal booked allowed opened past x → Sits opened past x
-sits opened sound past x l = legal-stays booked allowed (Sits opened) opened (sits_first opened sound) (λ past x e y p m s. sits_on opened x y past e p m s) past x l
+pub sits_on : (opened x y : Core) (past : List (Entry Request Response)) (e : Entry Request Response) → Sits opened (jobs_in past) x → allowed opened e.number past e.call → booked x e.call e.reply y → Sits opened (jobs_in (past ++ e ∷ [])) y
+sits_on opened x y past e p m s = subst (λ (js : List JobParts). Sits opened js y) (sym (jobs_in-snoc past e)) (turn_runs opened x y past e p m s).sits
 
--- what a call at the desk needs of the book
-pub may_turn : (x : Core) (call : Call) → MayTurn booked allowed x call → (jobs : List JobParts) × SoundWith x jobs × May jobs x.rows call
-may_turn x call m = let p = sits m.0 m.4.0 m.2 x m.3 in (jobs_in m.2, p.keeps, may_of m.0 x m.1 m.2 call p m.4.1)
+pub sits : (opened : Core) → Sound opened → (past : List (Entry Request Response)) (x : Core) → Legal booked allowed opened past x → Sits opened (jobs_in past) x
+sits opened sound past x l = legal-stays booked allowed (λ (h : List (Entry Request Response)) (s : Core). Sits opened (jobs_in h) s) opened (sits_first opened sound) (λ past x e y p m s. sits_on opened x y past e p m s) past x l
 
 pub fits_at : (x : Core) (jobs : List JobParts) (job : JobParts) → SoundWith x jobs → Contains jobs job → Fits x.rows job
 fits_at x jobs job keeps there = All-listed (Fits x.rows) job jobs keeps.fits (Listed-contained job jobs there)
 
-pub may_mark : (x : Core) (job : JobParts) → MayTurn booked allowed x (Mark job) → Fits x.rows job
-may_mark x job m = let p = sits m.0 m.4.0 m.2 x m.3 in fits_at x (jobs_in m.2) job p.keeps m.4.1.0
+-- what a request at the desk needs of the book
+pub may_step : (x : Core) (call : Call) → MayTurn booked allowed x (One call) → MayStep x call
+may_step x call m = let p = sits m.0 m.4.0 m.2 x m.3 in (jobs_in m.2, p.keeps, may_of m.0 x m.1 (jobs_in m.2) call p m.4.1)
 
-pub may_release : (x : Core) (job : JobParts) → MayTurn booked allowed x (Release job) → IsColumnTarget (width x.rows) job.target × (job.left < 2 ^ width x.rows)
-may_release x job m = (may_turn x (Release job) m).2
+pub may_each : (x : Core) (calls : Vec Call Global) (room : Vec Reply Global) → MayTurn booked allowed x (Many calls room) → MayEach x calls.items
+may_each x calls room m = (m.0, m.1, jobs_in m.2, sits m.0 m.4.0 m.2 x m.3, m.4.1.0)
 
-pub may_apply : (x : Core) (ops : List Op) → MayTurn booked allowed x (Apply ops) → All (IsAsWide (width x.rows)) ops
-may_apply x ops m = (may_turn x (Apply ops) m).2
+pub may_book : (x : Core) (calls : Vec Call Global) (room : Vec Reply Global) → MayTurn booked allowed x (Many calls room) → HasRoom calls.items room
+may_book x calls room m = m.4.1.1
+
+pub may_draw : (x : Core) (room : Vec JobParts Global) → MayTurn booked allowed x (Draws room) → room.items ≡ []
+may_draw x room m = m.4.1

@@ -10,7 +10,7 @@ pub returns-in-Drawn-clause-job : goal.returns-in-Drawn-clause-job
 returns-in-Drawn-clause-job g c = was_drawn c.args.self.now (g.P.DeskPass.seat c.args.pass.now) (g.P.DeskPass.seat c.turn.new.self) c.in-Drawn.draw c.requires.sound c.in-Drawn.ensures.turned
 
 pub returns-in-Drawn-clause-rows : goal.returns-in-Drawn-clause-rows
-returns-in-Drawn-clause-rows g c = tells_rows c.args.self.now (g.P.DeskPass.seat c.args.pass.now) (g.P.DeskPass.seat c.turn.new.self) c.in-Drawn.draw c.requires.sound c.in-Drawn.ensures.turned
+returns-in-Drawn-clause-rows g c = tells_rows c.args.self.now (g.P.DeskPass.seat c.args.pass.now) (g.P.DeskPass.seat c.turn.new.self) c.requires.sound c.in-Drawn.draw c.in-Drawn.ensures.turned
 
 pub returns-in-Drawn-clause-drawn : goal.returns-in-Drawn-clause-drawn
 returns-in-Drawn-clause-drawn g c = λ job d. still_drawn _ _ _ _ _ job c.turn.ensures.turned d
