@@ -1,5 +1,5 @@
 -- Calls one after another are steps of the shared cover one after another.
-use Rattle.std.proofs.Common.{◌≡◌, ℕ, ◌^◌, ◌<◌, List, [], ◌∷◌, ◌++◌, length, refl, sym, ap, ◌∙◌, subst, append_assoc}
+use Rattle.std.proofs.Common.{◌≡◌, ℕ, ◌^◌, ◌<◌, List, [], ◌∷◌, ◌++◌, map, length, refl, sym, ap, ◌∙◌, subst, append_assoc}
 use Rattle.std.specs.List.{All, Contains}
 use Rattle.std.proofs.lemmas.List.{append-nil}
 use Rattle.std.proofs.lemmas.List.Elements.{All-nil, All-cons, All-head, All-tail}
@@ -16,11 +16,14 @@ use Rattle.cover_steps.specs.Histories.{May, Runs, drawn, all_drawn}
 use Rattle.cover_steps.proofs.Keeping.{step_keeps}
 use Rattle.cover_steps.proofs.Going.{step_follows}
 use Rattle.rel_base.specs.declared.batch.Op.{Op}
+use Rattle.cover_core.specs.declared.answers.Draw.TheVariants as draws
 use Rattle.desk.specs.declared.turns.Reply.{Reply}
+use Rattle.desk.specs.declared.turns.Reply.TheVariants.{Drawn}
+use Rattle.desk.specs.declared.turns.End.TheVariants as ends
 use Rattle.desk.specs.declared.turns.Request.{Request}
 use Rattle.desk.specs.declared.turns.Request.TheVariants.{One, Draws, Many}
 use Rattle.desk.specs.declared.turns.Response.{Response}
-use Rattle.desk.specs.Turns.{answer, one, Each, Sits, Suits, IsSuited, calls_in, replies_in, draw_calls, turns_with, all_suit_later, IsTo}
+use Rattle.desk.specs.Turns.{answer, one, Each, AnswersDraws, draw_replies, Sits, Suits, IsSuited, calls_in, replies_in, draw_calls, turns_with, all_suit_later, IsTo}
 use Rattle.desk.specs.Desks.{AreTo}
 
 -- ---- calls and replies
@@ -30,6 +33,19 @@ each-snoc s mid new [] [] call reply e d = (new, subst (λ (m : Core). one m cal
 each-snoc s mid new [] (r ∷ replies) call reply e d = absurd e
 each-snoc s mid new (c ∷ calls) [] call reply e d = absurd e
 each-snoc s mid new (c ∷ calls) (r ∷ replies) call reply e d = (e.0, e.1, each-snoc e.0 mid new calls replies call reply e.2 d)
+
+-- draws go on from the jobs that were drawn before
+pub draws_more : (s mid new : Core) (jobs : List JobParts) (last : List Reply) → AnswersDraws s jobs ends.Full mid → Each mid (draw_calls last) last new → Each s (draw_calls (map (λ job. Drawn (draws.Job job)) jobs ++ last)) (map (λ job. Drawn (draws.Job job)) jobs ++ last) new
+draws_more s mid new [] last e d = subst (λ (m : Core). Each m (draw_calls last) last new) e d
+draws_more s mid new (j ∷ jobs) last e d = (e.0, e.1, draws_more e.0 mid new jobs last e.2 d)
+
+replies-snoc : (jobs : List JobParts) (job : JobParts) → map (λ job. Drawn (draws.Job job)) jobs ++ Drawn (draws.Job job) ∷ [] ≡ draw_replies (jobs ++ job ∷ []) ends.Full
+replies-snoc [] job = refl
+replies-snoc (j ∷ jobs) job = ap (λ (l : List Reply). Drawn (draws.Job j) ∷ l) (replies-snoc jobs job)
+
+-- one more job
+pub one_more_job : (s mid new : Core) (jobs : List JobParts) (job : JobParts) → AnswersDraws s jobs ends.Full mid → one mid Draw (Drawn (draws.Job job)) new → AnswersDraws s (jobs ++ job ∷ []) ends.Full new
+one_more_job s mid new jobs job e d = subst (λ (l : List Reply). Each s (draw_calls l) l new) (replies-snoc jobs job) (draws_more s mid new jobs (Drawn (draws.Job job) ∷ []) e (new, d, refl))
 
 -- each reply is one to its call
 pub each-to : (s new : Core) (calls : List Call) (replies : List Reply) → Each s calls replies new → AreTo calls replies
