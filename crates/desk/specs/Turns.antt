@@ -177,7 +177,8 @@ pub drawn_later : (past more : List (Entry Request Response)) (job : JobParts) �
 drawn_later past more job h =
     subst (λ (jobs : List JobParts). Contains jobs job) (sym (jobs_in-append past more)) (Contains-append_left (jobs_in past) (jobs_in more) job h)
 
-pub suits_later : (opened : Core) (number : ℕ) (jobs more : List JobParts) (call : Call) → Suits opened number jobs call → Suits opened number (jobs ++ more) call
+pub suits_later : (opened : Core) (number : ℕ) (jobs more : List JobParts) (call : Call) → Suits opened number jobs call
+    → Suits opened number (jobs ++ more) call
 suits_later opened number jobs more Draw h = tt
 suits_later opened number jobs more (Refute i j) h = h
 suits_later opened number jobs more (Mark job) h = (Contains-append_left jobs more job h.0, h.1)
